@@ -3,8 +3,8 @@ use Rattle.std.specs.Prelude.{MatchOption}
 use Rattle.std.proofs.Common.{◌≡◌, ℕ, List, Option, Err, refl, subst, sym}
 use Rattle.sv_policy.specs.Explanation as explained
 use Rattle.sv_policy.specs.Fault.{explain_fault}
-use Rattle.sv_policy.specs.declared.fault.ExplainFault.{ExplainFault}
-use Rattle.sv_policy.specs.declared.fault.ExplainFault.TheVariants as explain
+use Rattle.sv_policy.specs.declared.explain_fault.ExplainFault.{ExplainFault}
+use Rattle.sv_policy.specs.declared.explain_fault.ExplainFault.TheVariants as explain
 use Rattle.sv_program.specs.CommandFault.{command_fault}
 use Rattle.sv_program.specs.declared.command_fault.CommandFault.{CommandFault}
 use Rattle.sv_program.specs.declared.command_fault.CommandFault.TheVariants as fault

@@ -13,8 +13,8 @@ use Rattle.sv_deployments.specs.Folders.{FolderGiving}
 use Rattle.sv_deployments.specs.declared.configuration.Configuration.{Configuration}
 use Rattle.sv_policy.specs.Explanation as explained
 use Rattle.sv_policy.specs.Text.{explanation_text}
-use Rattle.sv_policy.specs.declared.fault.ExplainFault.{ExplainFault}
-use Rattle.sv_policy.specs.declared.fault.ExplainFault.TheVariants as explain
+use Rattle.sv_policy.specs.declared.explain_fault.ExplainFault.{ExplainFault}
+use Rattle.sv_policy.specs.declared.explain_fault.ExplainFault.TheVariants as explain
 use Rattle.sv.specs.declared.question.Question.{Question}
 use Rattle.sv_program.specs.CommandFault.{UnlessNoMemory}
 use Rattle.sv_program.specs.Configuration.{Step}

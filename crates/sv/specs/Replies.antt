@@ -4,7 +4,7 @@ use Rattle.std.specs.Fmt.{decimal}
 use Rattle.sv_context.specs.State.{ContextState}
 use Rattle.sv_policy.specs.Explanation.{Answer}
 use Rattle.sv_policy.specs.Text.{explanation_text}
-use Rattle.sv_policy.specs.declared.fault.ExplainFault.TheVariants.{BadMethod, NoMemory, NoSuchUser}
+use Rattle.sv_policy.specs.declared.explain_fault.ExplainFault.TheVariants.{BadMethod, NoMemory, NoSuchUser}
 use Rattle.sv_policy.specs.Gaps.{gaps}
 use Rattle.sv_program.specs.Uncovered.{gap_line}
 use Rattle.sv_uri.specs.ContextPath.{shown_context}

@@ -1,6 +1,6 @@
 -- The arguments of the command `serve`.
 use Rattle.std.specs.Prelude.{ℕ, List, [], ◌∷◌}
-use Rattle.sv.specs.declared.counted.Count.{Count}
+use Rattle.sv.specs.declared.count.Count.{Count}
 use Rattle.sv.specs.declared.service.Service.{Service}
 
 abbrev pub count_words : Count → List (List ℕ)

@@ -12,7 +12,7 @@ ghost use Rattle.sv_run.specs.Host.{StepsSo};
 ghost use Rattle.sv_run.specs.Connections.{awaited_in};
 ghost use Rattle.sv_text.specs.Gives.{GivesAnswer};
 
-use crate::standing::{standing_of, uncovered_of};
+use crate::gaps::{standing_of, uncovered_of};
 use std::alloc::Global;
 use sv_component::{Filter, Listener, Servlet};
 use sv_connection::Queries;

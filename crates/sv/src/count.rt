@@ -1,9 +1,12 @@
 //! Numbers in the arguments.
 
-ghost use Rattle.std.specs.Prelude.{◌≡◌, ℕ, true, IfSome, IsSome};
 ghost use Rattle.std.specs.Char.{is_ascii_digit};
 ghost use Rattle.std.specs.List.{list_all};
-ghost use Rattle.sv.specs.Values.{IsCount, IsNumber};
+ghost use Rattle.std.specs.Prelude.{IfSome, IsSome, Some, true, ℕ, ◌≡◌};
+ghost use Rattle.sv.specs.Values.{IsAddress, IsCount, IsName, IsNumber, Takes};
+ghost use Rattle.sv_script.specs.Fields.{number};
+
+use std::net::SocketAddr;
 
 /// Returns the number that decimal digits write, if it is from 1 to the limit.
 pub(crate) fn count_in(text: &str, limit: u32) -> Option<u32>
@@ -34,4 +37,60 @@ fn number_in(text: &str) -> Option<u32>
     ensures { IsNumber text.now result }
 {
     text.parse::<u32>().ok()
+}
+
+/// A text of decimal digits, and its number.
+#[derive(Clone, Copy)]
+pub struct Count<'a> {
+    pub(crate) text: &'a str,
+    pub(crate) value: u64,
+    ghost counts: { number text.now ≡ Some value },
+}
+
+impl Count<'_> {
+    /// Returns the number.
+    pub fn value(&self) -> u64
+        ensures { result ≡ self.now.value }
+    {
+        self.value
+    }
+}
+
+/// Returns the name that the word gives.
+pub(crate) fn name_once<'a>(before: Option<&'a str>, word: &'a str) -> Option<&'a str>
+    ensures { Takes IsName before.entry word.now result }
+{
+    match before {
+        Some(_) => None,
+        None => Some(word),
+    }
+}
+
+/// Returns the address with its port that the word writes.
+pub(crate) fn address_once(before: Option<SocketAddr>, word: &str) -> Option<SocketAddr>
+    ensures { Takes IsAddress before word.now result }
+{
+    match before {
+        Some(_) => None,
+        None => address_in(word),
+    }
+}
+
+fn address_in(word: &str) -> Option<SocketAddr>
+    ensures { Takes IsAddress None word.now result }
+{
+    match word.parse::<SocketAddr>() {
+        Ok(address) => Some(address),
+        Err(_) => None,
+    }
+}
+
+/// Returns the number from 1 to the limit that the word writes.
+pub(crate) fn count_once(before: Option<u32>, word: &str, limit: u32) -> Option<u32>
+    ensures { Takes (IsCount limit) before word.now result }
+{
+    match before {
+        Some(_) => None,
+        None => count_in(word, limit),
+    }
 }

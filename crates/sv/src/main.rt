@@ -4,11 +4,10 @@
 mod asked_container;
 mod command;
 mod count;
-mod counted;
 mod ended;
 mod execution;
+mod gaps;
 mod key;
-mod laws;
 mod policy_command;
 mod program_fault;
 mod question;
@@ -20,8 +19,6 @@ mod serve_command;
 mod server_start;
 mod service;
 mod site;
-mod standing;
-mod taking;
 mod texts;
 
 use crate::command::Command;

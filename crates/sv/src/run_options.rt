@@ -1,7 +1,9 @@
 //! The arguments of the command `run`.
 
+ghost use Rattle.sv.specs.Laws.{AskForOne};
+
+use crate::count::{address_once, count_once, name_once};
 use crate::key::Key;
-use crate::taking::{address_once, count_once, name_once};
 use std::net::SocketAddr;
 
 /// Maximum value of `--connections`.
@@ -160,3 +162,8 @@ impl<'a> RunOptions<'a> {
         }
     }
 }
+
+/// Arguments have only one meaning.
+pub fn arguments_ask_for_one_thing()
+    ensures { AskForOne }
+{}

@@ -7,8 +7,7 @@ ghost use Rattle.sv.specs.Service.{count_words, service_words};
 ghost use Rattle.sv_program.specs.Arguments.{Names};
 ghost use Rattle.sv_script.specs.Fields.{number};
 
-use crate::count::has_digits_alone;
-use crate::counted::Count;
+use crate::count::{Count, has_digits_alone};
 
 /// A server, and the number of connections that it serves.
 #[derive(Clone, Copy)]

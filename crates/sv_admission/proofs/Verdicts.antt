@@ -3,7 +3,7 @@ use Rattle.std.proofs.Common.{◌≡◌, Bool, true, false, refl, Option, None, 
 use Rattle.std.specs.Prelude.{is_some}
 use Rattle.std.specs.Option.{option_map}
 use Rattle.sv_constraints.specs.declared.owned_decision.OwnedDecision.{OwnedDecision}
-use Rattle.sv_login.specs.declared.login_outcome.LoginOutcome.{LoginOutcome}
+use Rattle.sv_login.specs.declared.step.LoginOutcome.{LoginOutcome}
 use Rattle.sv_login.specs.Outcome.{login_outcome, outcome, verdict_outcome}
 
 -- The verdict decides a message that is no login post.

@@ -4,7 +4,7 @@ use Rattle.std.specs.Prelude.{List}
 use Rattle.sv_login.specs.declared.outcome.Outcome.{Outcome}
 use Rattle.sv_login.specs.OutcomeEntry.{outcome_entry}
 use Rattle.sv_policy.specs.Compiled.{Standing}
-use Rattle.sv_realm.specs.declared.user.User.{User}
+use Rattle.sv_realm.specs.declared.account.User.{User}
 use Rattle.sv_session.specs.Store.{Store}
 use Rattle.sv_tree.specs.SiteOfDescriptor.{Content}
 use Rattle.sv_admission.specs.Answer.{answer_to}

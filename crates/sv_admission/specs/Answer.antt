@@ -12,7 +12,7 @@ use Rattle.sv_uri.specs.LocationField.{location}
 use Rattle.sv_uri.specs.declared.path.Canon.{Canon}
 use Rattle.sv_admission.specs.declared.answer.Answer.{Answer}
 use Rattle.sv_admission.specs.declared.answer.Answer.TheVariants as answers
-use Rattle.sv_admission.specs.declared.limits.TheConstants.{FORBIDDEN}
+use Rattle.sv_admission.specs.declared.answer.TheConstants.{FORBIDDEN}
 
 -- The path and the query of a page of form login. In a well-formed descriptor, each of these pages has a canonical
 -- path.

@@ -4,7 +4,7 @@ use Rattle.sv_login.specs.Held.{held}
 use Rattle.sv_descriptor.specs.declared.web_app.WebApp.{WebApp}
 use Rattle.sv_realm.specs.Realm.{caller_at}
 use Rattle.sv_realm.specs.declared.caller.Caller.{Caller}
-use Rattle.sv_realm.specs.declared.user.User.{User}
+use Rattle.sv_realm.specs.declared.account.User.{User}
 use Rattle.sv_session.specs.Calls.{caller_of, touched}
 use Rattle.sv_session.specs.Store.{Store}
 use Rattle.sv_admission.specs.Asked.{Asked}

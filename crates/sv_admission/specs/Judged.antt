@@ -8,11 +8,11 @@ use Rattle.sv_message.specs.Fields.{is_named}
 use Rattle.sv_message.specs.declared.field.Field.{Field}
 use Rattle.sv_login.specs.Login.{login}
 use Rattle.sv_login.specs.Post.{Post, post_of}
-use Rattle.sv_login.specs.declared.login_outcome.LoginOutcome.{LoginOutcome}
+use Rattle.sv_login.specs.declared.step.LoginOutcome.{LoginOutcome}
 use Rattle.sv_login.specs.Outcome.{Findings, outcome}
 use Rattle.sv_login.specs.declared.outcome.Outcome.{Outcome}
 use Rattle.sv_policy.specs.Compiled.{Standing}
-use Rattle.sv_realm.specs.declared.user.User.{User}
+use Rattle.sv_realm.specs.declared.account.User.{User}
 use Rattle.sv_session.specs.Store.{Store}
 use Rattle.sv_admission.specs.Asked.{Asked}
 use Rattle.sv_admission.specs.Held.{caller_held}

@@ -10,7 +10,7 @@ use Rattle.sv_journal.specs.declared.entry.Entry.TheVariants as entries
 use Rattle.sv_login.specs.OutcomeLaws.{IsOrdinary}
 use Rattle.sv_login.specs.Outcome.{Findings}
 use Rattle.sv_policy.specs.Compiled.{Standing}
-use Rattle.sv_realm.specs.declared.user.User.{User}
+use Rattle.sv_realm.specs.declared.account.User.{User}
 use Rattle.sv_session.specs.Expiry.{HasNoneExpired}
 use Rattle.sv_session.specs.Store.{Store}
 use Rattle.sv_tree.specs.SiteOfDescriptor.{Content}

@@ -2,12 +2,12 @@
 -- 13.6.3).
 use Rattle.std.specs.Prelude.{ℕ, ◌+◌, Bool, true, false, List, Option, None, Some, codes, bytes_eq, if◌then◌else◌}
 use Rattle.std.specs.Option.{option_map}
-use Rattle.sv_exchange.specs.declared.held_session.HeldSession.{HeldSession}
+use Rattle.sv_exchange.specs.declared.holding.HeldSession.{HeldSession}
 use Rattle.sv_session.specs.declared.event.Event.{Event}
 use Rattle.sv_session.specs.declared.event.Event.TheVariants.{SessionCreated, SessionIdChanged}
 use Rattle.sv_login.specs.declared.outcome.Outcome.{Outcome}
 use Rattle.sv_login.specs.declared.outcome.Outcome.TheVariants.{Protected, LoggedIn, LoginFailed, NoSession, Entered, SentToLogin, NoLogin, Denied}
-use Rattle.sv_realm.specs.declared.user.User.{User}
+use Rattle.sv_realm.specs.declared.account.User.{User}
 use Rattle.sv_session.specs.Calls.{opened, opening_faults, with_saved}
 use Rattle.sv_session.specs.Runs.{unless}
 use Rattle.sv_session.specs.Store.{Store}

@@ -1,12 +1,11 @@
 //! The answer to a message, and its journal entry.
 
-ghost use Rattle.std.specs.Prelude.{◌≡◌, None, unwrap_or};
 ghost use Rattle.std.specs.Option.{option_copied, option_map};
-ghost use Rattle.sv_text.specs.Gives.{GivesAnswer};
-ghost use Rattle.sv_login.specs.OutcomeEntry.{outcome_entry};
+ghost use Rattle.std.specs.Prelude.{None, unwrap_or, ◌≡◌};
 ghost use Rattle.sv_admission.specs.Answer.{answer_to, error_with, page_at, root_of};
+ghost use Rattle.sv_login.specs.OutcomeEntry.{outcome_entry};
+ghost use Rattle.sv_text.specs.Gives.{GivesAnswer};
 
-use crate::limits::FORBIDDEN;
 use std::alloc::Global;
 use sv_descriptor::FormLogin;
 use sv_journal::{Entry, RefusalCause};
@@ -156,3 +155,9 @@ fn root(alloc: Global) -> Result<Canon, NoMemory>
     let path = Text::copy_of(alloc, "/")?;
     Ok(Canon { path, query: None })
 }
+
+/// The client is redirected, and fetches the location by GET (RFC 9110, section 15.4.4).
+pub const SEE_OTHER: u16 = 303;
+
+/// The message is denied (RFC 9110, section 15.5.4).
+pub const FORBIDDEN: u16 = 403;

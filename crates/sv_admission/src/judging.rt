@@ -10,7 +10,7 @@ ghost use Rattle.sv_admission.specs.Asked.{asked_in};
 ghost use Rattle.sv_admission.specs.Held.{caller_held};
 ghost use Rattle.sv_admission.specs.Judged.{content_type, left_by_login, outcome_of, post_in};
 
-use crate::request::Request;
+use crate::admission::Request;
 use std::alloc::Global;
 use sv_constraints::OwnedDecision;
 use sv_descriptor::WebApp;

@@ -3,7 +3,7 @@
 ghost use Rattle.std.specs.Prelude.{◌≡◌};
 ghost use Rattle.sv_admission.specs.Laws.{EntersExactlyByAnOpenVerdict, LeavesNoneExpired};
 
-use crate::limits::{FORBIDDEN, SEE_OTHER};
+use crate::answer::{FORBIDDEN, SEE_OTHER};
 use sv_login::a_message_enters_exactly_by_an_open_verdict;
 use sv_session::no_call_leaves_an_expired_session;
 

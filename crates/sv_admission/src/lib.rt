@@ -6,15 +6,11 @@ mod admission;
 mod answer;
 mod judging;
 mod laws;
-mod limits;
-mod request;
 mod settling;
 
-pub use admission::{Admission, admit};
-pub use answer::Answer;
+pub use admission::{Admission, Request, admit};
+pub use answer::{Answer, FORBIDDEN, SEE_OTHER};
 pub use laws::{
     an_entry_says_entered_exactly_by_an_open_verdict, limits_are_as_stated,
     no_admission_leaves_an_expired_session,
 };
-pub use limits::{FORBIDDEN, SEE_OTHER};
-pub use request::Request;

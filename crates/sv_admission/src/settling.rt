@@ -8,8 +8,8 @@ ghost use Rattle.sv_admission.specs.Asked.{asked_in};
 ghost use Rattle.sv_admission.specs.Seen.{seen};
 ghost use Rattle.sv_admission.specs.Settled as spec;
 
+use crate::admission::Request;
 use crate::judging::caller_held;
-use crate::request::Request;
 use std::alloc::Global;
 use sv_exchange::HeldSession;
 use sv_login::Outcome;

@@ -1,11 +1,11 @@
 //! The chain of filters of a dispatch.
 
-ghost use Rattle.std.specs.Prelude.{◌≡◌, ◌++◌, ◌<◌, length, IfOk, OnOk};
 ghost use Rattle.std.specs.List.{All};
 ghost use Rattle.std.specs.Option.{option_to_list};
+ghost use Rattle.std.specs.Prelude.{IfOk, OnOk, length, ◌++◌, ◌<◌, ◌≡◌};
 ghost use Rattle.sv_chain.specs.FilterChain as spec;
+ghost use Rattle.sv_chain.specs.FilterChain.{without_doubles};
 
-use crate::doubles::without_doubles;
 use crate::mapping::{maps_path, maps_servlet};
 use std::alloc::Global;
 use sv_descriptor::{Descriptor, FilterEntry, FilterMapping, Kind};
@@ -88,4 +88,17 @@ fn filter_place(filters: &[FilterEntry], name: &str) -> Option<usize>
     filters
         .iter()
         .position(|entry| entry.filter_name.as_str() == name)
+}
+
+/// Returns the distinct indices, in the order of their first occurrences.
+pub(crate) fn without_doubles(alloc: Global, places: &[usize]) -> Result<Vec<usize>, NoMemory>
+    ensures { IfOk result (λ chain. chain.items ≡ without_doubles places.now) }
+{
+    let mut chain = Vec::with_capacity(alloc, places.len())?;
+    for place in places {
+        if !chain.as_slice().contains(place) {
+            chain.push(*place)?;
+        }
+    }
+    Ok(chain)
 }

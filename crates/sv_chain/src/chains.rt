@@ -5,14 +5,13 @@ ghost use Rattle.std.specs.List.{All};
 ghost use Rattle.std.specs.Str.{bytes_eq};
 ghost use Rattle.sv_chain.specs.FilterChain.{filter_chain, is_same_kind};
 ghost use Rattle.sv_chain.specs.Kept.{IsKeptOf, IsKeptOrThis, count, found};
-ghost use Rattle.sv_chain.specs.declared.limits.TheConstants.{MAX_KEPT_BYTES, MAX_KEPT_CHAINS};
+ghost use Rattle.sv_chain.specs.declared.kept.TheConstants.{MAX_KEPT_BYTES, MAX_KEPT_CHAINS};
 ghost use Rattle.sv_mapping.specs.declared.kind.Kind.{Kind};
 ghost use Rattle.sv_text.specs.Gives.{GivesAnswer};
 
 use crate::chain::chain_plain;
 use crate::compiled::Compiled;
-use crate::kept::KeptChains;
-use crate::limits::{MAX_KEPT_BYTES, MAX_KEPT_CHAINS};
+use crate::kept::{KeptChains, MAX_KEPT_BYTES, MAX_KEPT_CHAINS};
 use crate::shared::Chain;
 use std::alloc::Global;
 use std::marker::Model;

@@ -1,9 +1,9 @@
 //! The cached chains of all kinds of dispatches.
 
-ghost use Rattle.std.specs.Prelude.{◌≡◌, ◌≤◌, ◌+◌, ℕ, List, None, OnErr, OnOk};
 ghost use Rattle.std.specs.Option.{option_copied};
+ghost use Rattle.std.specs.Prelude.{List, None, OnErr, OnOk, ℕ, ◌+◌, ◌≡◌, ◌≤◌};
 ghost use Rattle.sv_chain.specs.Kept.{count, found, found_after};
-ghost use Rattle.sv_chain.specs.declared.limits.TheConstants.{MAX_KEPT_CHAINS};
+ghost use Rattle.sv_chain.specs.declared.kept.TheConstants.{MAX_KEPT_CHAINS};
 ghost use Rattle.sv_mapping.specs.declared.kind.Kind.{Kind};
 
 use crate::by_path::ByPath;
@@ -92,3 +92,9 @@ impl KeptChains {
         }
     }
 }
+
+/// Maximum number of cached chains. When the cache is full, all are dropped before the next one is added.
+pub const MAX_KEPT_CHAINS: usize = 1_024;
+
+/// Maximum number of bytes of a path and the name of its servlet, together, for their chain to be cached.
+pub const MAX_KEPT_BYTES: usize = 1_024;

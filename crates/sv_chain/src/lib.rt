@@ -5,14 +5,12 @@ mod by_path;
 mod chain;
 mod chains;
 mod compiled;
-mod doubles;
 mod kept;
 pub mod laws;
-mod limits;
 mod mapping;
 mod shared;
 
 pub use chain::chain_plain;
 pub use chains::Chains;
-pub use limits::{MAX_KEPT_BYTES, MAX_KEPT_CHAINS};
+pub use kept::{MAX_KEPT_BYTES, MAX_KEPT_CHAINS};
 pub use shared::Chain;

@@ -12,7 +12,7 @@ use Rattle.sv_component.specs.Motion.{Moved, MovedAt, calls_at, filter_calls, li
 use Rattle.sv_component.specs.Noted.{filter_entry, servlet_entry}
 use Rattle.sv_component.specs.Runs.{IsRun, Moves, MovesAt, NamedStep, OfFilter, OfListener, OfServlet, Record, record_entry}
 use Rattle.sv_component.specs.World.{World, name_at}
-use Rattle.sv_component.specs.declared.named.Named.{Named}
+use Rattle.sv_component.specs.declared.components.Named.{Named}
 use Rattle.sv_component.specs.Steps.{ComponentSteps}
 use Rattle.sv_journal.specs.Entry.{heard}
 

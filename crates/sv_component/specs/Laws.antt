@@ -4,7 +4,7 @@ use Rattle.sv_component.specs.Call.{Call}
 use Rattle.sv_component.specs.Motion.{Moved, MovedAt, calls_at, filter_calls, listener_calls, servlet_calls}
 use Rattle.sv_component.specs.Runs.{IsRun, Record, Runs, SameCounts, record_entry}
 use Rattle.sv_component.specs.World.{World}
-use Rattle.sv_component.specs.declared.named.Named.{Named}
+use Rattle.sv_component.specs.declared.components.Named.{Named}
 use Rattle.sv_component.specs.Steps.{ComponentSteps}
 use Rattle.sv_journal.specs.Journal.{Gains}
 

@@ -1,7 +1,7 @@
 -- The components of a context with their journal.
 use Rattle.std.specs.Prelude.{ℕ, List, [], unwrap_or, slice_get}
 use Rattle.std.specs.Option.{option_map}
-use Rattle.sv_component.specs.declared.named.Named.{Named}
+use Rattle.sv_component.specs.declared.components.Named.{Named}
 use Rattle.sv_journal.specs.Journal.{JournalState}
 
 pub record World (S F L : Type 0) : Type 0 where

@@ -5,7 +5,7 @@ use crate::config::Config;
 use std::alloc::Global;
 use sv_exchange::Exchange;
 use sv_session::Event;
-use sv_text::NoMemory;
+use sv_text::{NoMemory, Text};
 
 /// A servlet (Jakarta Servlet 6.0, chapter 2). If its author states no step, it may change itself in any way. It
 /// modifies the exchange only through changing calls.
@@ -70,4 +70,11 @@ pub trait Listener: Drop {
     /// Receives an event. It cannot fail.
     fn hear(&mut self, event: &Event)
         ensures { listener_step self.old (Heard event.now) self.new };
+}
+
+/// A servlet or a filter, with the name that its descriptor gives it (Jakarta Servlet 6.0, section 2.3.2).
+#[derive(Drop)]
+pub struct Named<C> {
+    pub name: Text,
+    pub component: C,
 }

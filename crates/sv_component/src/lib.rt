@@ -6,16 +6,14 @@ mod boxes;
 mod components;
 mod config;
 mod laws;
-mod named;
 mod noted;
 mod standing;
 mod telling;
 
 pub use answers::{Gate, Init, Step};
-pub use components::{Filter, Listener, Servlet};
+pub use components::{Filter, Listener, Named, Servlet};
 pub use config::{Config, Param};
 pub use laws::{runs_are_journalled, runs_are_whole, runs_join, runs_move_components};
-pub use named::Named;
 pub use noted::{gate_answer, init_answer, step_answer};
 pub use standing::Standing;
 pub use sv_exchange::{Exchange, ExchangeFault};

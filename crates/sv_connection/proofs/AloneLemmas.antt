@@ -13,7 +13,7 @@ use Rattle.sv_connection.specs.Ways.{Ways}
 use Rattle.sv_connection.specs.declared.phase.Phase.TheVariants.{Closing, Refused}
 use Rattle.sv_journal.specs.declared.entry.Entry.{Entry}
 use Rattle.sv_run.specs.Events.{Opened}
-use Rattle.sv_run.specs.declared.reaction.Reaction.{Reaction}
+use Rattle.sv_run.specs.declared.happening.Reaction.{Reaction}
 use Rattle.sv_run.specs.declared.step_fault.StepFault.{StepFault}
 use Rattle.sv_streams.specs.Calls.{Gave, Took}
 use Rattle.sv_wire.specs.declared.inbox.Awaited.{Awaited}

@@ -10,7 +10,7 @@ use Rattle.sv_connection.specs.declared.over.Over.{Over}
 use Rattle.sv_connection.specs.declared.over.Over.TheVariants.{Lost}
 use Rattle.sv_run.specs.Events.{Opened}
 use Rattle.sv_run.specs.Reacting.{Reacting}
-use Rattle.sv_run.specs.declared.reaction.Reaction.{Reaction}
+use Rattle.sv_run.specs.declared.happening.Reaction.{Reaction}
 use Rattle.sv_run.specs.declared.step_fault.StepFault.{StepFault}
 use Rattle.sv_streams.specs.Calls.{Making, reads}
 use Rattle.sv_connection.proofs.Bytes.{reads_at_limit, reads_within}

@@ -8,7 +8,7 @@ use Rattle.sv_connection.specs.Slots.{Arms, Action, Ends, Hands, Opens, Blocks, 
 use Rattle.sv_connection.specs.Ways.{Ways}
 use Rattle.sv_run.specs.Events.{Happening}
 use Rattle.sv_run.specs.Reacting.{Reacting, Reacts}
-use Rattle.sv_run.specs.declared.reaction.Reaction.{Reaction}
+use Rattle.sv_run.specs.declared.happening.Reaction.{Reaction}
 use Rattle.sv_run.specs.declared.step_fault.StepFault.{StepFault}
 use Rattle.sv_wire.specs.declared.inbox.Awaited.{Awaited}
 

@@ -5,7 +5,7 @@ use Rattle.sv_connection.specs.LoopLaws.{calls_of, handed_of, sends_of}
 use Rattle.sv_connection.specs.Slots.{Arms, Causes, Action, Ends, Hands, Leads, Needs, Open, Opens, Over, Blocks, Slot, Reads, ConnectionState, Unused, Writes}
 use Rattle.sv_connection.specs.Ways.{Ways}
 use Rattle.sv_connection.specs.declared.close_reason.CloseReason.{CloseReason}
-use Rattle.sv_run.specs.declared.reaction.Reaction.{Reaction}
+use Rattle.sv_run.specs.declared.happening.Reaction.{Reaction}
 use Rattle.sv_streams.specs.Calls.{given, taken}
 use Rattle.sv_streams.proofs.CallJoins.{given_join, taken_join}
 

@@ -3,7 +3,7 @@ use Rattle.std.proofs.Common.{ℕ, List, [], ◌∷◌, ◌++◌, Result, subst}
 use Rattle.sv_connection.specs.Connection.{AreTold, Talks}
 use Rattle.sv_run.specs.Events.{Happening}
 use Rattle.sv_run.specs.Reacting.{Reacting}
-use Rattle.sv_run.specs.declared.reaction.Reaction.{Reaction}
+use Rattle.sv_run.specs.declared.happening.Reaction.{Reaction}
 use Rattle.sv_run.specs.declared.step_fault.StepFault.{StepFault}
 use Rattle.sv_streams.specs.Calls.{Call, Making}
 use Rattle.sv_run.proofs.Reactions.{reacts_join}

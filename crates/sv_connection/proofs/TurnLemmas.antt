@@ -5,7 +5,7 @@ use Rattle.sv_connection.specs.TurnSteps.{Sends, TakesTurn}
 use Rattle.sv_connection.specs.declared.over.Over.{Over}
 use Rattle.sv_run.specs.Events.{Piece}
 use Rattle.sv_run.specs.Reacting.{Reacting}
-use Rattle.sv_run.specs.declared.reaction.Reaction.{Reaction}
+use Rattle.sv_run.specs.declared.happening.Reaction.{Reaction}
 use Rattle.sv_run.specs.declared.step_fault.StepFault.{StepFault}
 use Rattle.sv_streams.specs.Calls.{AreMade, Call, Gave, Making}
 

@@ -16,7 +16,7 @@ use Rattle.sv_run.specs.Events as events
 use Rattle.sv_run.specs.Reacting.{Reacting, Reacts, StepsLike, answer_shown}
 use Rattle.sv_run.specs.Runs.{Answer, Run}
 use Rattle.sv_run.specs.State.{State}
-use Rattle.sv_run.specs.declared.reaction.Reaction.{Reaction}
+use Rattle.sv_run.specs.declared.happening.Reaction.{Reaction}
 use Rattle.sv_run.specs.declared.step_fault.StepFault.{StepFault}
 use Rattle.sv_run.proofs.Reactions.{run_of}
 use Rattle.sv_streams.specs.Calls.{AreMade, Call, Making, WriteFailed, failures, given, meets_end, reads, taken}

@@ -10,7 +10,7 @@ use Rattle.sv_connection.specs.Phases.{is_closing}
 use Rattle.sv_connection.specs.Slots.{Action, Ends, Hands, Open, ConnectionState, Unused, Writes}
 use Rattle.sv_connection.specs.Ways.{Ways}
 use Rattle.sv_run.specs.Events.{Opened}
-use Rattle.sv_run.specs.declared.reaction.Reaction.{Reaction}
+use Rattle.sv_run.specs.declared.happening.Reaction.{Reaction}
 use Rattle.sv_streams.specs.Calls.{Call, Gave, Took}
 
 -- The stream calls of an action, with each read cut into its pieces: a piece that is passed to the handler counts as a

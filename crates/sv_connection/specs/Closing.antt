@@ -4,8 +4,8 @@ use Rattle.sv_connection.specs.Phases.{is_refused}
 use Rattle.sv_connection.specs.Slots.{ConnectionState}
 use Rattle.sv_connection.specs.declared.close_reason.CloseReason.{CloseReason}
 use Rattle.sv_connection.specs.declared.close_reason.CloseReason.TheVariants.{PeerEnded, AnswerCloses, ReadFails, WriteFails, GivenUp}
-use Rattle.sv_connection.specs.declared.closing.Closing.{Closing}
-use Rattle.sv_connection.specs.declared.closing.Closing.TheVariants.{AtOnce, Answered, InStages}
+use Rattle.sv_connection.specs.declared.close_reason.Closing.{Closing}
+use Rattle.sv_connection.specs.declared.close_reason.Closing.TheVariants.{AtOnce, Answered, InStages}
 
 module _ {S : Type 0} where
   -- After the last response: in stages if the message was refused, since the peer may still send it, or if more bytes

@@ -6,7 +6,7 @@ use Rattle.sv_streams.specs.declared.line_reader.TheConstants.{MAX_READS}
 use Rattle.sv_connection.specs.declared.over.Over.{Over}
 use Rattle.sv_run.specs.Events.{Happening, Opened}
 use Rattle.sv_run.specs.Reacting.{Reacting, Reacts}
-use Rattle.sv_run.specs.declared.reaction.Reaction.{Reaction}
+use Rattle.sv_run.specs.declared.happening.Reaction.{Reaction}
 use Rattle.sv_run.specs.declared.step_fault.StepFault.{StepFault}
 use Rattle.sv_streams.specs.Calls.{AreMade, Call, Making, reads}
 

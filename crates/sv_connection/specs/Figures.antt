@@ -4,7 +4,7 @@ use Rattle.sv_connection.specs.Finishing.{is_writing}
 use Rattle.sv_connection.specs.Holding.{held}
 use Rattle.sv_connection.specs.Known.{Known}
 use Rattle.sv_connection.specs.Slots.{ConnectionState}
-use Rattle.sv_connection.specs.declared.figures.Figures.{Figures}
+use Rattle.sv_connection.specs.declared.queries.Figures.{Figures}
 
 module _ {S : Type 0} where
   -- The states of the open connections.

@@ -9,7 +9,7 @@ use Rattle.sv_connection.specs.Ways.{Ways}
 use Rattle.sv_connection.specs.declared.close_reason.CloseReason.{CloseReason}
 use Rattle.sv_run.specs.Events.{Happening, Opened, Tick}
 use Rattle.sv_run.specs.Reacting.{Reacting}
-use Rattle.sv_run.specs.declared.reaction.Reaction.{Reaction}
+use Rattle.sv_run.specs.declared.happening.Reaction.{Reaction}
 use Rattle.sv_run.specs.declared.step_fault.StepFault.{StepFault}
 use Rattle.sv_run.specs.declared.step_fault.StepFault.TheVariants.{NoMemory}
 use Rattle.sv_wire.specs.declared.inbox.Awaited.{Awaited}

@@ -5,7 +5,7 @@ use Rattle.sv_connection.specs.Slots.{Causes, Action, Ends, Hands, Needs, Open, 
 use Rattle.sv_connection.specs.Ways.{Ways}
 use Rattle.sv_connection.specs.declared.close_reason.CloseReason.{CloseReason}
 use Rattle.sv_connection.specs.declared.close_reason.CloseReason.TheVariants.{AnswerCloses, GivenUp, PeerEnded, ReadFails, WriteFails}
-use Rattle.sv_run.specs.declared.reaction.Reaction.{Reaction}
+use Rattle.sv_run.specs.declared.happening.Reaction.{Reaction}
 use Rattle.sv_streams.specs.Calls.{Call, Gave, ReadFailed, Took, WriteFailed, given, taken}
 
 -- The call that ended a connection for this reason, if any.

@@ -12,7 +12,7 @@ use Rattle.sv_connection.specs.declared.over.Over.TheVariants.{Closed, Lost}
 use Rattle.sv_policy.specs.declared.edit.Edit.{Edit}
 use Rattle.sv_run.specs.Events.{Edited, Happening, Opened, Piece, Tick}
 use Rattle.sv_run.specs.Reacting.{Reacting, Reacts}
-use Rattle.sv_run.specs.declared.reaction.Reaction.{Reaction}
+use Rattle.sv_run.specs.declared.happening.Reaction.{Reaction}
 use Rattle.sv_run.specs.declared.step_fault.StepFault.{StepFault}
 use Rattle.sv_wire.specs.declared.inbox.Awaited.{Awaited}
 

@@ -8,7 +8,7 @@ use Rattle.sv_journal.specs.declared.entry.Entry.{Entry}
 use Rattle.sv_journal.specs.declared.entry.Entry.TheVariants as entry
 use Rattle.sv_journal.specs.declared.refusal_cause.RefusalCause.{RefusalCause}
 use Rattle.sv_journal.specs.declared.refusal_cause.RefusalCause.TheVariants as cause
-use Rattle.sv_run.specs.declared.reaction.Reaction.{Reaction}
+use Rattle.sv_run.specs.declared.happening.Reaction.{Reaction}
 use Rattle.sv_wire.specs.declared.inbox.Awaited.{Awaited}
 use Rattle.sv_wire.specs.declared.inbox.Awaited.TheVariants.{Body, Head, Message, Nothing}
 

@@ -7,7 +7,7 @@ use Rattle.sv_connection.specs.declared.close_reason.CloseReason.{CloseReason}
 use Rattle.sv_connection.specs.declared.close_reason.CloseReason.TheVariants.{AnswerCloses, GivenUp, PeerEnded, ReadFails, WriteFails}
 use Rattle.sv_connection.specs.declared.phase.Phase.{Phase}
 use Rattle.sv_connection.specs.declared.phase.Phase.TheVariants as phase
-use Rattle.sv_run.specs.declared.reaction.Reaction.{Reaction}
+use Rattle.sv_run.specs.declared.happening.Reaction.{Reaction}
 use Rattle.sv_streams.specs.Calls.{Gave, ReadFailed, Took, WriteFailed}
 use Rattle.sv_wire.specs.declared.inbox.Awaited.{Awaited}
 use Rattle.sv_wire.specs.declared.inbox.Awaited.TheVariants.{Message}

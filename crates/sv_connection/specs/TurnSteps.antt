@@ -5,7 +5,7 @@ use Rattle.sv_connection.specs.Turns.{AtLimit, Ending, GoesOn, IsEnding, Turn, b
 use Rattle.sv_connection.specs.declared.over.Over.{Over}
 use Rattle.sv_connection.specs.declared.over.Over.TheVariants.{Closed, Lost}
 use Rattle.sv_run.specs.Reacting.{Reacting}
-use Rattle.sv_run.specs.declared.reaction.Reaction.{Reaction}
+use Rattle.sv_run.specs.declared.happening.Reaction.{Reaction}
 use Rattle.sv_run.specs.declared.step_fault.StepFault.{StepFault}
 use Rattle.sv_streams.specs.Calls.{Making, WritesAll}
 use Rattle.sv_streams.specs.declared.stream.WriteFailed.{WriteFailed}

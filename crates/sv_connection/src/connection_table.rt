@@ -11,12 +11,12 @@ ghost use Rattle.sv_connection.specs.Notes.{over_by};
 ghost use Rattle.sv_run.specs.Seen.{happening_of};
 
 use crate::close_reason::CloseReason;
-use crate::figures::Figures;
 use crate::limits::Limits;
 use crate::open_connection::Connection;
 use crate::peer::Peer;
+use crate::pending::Sent;
 use crate::poller::Poller;
-use crate::sent::Sent;
+use crate::queries::Figures;
 use std::alloc::Global;
 use std::collections::HashMap;
 use std::marker::Model;

@@ -5,10 +5,8 @@
 mod acceptor;
 mod allowance;
 mod close_reason;
-mod closing;
 mod connection;
 mod connection_table;
-mod figures;
 mod finishing;
 mod laws;
 mod limits;
@@ -22,7 +20,6 @@ mod pieces;
 mod poller;
 mod queries;
 mod running;
-mod sent;
 mod serve_fault;
 mod serving;
 mod step;
@@ -31,10 +28,8 @@ mod turn;
 mod without_queries;
 
 pub use acceptor::{AcceptFailed, Acceptor};
-pub use close_reason::CloseReason;
-pub use closing::Closing;
+pub use close_reason::{CloseReason, Closing};
 pub use connection::run_connection;
-pub use figures::Figures;
 pub use laws::{
     a_connection_is_a_run, only_pieces_send, pieces_are_what_is_read, the_end_has_a_cause,
     what_is_sent_is_written,
@@ -51,7 +46,7 @@ pub use loop_laws::{
 pub use over::Over;
 pub use peer::{Peer, Tried};
 pub use poller::{PollEvent, Poller};
-pub use queries::Queries;
+pub use queries::{Figures, Queries};
 pub use running::run_event_loop;
 pub use serve_fault::ServeFault;
 pub use serving::serve_connections;

@@ -6,14 +6,12 @@ ghost use Rattle.sv_connection.specs.Slots.{HasPiece, IsIdle, Needs};
 ghost use Rattle.sv_connection.specs.Steps.{Drives, HandsOn, IsArmed, SendsOn, StepsOnce, TakesIn};
 
 use crate::allowance::Allowance;
-use crate::close_reason::CloseReason;
-use crate::closing::Closing;
+use crate::close_reason::{CloseReason, Closing};
 use crate::limits::{FIRST_READ_BYTES, READ_BYTES};
 use crate::peer::{Peer, Tried};
-use crate::pending::Pending;
+use crate::pending::{Pending, Sent};
 use crate::phase::Phase;
 use crate::pieces::piece_len;
-use crate::sent::Sent;
 use crate::step::Step;
 use crate::timeouts::Timeouts;
 use std::alloc::Global;

@@ -1,6 +1,6 @@
 //! Buffers of bytes that wait.
 
-ghost use Rattle.std.specs.Prelude.{◌≡◌, ◌<◌, ◌≤◌, [], drop, length, vec_items};
+ghost use Rattle.std.specs.Prelude.{[], drop, length, vec_items, ◌<◌, ◌≡◌, ◌≤◌};
 ghost use Rattle.sv_connection.specs.Ways.{TriesRead};
 
 use crate::limits::FIRST_READ_BYTES;
@@ -174,4 +174,15 @@ fn read_into<P: Peer>(peer: &mut P, room: &mut Vec<u8>) -> Tried
             Tried::Failed
         }
     }
+}
+
+/// The result of writing the bytes that wait for a connection.
+#[derive(Clone, Copy, Debug, PartialEq, Eq)]
+pub(crate) enum Sent {
+    /// All bytes were written.
+    All,
+    /// Bytes still wait: the next write would block, or the stream was armed.
+    Waits,
+    /// A write failed, or the stream could not be armed.
+    Fails,
 }

@@ -2,10 +2,9 @@
 
 ghost use Rattle.sv_connection.specs.Asking.{EditsOnce};
 
-use crate::closing::Closing;
-use crate::figures::Figures;
+use crate::close_reason::Closing;
 use crate::peer::Peer;
-use crate::queries::Queries;
+use crate::queries::{Figures, Queries};
 use sv_run::{EventHandler, StepFault};
 
 /// An event that a poller reports.

@@ -11,7 +11,7 @@ use Rattle.sv_constraints.specs.Findings.{findings_of, with_one, decided}
 use Rattle.sv_constraints.specs.Verdict.{precludes, permits_plain, is_open, admits_caller, verdict, verdict_at}
 use Rattle.sv_constraints.specs.declared.constraint.Constraint.{Constraint}
 use Rattle.sv_constraints.specs.declared.findings.Findings.{Findings}
-use Rattle.sv_constraints.specs.declared.rules.Rules.{Rules}
+use Rattle.sv_constraints.specs.declared.constraint.Rules.{Rules}
 
 -- The findings after one more constraint.
 pub found_more : (rules : Rules) (caller : Option Caller) (members : List Constraint) (c : Constraint) → with_one rules caller c (findings_of rules caller members) ≡ findings_of rules caller (members ++ c ∷ [])

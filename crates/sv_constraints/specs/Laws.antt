@@ -11,7 +11,7 @@ use Rattle.sv_constraints.specs.declared.constraint.Constraint.{Constraint}
 use Rattle.sv_constraints.specs.declared.cause.Cause.TheVariants.{NoPattern, Uncovered, Precluded, Transport, Unauthenticated, NeedsCaller, Role, NoRole}
 use Rattle.sv_constraints.specs.declared.owned_decision.OwnedDecision.{OwnedDecision}
 use Rattle.sv_constraints.specs.declared.owned_decision.OwnedDecision.TheVariants.{Open, Login, Denied}
-use Rattle.sv_constraints.specs.declared.rules.Rules.{Rules}
+use Rattle.sv_constraints.specs.declared.constraint.Rules.{Rules}
 
 -- The eight cases, each with its full condition: it holds, and no earlier case does.
 abbrev pub full_cases : Rules → Option Caller → Option (List ℕ) → List Constraint → List (Bool × OwnedDecision)

@@ -15,7 +15,7 @@ use Rattle.sv_constraints.specs.declared.cause.Cause.TheVariants as cause
 use Rattle.sv_constraints.specs.declared.owned_decision.OwnedDecision.{OwnedDecision}
 use Rattle.sv_constraints.specs.declared.owned_decision.OwnedDecision.TheVariants.{Open, Login, Denied}
 use Rattle.sv_constraints.specs.declared.owned_decision.OwnedWhy.{OwnedWhy}
-use Rattle.sv_constraints.specs.declared.rules.Rules.{Rules}
+use Rattle.sv_constraints.specs.declared.constraint.Rules.{Rules}
 
 -- The least number of the constraints, if there is one.
 abbrev pub least_number : List Constraint → Option ℕ

@@ -8,10 +8,9 @@ ghost use Rattle.sv_constraints.specs.Decision.{seen};
 ghost use Rattle.sv_constraints.specs.Verdict.{verdict};
 
 use crate::cause::Cause;
-use crate::constraint::Constraint;
+use crate::constraint::{Constraint, Rules};
 use crate::decision::{Decision, Why};
 use crate::findings::Findings;
-use crate::rules::Rules;
 use sv_mapping::{Pattern, better};
 use sv_realm::Caller;
 

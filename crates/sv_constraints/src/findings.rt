@@ -8,11 +8,10 @@ ghost use Rattle.sv_constraints.specs.Verdict.{names_nobody, is_absent, allows_p
 ghost use Rattle.sv_constraints.specs.Decision.{seen, seen_why};
 
 use crate::cause::Cause;
-use crate::constraint::{Auth, Constraint, Transport};
+use crate::constraint::{Auth, Constraint, Rules, Transport};
 use crate::covering::covers;
 use crate::decision::{Decision, Why};
 use crate::roles::admits;
-use crate::rules::Rules;
 use sv_mapping::Pattern;
 use sv_realm::Caller;
 

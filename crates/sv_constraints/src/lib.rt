@@ -12,10 +12,9 @@ mod laws;
 mod owned_decision;
 mod printed;
 mod roles;
-mod rules;
 
 pub use cause::Cause;
-pub use constraint::{Auth, Collection, Constraint, Methods, Transport};
+pub use constraint::{Auth, Collection, Constraint, Methods, Rules, Transport};
 pub use covering::{covers, lists};
 pub use decide::decide_plain;
 pub use decision::{Decision, Why};
@@ -25,4 +24,3 @@ pub use laws::{
 };
 pub use owned_decision::{OwnedDecision, OwnedWhy};
 pub use roles::{EVERY_CALLER, EVERY_ROLE};
-pub use rules::Rules;

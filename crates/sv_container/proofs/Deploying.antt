@@ -7,7 +7,7 @@ use Rattle.sv_context.specs.State.{ContextState}
 use Rattle.sv_context.specs.declared.deploy_fault.DeployFault.{DeployFault}
 use Rattle.sv_lifecycle.specs.declared.deployment.Deployment.{Deployment}
 use Rattle.sv_policy.specs.Context.{policy}
-use Rattle.sv_policy.specs.declared.context.ContextPolicy.{ContextPolicy}
+use Rattle.sv_policy.specs.declared.explained_context.ContextPolicy.{ContextPolicy}
 use Rattle.sv_live.specs.Standing.{LiveState}
 use Rattle.sv_lifecycle.specs.declared.start_fault.StartFault.{StartFault}
 

@@ -1,6 +1,6 @@
 -- The context paths of a container, which differ (Jakarta Servlet 6.0, section 12.1).
 use Rattle.std.specs.Prelude.{◌≡◌, ℕ, ◌≤◌, true, false, List, [], ◌∷◌, ◌++◌, length, slice_get, Some}
-use Rattle.sv_container.specs.declared.limits.TheConstants.{MAX_CONTEXTS}
+use Rattle.sv_container.specs.declared.container.TheConstants.{MAX_CONTEXTS}
 use Rattle.sv_container.specs.declared.new_fault.NewCode.{NewCode}
 use Rattle.sv_container.specs.declared.new_fault.NewCode.TheVariants.{DuplicateContext, TooManyContexts, PartsMismatch, InitFailed, NoMemory}
 use Rattle.sv_descriptor.specs.Names.{repeats}

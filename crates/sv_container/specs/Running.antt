@@ -7,7 +7,7 @@ use Rattle.sv_context.specs.State.{ContextState}
 use Rattle.sv_context.specs.Theory.{theory}
 use Rattle.sv_run.specs.Host.{StepsSo}
 use Rattle.sv_journal.specs.Journal.{JournalState}
-use Rattle.sv_live.specs.declared.parts.Parts.{Parts}
+use Rattle.sv_live.specs.declared.live.Parts.{Parts}
 use Rattle.sv_run.specs.Reacting.{Reacting}
 use Rattle.sv_run.specs.State.{State}
 use Rattle.sv_container.specs.declared.running.Running.{Running}

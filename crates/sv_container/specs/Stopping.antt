@@ -8,7 +8,7 @@ use Rattle.sv_context.specs.State.{ContextState, in_service, world_of}
 use Rattle.sv_journal.specs.Journal.{JournalState, broken, new_journal}
 use Rattle.sv_live.specs.Calls.{stop_calls}
 use Rattle.sv_live.specs.World.{world}
-use Rattle.sv_live.specs.declared.parts.Parts.{Parts}
+use Rattle.sv_live.specs.declared.live.Parts.{Parts}
 use Rattle.sv_run.specs.State.{State}
 
 -- the contexts to stop: after an event that ran out of memory, without their sessions, about which nothing is notified

@@ -19,3 +19,6 @@ pub struct Container<S, F, L, W> {
     ghost permitted: { ArePermitted (map (λ context. context.content.context_path) (state_of host).world.contexts) },
     ghost room_to_stop: { HasRoomToStop (length (state_of host).world.contexts) stop },
 }
+
+/// The maximum number of contexts of a container.
+pub const MAX_CONTEXTS: usize = 64;

@@ -5,7 +5,7 @@ ghost use Rattle.std.specs.Prelude.{◌≡◌};
 ghost use Rattle.sv_container.specs.Explaining.{ExplainsWhatWasDeployed};
 ghost use Rattle.sv_container.specs.Stopping.{StoppedContainersStopQuietly};
 
-use crate::limits::MAX_CONTEXTS;
+use crate::container::MAX_CONTEXTS;
 use sv_component::{Filter, Listener, Servlet};
 use sv_run::Words;
 

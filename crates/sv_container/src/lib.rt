@@ -7,7 +7,6 @@ mod container;
 mod events;
 mod explaining;
 mod laws;
-mod limits;
 mod new_fault;
 mod refusal;
 mod run_fault;
@@ -17,11 +16,10 @@ mod seeded_start;
 mod starting;
 mod stopping;
 
-pub use container::Container;
+pub use container::{Container, MAX_CONTEXTS};
 pub use laws::{
     containers_explain_what_was_deployed, limits_are_as_stated, stopped_containers_stop_quietly,
 };
-pub use limits::MAX_CONTEXTS;
 pub use new_fault::{NewCode, NewFault};
 pub use run_fault::RunFault;
 pub use running::Running;

@@ -5,7 +5,7 @@ ghost use Rattle.sv_container.specs.Paths.{ArePermitted, Forbids, IsRepeatedFirs
 ghost use Rattle.sv_context.specs.Several.{paths_of};
 ghost use Rattle.sv_descriptor.specs.Names.{repeats};
 
-use crate::limits::MAX_CONTEXTS;
+use crate::container::MAX_CONTEXTS;
 use crate::new_fault::{NewCode, NewFault};
 use std::alloc::Global;
 use sv_descriptor::Names;

@@ -4,7 +4,7 @@ use Rattle.std.specs.Prelude.{MatchBool}
 use Rattle.sv_component.specs.Runs.{Runs}
 use Rattle.sv_component.specs.Steps.{ComponentSteps}
 use Rattle.sv_descriptor.specs.declared.web_app.WebApp.{WebApp}
-use Rattle.sv_files.specs.declared.file.File.{File}
+use Rattle.sv_files.specs.declared.files.File.{File}
 use Rattle.sv_journal.specs.Journal.{JournalState}
 use Rattle.sv_live.specs.Calls.{stop_calls}
 use Rattle.sv_lifecycle.specs.Fit.{Fits}
@@ -12,12 +12,12 @@ use Rattle.sv_lifecycle.specs.Starting.{IsResultOf, Outcome, RefusesUntouched, S
 use Rattle.sv_live.specs.Standing as standing
 use Rattle.sv_live.specs.Standing.{LiveState, live_world}
 use Rattle.sv_live.specs.World.{world}
-use Rattle.sv_live.specs.declared.parts.Parts.{Parts}
+use Rattle.sv_live.specs.declared.live.Parts.{Parts}
 use Rattle.sv_lifecycle.specs.declared.start_fault.StartCode.{StartCode}
 use Rattle.sv_lifecycle.specs.declared.start_fault.StartCode.TheVariants.{NoMemory, PartsMismatch}
 use Rattle.sv_lifecycle.specs.declared.start_fault.StartFault.{StartFault}
 use Rattle.sv_policy.specs.Compiled.{Standing}
-use Rattle.sv_realm.specs.declared.user.User.{User}
+use Rattle.sv_realm.specs.declared.account.User.{User}
 use Rattle.sv_session.specs.Store.{Store}
 use Rattle.sv_tree.specs.SiteOfDescriptor.{Content}
 use Rattle.sv_context.specs.Deployment.{Deploys, Undeploys, content_of, declared_policy, deployed, no_sessions}

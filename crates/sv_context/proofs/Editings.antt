@@ -7,7 +7,7 @@ use Rattle.sv_policy.specs.Compiled.{Standing}
 use Rattle.sv_policy.specs.Edits.{GivesOutcome, edit_outcome}
 use Rattle.sv_policy.specs.declared.edit.Edit.{Edit}
 use Rattle.sv_policy.specs.declared.edit_fault.EditFault.{EditFault}
-use Rattle.sv_realm.specs.declared.user.User.{User}
+use Rattle.sv_realm.specs.declared.account.User.{User}
 use Rattle.sv_session.specs.Store.{Store}
 use Rattle.sv_tree.specs.SiteOfDescriptor.{Content}
 

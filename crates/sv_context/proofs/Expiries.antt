@@ -17,10 +17,10 @@ use Rattle.sv_session.specs.Laws.{ExpiryEndsWhereNoneHasExpired}
 use Rattle.sv_session.specs.Runs as sessions
 use Rattle.sv_session.specs.Lists.{without_first}
 use Rattle.sv_session.specs.Store.{Session, Store, is_numbered, numbered}
-use Rattle.sv_session.specs.declared.ended_session.EndedSession.{EndedSession}
+use Rattle.sv_session.specs.declared.ended_sessions.EndedSession.{EndedSession}
 use Rattle.sv_context.specs.Expiry.{Expires, ends_told}
 use Rattle.sv_policy.specs.Compiled.{Standing}
-use Rattle.sv_realm.specs.declared.user.User.{User}
+use Rattle.sv_realm.specs.declared.account.User.{User}
 use Rattle.sv_tree.specs.SiteOfDescriptor.{Content}
 use Rattle.sv_context.specs.State.{AreComponentsOf, AreCounted, ContextState, IsSameDeployment, context_of, world_of}
 

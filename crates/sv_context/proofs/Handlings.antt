@@ -9,13 +9,13 @@ use Rattle.sv_component.specs.Runs.{IsRun}
 use Rattle.sv_component.specs.Steps.{ComponentSteps}
 use Rattle.sv_exchange.specs.Beginning.{begun, finished}
 use Rattle.sv_exchange.specs.State as exchanges
-use Rattle.sv_exchange.specs.declared.held_session.HeldSession.{HeldSession}
+use Rattle.sv_exchange.specs.declared.holding.HeldSession.{HeldSession}
 use Rattle.sv_journal.specs.Journal.{JournalState, Takes, with_entry}
 use Rattle.sv_journal.specs.declared.entry.Entry.{Entry}
 use Rattle.sv_session.specs.declared.event.Event.{Event}
 use Rattle.sv_live.specs.Standing.{LiveState, live_world}
 use Rattle.sv_policy.specs.Compiled.{Standing}
-use Rattle.sv_realm.specs.declared.user.User.{User}
+use Rattle.sv_realm.specs.declared.account.User.{User}
 use Rattle.sv_dispatch.specs.Did.{seen}
 use Rattle.sv_dispatch.specs.ServedBy.{ServedBy}
 use Rattle.sv_session.specs.Store.{Store}

@@ -2,7 +2,7 @@
 use Rattle.std.specs.Prelude.{OnOk, codes, length, true}
 use Rattle.std.proofs.Common.{◌≡◌, ℕ, Bool, inl, inr, List, [], ◌++◌, Option, None, Some, Result, Ok, Err, refl, sym, ◌∙◌, ap, ap₂, subst}
 use Rattle.sv_admission.specs.declared.answer.Answer.{Answer}
-use Rattle.sv_admission.specs.declared.limits.TheConstants.{SEE_OTHER}
+use Rattle.sv_admission.specs.declared.answer.TheConstants.{SEE_OTHER}
 use Rattle.sv_component.proofs.Running.{runs_grown}
 use Rattle.sv_component.specs.Runs.{IsRun, Record, Runs}
 use Rattle.sv_component.specs.Steps.{ComponentSteps}

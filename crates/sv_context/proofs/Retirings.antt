@@ -5,7 +5,7 @@ use Rattle.std.specs.List.{list_any}
 use Rattle.std.proofs.lemmas.Bool.{eqb-true, eqb-false}
 use Rattle.sv_admission.specs.declared.answer.Answer.{Answer}
 use Rattle.sv_admission.specs.declared.answer.Answer.TheVariants as answers
-use Rattle.sv_admission.specs.declared.limits.TheConstants.{SEE_OTHER}
+use Rattle.sv_admission.specs.declared.answer.TheConstants.{SEE_OTHER}
 use Rattle.sv_component.specs.Call.{Call, Destroyed, Serviced}
 use Rattle.sv_component.specs.Runs.{OfServlet, Record}
 use Rattle.sv_component.specs.Standing.{is_gone, standing_now}
@@ -25,7 +25,7 @@ use Rattle.sv_live.specs.Standing as lifecycle
 use Rattle.sv_component.specs.Telling.{told}
 use Rattle.sv_mapping.specs.declared.kind.Kind.{Kind}
 use Rattle.sv_mapping.specs.declared.kind.Kind.TheVariants as kinds
-use Rattle.sv_session.specs.declared.ended_session.EndedSession.{EndedSession}
+use Rattle.sv_session.specs.declared.ended_sessions.EndedSession.{EndedSession}
 use Rattle.sv_tree.proofs.Bounding.{error_keeps, served_keeps}
 use Rattle.sv_tree.proofs.Hearing.{all_keep, all_keep_alone}
 use Rattle.sv_tree.proofs.Keeping.{FilterSteps, Keeps, Opens, Steps, away_by, called, gives_keeps, makes_keeps, then_keeps, told_by, tree_keeps, within_keeps}

@@ -6,7 +6,7 @@ use Rattle.std.proofs.lemmas.Bool.{and_parts, leb-true}
 use Rattle.http.specs.StatusCode.{IsStatusCode}
 use Rattle.sv_admission.specs.declared.answer.Answer.{Answer}
 use Rattle.sv_admission.specs.declared.answer.Answer.TheVariants.{Entered, Error, Page, SeeOther}
-use Rattle.sv_admission.specs.declared.limits.TheConstants.{SEE_OTHER}
+use Rattle.sv_admission.specs.declared.answer.TheConstants.{SEE_OTHER}
 use Rattle.sv_component.specs.Runs.{Record}
 use Rattle.sv_exchange.proofs.Reaching.{reaches_to}
 use Rattle.sv_exchange.specs.Keeping.{broken_off}

@@ -6,7 +6,7 @@ use Rattle.sv_component.specs.Steps.{ComponentSteps}
 use Rattle.sv_journal.specs.Journal.{JournalState}
 use Rattle.sv_live.specs.SessionEnds.{all_told, end_events}
 use Rattle.sv_session.specs.Runs as sessions
-use Rattle.sv_session.specs.declared.ended_session.EndedSession.{EndedSession}
+use Rattle.sv_session.specs.declared.ended_sessions.EndedSession.{EndedSession}
 use Rattle.sv_context.specs.State.{ContextState, IsSameDeployment, world_of}
 
 -- The notifications of this number of listeners: each session has ended, and its attributes are removed.

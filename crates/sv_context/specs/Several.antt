@@ -8,7 +8,7 @@ use Rattle.sv_context.specs.declared.deploy_fault.DeployAllFault.{DeployAllFault
 use Rattle.sv_context.specs.declared.deploy_fault.DeployFault.{DeployFault}
 use Rattle.sv_lifecycle.specs.declared.deployment.Deployment.{Deployment}
 use Rattle.sv_journal.specs.Journal.{JournalState}
-use Rattle.sv_live.specs.declared.parts.Parts.{Parts}
+use Rattle.sv_live.specs.declared.live.Parts.{Parts}
 
 abbrev pub paths_of : {S F L : Type 0} → List (Deployment S F L) → List (List ℕ)
 paths_of deployments = map (λ deployment. deployment.path) deployments

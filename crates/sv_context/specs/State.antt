@@ -3,13 +3,13 @@
 use Rattle.std.specs.Prelude.{◌≡◌, List, length}
 use Rattle.std.specs.List.{filter}
 use Rattle.sv_component.specs.World.{World}
-use Rattle.sv_component.specs.declared.named.Named.{Named}
+use Rattle.sv_component.specs.declared.components.Named.{Named}
 use Rattle.sv_component.specs.declared.standing.Standing.{Standing}
 use Rattle.sv_journal.specs.Journal.{JournalState}
 use Rattle.sv_live.specs.Standing.{LiveState, is_in_service}
-use Rattle.sv_live.specs.declared.place.Place.{Place}
+use Rattle.sv_live.specs.declared.live.Place.{Place}
 use Rattle.sv_policy.specs.Compiled as policies
-use Rattle.sv_realm.specs.declared.user.User.{User}
+use Rattle.sv_realm.specs.declared.account.User.{User}
 use Rattle.sv_session.specs.Store.{Store}
 use Rattle.sv_tree.specs.SiteOfDescriptor.{Content}
 

@@ -1,10 +1,15 @@
 //! A deployed context.
 
-ghost use Rattle.std.specs.Prelude.{◌≡◌, length};
+ghost use Rattle.std.specs.Prelude.{length, ◌≡◌};
+ghost use Rattle.sv_context.specs.Forgetting.{without_sessions};
 
+use crate::deploying::no_sessions;
 use crate::responder::Responder;
+use std::alloc::Global;
 use std::marker::Model;
-use sv_policy::Policy;
+use sv_component::{Filter, Listener, Servlet};
+use sv_lifecycle::Deployment;
+use sv_policy::{HasPolicy, Policy};
 use sv_realm::Realm;
 use sv_session::Sessions;
 
@@ -35,5 +40,34 @@ impl<S, F, L> Context<S, F, L> {
         ensures { result ≡ length self.now.store.sessions }
     {
         self.sessions.count()
+    }
+}
+
+/// Drops deployments, with their components as they are. Callers do not drop the contents themselves, and their proofs
+/// need not cover it.
+pub fn let_go<S: Servlet, F: Filter, L: Listener>(deployments: Vec<Deployment<S, F, L>>) {
+    drop(deployments);
+}
+
+impl<S, F, L> Context<S, F, L> {
+    /// Drops all sessions, without notifying listeners and without allocating.
+    pub fn forget_sessions(&mut self, alloc: Global)
+        ensures { self.new ≡ without_sessions self.old }
+    {
+        self.sessions = no_sessions(alloc, self.responder.site.descriptor());
+    }
+}
+
+impl<S, F, L> HasPolicy for Context<S, F, L> {
+    ghost standing_of = { λ context. context.policy };
+
+    ghost users_of = { λ context. context.users };
+
+    fn policy(&self) -> &Policy {
+        &self.policy
+    }
+
+    fn users(&self) -> &Realm {
+        &self.users
     }
 }

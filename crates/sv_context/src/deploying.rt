@@ -1,15 +1,14 @@
 //! Deploying and undeploying a context.
 
+ghost use Rattle.std.specs.Prelude.{Err, IfOk, ◌≡◌};
 ghost use Rattle.sv_component.specs.Steps.{steps_of};
-ghost use Rattle.std.specs.Prelude.{◌≡◌, Err, IfOk};
+ghost use Rattle.sv_context.specs.Deployment.{Deploys, Undeploys, declared_policy, no_sessions};
 ghost use Rattle.sv_descriptor.specs.WellFormed.{IsWellFormed};
 ghost use Rattle.sv_journal.specs.Journal.{JournalState};
 ghost use Rattle.sv_tree.specs.ServletMappings.{mappings_of};
-ghost use Rattle.sv_context.specs.Deployment.{Deploys, Undeploys, declared_policy, no_sessions};
 
 use crate::context::Context;
 use crate::deploy_fault::DeployFault;
-use crate::limits::SECONDS_OF_MINUTE;
 use crate::responder::Responder;
 use std::alloc::Global;
 use sv_chain::Chains;
@@ -156,3 +155,6 @@ pub(crate) fn no_sessions(alloc: Global, descriptor: &Descriptor) -> Sessions
     let limit = app.version.max_sessions();
     Sessions::new(alloc, limit, app.session.timeout * SECONDS_OF_MINUTE)
 }
+
+/// The seconds of a minute. A descriptor gives the session timeout in minutes.
+pub const SECONDS_OF_MINUTE: u32 = 60;

@@ -2,7 +2,7 @@
 
 ghost use Rattle.sv_component.specs.Steps.{steps_of};
 ghost use Rattle.sv_policy.specs.Compiled.{Standing};
-ghost use Rattle.sv_realm.specs.declared.user.User.{User};
+ghost use Rattle.sv_realm.specs.declared.account.User.{User};
 ghost use Rattle.sv_tree.specs.SiteOfDescriptor.{Content};
 ghost use Rattle.std.specs.Prelude.{List};
 ghost use Rattle.sv_context.specs.Expiry.{Expires};

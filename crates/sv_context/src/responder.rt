@@ -13,7 +13,7 @@ ghost use Rattle.sv_exchange.specs.Beginning.{begun};
 ghost use Rattle.sv_exchange.specs.State as exchanges;
 ghost use Rattle.sv_live.specs.World.{HasSameCounts};
 ghost use Rattle.sv_policy.specs.Compiled.{Standing};
-ghost use Rattle.sv_realm.specs.declared.user.User.{User};
+ghost use Rattle.sv_realm.specs.declared.account.User.{User};
 ghost use Rattle.sv_session.specs.Store.{Store};
 ghost use Rattle.sv_tree.specs.SiteOfDescriptor.{site_of};
 ghost use Rattle.sv_tree.specs.Served.{Served, ShowsError};

@@ -1,7 +1,7 @@
 //! Deploying and undeploying contexts one after another.
 
+ghost use Rattle.std.specs.Prelude.{Err, List, MatchResult, Ok, [], length, map, slice_index_or, vec_capacity, ◌++◌, ◌+◌, ◌<◌, ◌∷◌, ◌≡◌, ◌≤◌};
 ghost use Rattle.sv_component.specs.Steps.{steps_of};
-ghost use Rattle.std.specs.Prelude.{◌≡◌, ◌+◌, ◌<◌, ◌≤◌, List, [], ◌∷◌, ◌++◌, Err, Ok, MatchResult, length, map, slice_index_or, vec_capacity};
 ghost use Rattle.sv_context.specs.Deployment.{Deploys};
 ghost use Rattle.sv_context.specs.Room.{HasRoomToStop, IsReady};
 ghost use Rattle.sv_context.specs.Several.{DeploysAll, FailsAll, GivesBackParts, UndeploysAll};
@@ -10,7 +10,6 @@ ghost use Rattle.sv_lifecycle.specs.declared.deployment.Deployment.{Deployment a
 
 use crate::context::Context;
 use crate::deploy_fault::{DeployAllFault, DeployFault};
-use crate::pushing::{push, push_all};
 use crate::room::{Room, StopRoom};
 use crate::shutdown::Shutdown;
 use std::alloc::Global;
@@ -189,4 +188,24 @@ fn parts_of<S: Servlet, F: Filter, L: Listener>(deployment: Deployment<S, F, L>)
     ensures { result ≡ deployment.parts }
 {
     deployment.parts
+}
+
+/// Appends an item. The list must have capacity for it.
+pub(crate) fn push<T: Drop>(items: &mut Vec<T>, item: T)
+    requires { length items.old.items < vec_capacity items.old }
+    ensures items { items.new.items ≡ items.old.items ++ item ∷ [] }
+    ensures room { vec_capacity items.old ≤ vec_capacity items.new }
+{
+    // The capacity suffices.
+    let _room = items.push(item);
+}
+
+/// Appends other items. The list must have capacity for them.
+pub(crate) fn push_all<T: Drop>(items: &mut Vec<T>, others: Vec<T>)
+    requires { length items.old.items + length others.items ≤ vec_capacity items.old }
+    ensures { items.new.items ≡ items.old.items ++ others.items }
+{
+    let mut others = others;
+    // The capacity suffices.
+    let _room = items.append(&mut others);
 }

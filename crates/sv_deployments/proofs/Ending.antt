@@ -3,7 +3,7 @@ use Rattle.std.proofs.Common.{◌≡◌, ℕ, List, Option, Some, None, MatchOpt
 use Rattle.sv_text.specs.Gives.{Gives}
 use Rattle.sv_files.specs.Fault.{files_of}
 use Rattle.sv_files.specs.declared.fault.FilesFault.{FilesFault}
-use Rattle.sv_files.specs.declared.file.File.{File}
+use Rattle.sv_files.specs.declared.files.File.{File}
 use Rattle.sv_deployments.specs.Parts.{seen}
 use Rattle.sv_program.specs.CommandFault.{command_fault}
 use Rattle.sv_program.specs.Configuration.{Step}

@@ -2,7 +2,7 @@
 use Rattle.std.proofs.Common.{◌≡◌, ℕ, List, [], ◌∷◌, length, map, Option, Some, None, Result, Ok, Err, refl, ap}
 use Rattle.std.specs.Option.{ok_or}
 use Rattle.sv_text.specs.Steps.{◌>>=◌}
-use Rattle.sv_component.specs.declared.named.Named.{Named}
+use Rattle.sv_component.specs.declared.components.Named.{Named}
 use Rattle.sv_descriptor.specs.declared.filter.FilterEntry.{FilterEntry}
 use Rattle.sv_descriptor.specs.declared.listener.ListenerEntry.{ListenerEntry}
 use Rattle.sv_descriptor.specs.declared.servlet.ServletEntry.{ServletEntry}

@@ -8,8 +8,8 @@ use Rattle.sv_deployments.specs.declared.program_listener.ProgramListener.{Progr
 use Rattle.sv_deployments.specs.declared.program_servlet.ProgramServlet.{ProgramServlet}
 use Rattle.sv_lifecycle.specs.declared.deployment.Deployment as context
 use Rattle.sv_descriptor.specs.declared.web_app.WebApp.{WebApp}
-use Rattle.sv_files.specs.declared.file.File.{File}
-use Rattle.sv_realm.specs.declared.user.User.{User}
+use Rattle.sv_files.specs.declared.files.File.{File}
+use Rattle.sv_realm.specs.declared.account.User.{User}
 use Rattle.sv_program.specs.Configuration.{Step, descriptor_in, users_in}
 use Rattle.sv_program.specs.declared.command_fault.CommandFault.TheVariants as fault
 use Rattle.sv_program.specs.declared.configuration.ContextTexts.{ContextTexts}

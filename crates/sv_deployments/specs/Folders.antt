@@ -1,7 +1,7 @@
 -- The folders of a server's static files, in the order of their readings.
 use Rattle.std.specs.Prelude.{◌≡◌, ℕ, List, [], ◌∷◌, map, flat_map, Option}
 use Rattle.std.specs.Path.{path_with_file_name}
-use Rattle.sv_files.specs.declared.file.File.{File}
+use Rattle.sv_files.specs.declared.files.File.{File}
 use Rattle.sv_program.specs.declared.configuration.ContextTexts.{ContextTexts}
 use Rattle.sv_deployments.specs.declared.folders.FoundContext.{FoundContext}
 

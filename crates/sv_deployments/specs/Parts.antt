@@ -2,12 +2,12 @@
 use Rattle.std.specs.Prelude.{ℕ, List, [], ◌∷◌, Result, Ok, Err}
 use Rattle.std.specs.Option.{ok_or}
 use Rattle.sv_text.specs.Steps.{◌>>=◌}
-use Rattle.sv_component.specs.declared.named.Named.{Named}
+use Rattle.sv_component.specs.declared.components.Named.{Named}
 use Rattle.sv_descriptor.specs.declared.filter.FilterEntry.{FilterEntry}
 use Rattle.sv_descriptor.specs.declared.listener.ListenerEntry.{ListenerEntry}
 use Rattle.sv_descriptor.specs.declared.servlet.ServletEntry.{ServletEntry}
 use Rattle.sv_descriptor.specs.declared.web_app.WebApp.{WebApp}
-use Rattle.sv_live.specs.declared.parts.Parts as lifecycle
+use Rattle.sv_live.specs.declared.live.Parts as lifecycle
 use Rattle.sv_deployments.specs.FilterClasses.{new_filter}
 use Rattle.sv_deployments.specs.ListenerClasses.{new_listener}
 use Rattle.sv_deployments.specs.ServletClasses.{new_servlet}

@@ -4,8 +4,7 @@ ghost use Rattle.std.specs.Prelude.{◌≡◌, length, IfOk};
 ghost use Rattle.sv_deployments.specs.Configuration as spec;
 
 use crate::deploying::{ProgramDeployment, deployments_in};
-use crate::folder_store::FolderStore;
-use crate::folders::read_folders;
+use crate::folders::{FolderStore, read_folders};
 use std::alloc::Global;
 use sv_descriptor::Server;
 use sv_program::{CommandFault, FileStore, read_contexts, read_server_file};

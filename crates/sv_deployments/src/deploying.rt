@@ -1,14 +1,21 @@
 //! The deployments of a server's contexts.
 
-ghost use Rattle.sv_text.specs.Gives.{Gives};
-ghost use Rattle.sv_deployments.specs.Parts.{components, seen};
-ghost use Rattle.sv_program.specs.CommandFault.{command_fault};
-ghost use Rattle.sv_program.specs.Configuration.{each};
+ghost use Rattle.std.specs.Prelude.{◌≡◌};
 ghost use Rattle.sv_deployments.specs.Deployments as spec;
 ghost use Rattle.sv_deployments.specs.Files.{files_in, listed_files};
+ghost use Rattle.sv_deployments.specs.Parts.{components, seen};
+ghost use Rattle.sv_deployments.specs.Results.{both};
+ghost use Rattle.sv_program.specs.CommandFault.{command_fault};
+ghost use Rattle.sv_program.specs.Configuration.{each};
+ghost use Rattle.sv_text.specs.Gives.{Gives};
 
+use crate::class_fault::ClassFault;
+use crate::files::files_of;
 use crate::folders::FoundContext;
-use crate::{ClassFault, ProgramFilter, ProgramListener, ProgramServlet, both, files_of, parts_of};
+use crate::parts::parts_of;
+use crate::program_filter::ProgramFilter;
+use crate::program_listener::ProgramListener;
+use crate::program_servlet::ProgramServlet;
 use std::alloc::Global;
 use sv_descriptor::{ContextEntry, Descriptor};
 use sv_files::{File, Files};
@@ -120,5 +127,22 @@ fn parts_in(
         Ok(parts) => Ok(parts),
         Err(ClassFault::UnknownClass(class)) => Err(CommandFault::Class(class)),
         Err(ClassFault::NoMemory) => Err(CommandFault::NoMemory),
+    }
+}
+
+/// Returns both values.
+///
+/// # Errors
+/// The fault of the first result, else that of the other.
+pub fn both<A: Drop, B: Drop>(
+    one: Result<A, CommandFault>,
+    other: Result<B, CommandFault>,
+) -> Result<(A, B), CommandFault>
+    ensures { result ≡ both one other }
+{
+    match (one, other) {
+        (Ok(one), Ok(other)) => Ok((one, other)),
+        (Err(fault), _) => Err(fault),
+        (_, Err(fault)) => Err(fault),
     }
 }

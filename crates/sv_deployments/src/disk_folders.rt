@@ -1,9 +1,9 @@
 //! The folders of the operating system. No contract describes their contents, only how much of them is read.
 
 ghost use Rattle.std.specs.Prelude.{◌≡◌, ◌+◌, ◌≤◌, IfOk, IfSome, length, nat_lt};
-ghost use Rattle.sv_files.specs.declared.limits.TheConstants.{MAX_FILES};
+ghost use Rattle.sv_files.specs.declared.files.TheConstants.{MAX_FILES};
 
-use crate::folder_store::FolderStore;
+use crate::folders::FolderStore;
 use std::alloc::Global;
 use std::fs::{DirEntry, read_dir};
 use std::io::{ErrorKind, Read};

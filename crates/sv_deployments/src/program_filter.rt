@@ -3,7 +3,9 @@
 ghost use Rattle.std.specs.Prelude.{◌≡◌};
 ghost use Rattle.sv_deployments.specs.FilterClasses.{new_filter};
 
-use crate::{Bad, Halt, Mark};
+use crate::bad::Bad;
+use crate::halt::Halt;
+use crate::mark::Mark;
 use std::alloc::Global;
 use sv_component::{Config, Exchange, Filter, Gate, Init};
 use sv_text::NoMemory;

@@ -3,7 +3,7 @@
 ghost use Rattle.std.specs.Prelude.{◌≡◌};
 ghost use Rattle.sv_deployments.specs.ListenerClasses.{new_listener};
 
-use crate::Log;
+use crate::log::Log;
 use sv_component::{Event, Listener};
 
 /// A listener of one of the program's classes.

@@ -3,7 +3,17 @@
 ghost use Rattle.std.specs.Prelude.{◌≡◌};
 ghost use Rattle.sv_deployments.specs.ServletClasses.{new_servlet};
 
-use crate::{Bye, ErrorCode, Fail, Go, Gone, Keep, Nest, Out, Paths, Stream, Who};
+use crate::bye::Bye;
+use crate::error::ErrorCode;
+use crate::fail::Fail;
+use crate::go::Go;
+use crate::gone::Gone;
+use crate::keep::Keep;
+use crate::nest::Nest;
+use crate::out::Out;
+use crate::paths::Paths;
+use crate::stream::Stream;
+use crate::who::Who;
 use std::alloc::Global;
 use sv_component::{Config, Exchange, Init, Servlet, Step};
 

@@ -3,7 +3,7 @@ use Rattle.std.proofs.Common.{◌≡◌, ℕ, ◌*◌, Bool, true, false, not, c
 use Rattle.std.specs.Prelude.{if◌then◌else◌}
 use Rattle.std.specs.List.{All}
 use Rattle.toml.specs.Data.{Members}
-use Rattle.sv_realm.specs.declared.user.User.{User}
+use Rattle.sv_realm.specs.declared.account.User.{User}
 use Rattle.sv_descriptor.specs.Fault.{refuse, check}
 use Rattle.sv_descriptor.specs.ListOf.{list_of_texts, list_of_tables}
 use Rattle.sv_descriptor.specs.Names.{Differ, repeats}

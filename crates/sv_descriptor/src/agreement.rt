@@ -9,10 +9,11 @@ ghost use Rattle.sv_descriptor.specs.Servlet.{is_reserved_servlet};
 ghost use Rattle.sv_descriptor.specs.Fault.{fault};
 ghost use Rattle.sv_descriptor.specs.Table.{is_among, texts as texts_of};
 
+use crate::fault::{FaultCode, ReadFault, refuse};
 use crate::filter::FilterMapping;
+use crate::names::{Names, distinct_names, repeats};
 use crate::servlet::{ServletMapping, is_reserved_servlet};
 use crate::web_app::WebApp;
-use crate::{FaultCode, Names, ReadFault, distinct_names, refuse, repeats};
 use std::alloc::Global;
 use sv_mapping::Pattern;
 use sv_text::{NoMemory, Text};

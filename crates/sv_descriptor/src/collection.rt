@@ -9,13 +9,14 @@ ghost use Rattle.sv_descriptor.specs.Collection as spec;
 ghost use Rattle.sv_descriptor.specs.Fault.{fault};
 ghost use Rattle.sv_descriptor.specs.ListOf.{is_array};
 
+use crate::fault::{FaultCode, ReadFault, refuse};
 use crate::ignored::{IgnoredText, element_keys};
-use crate::limits::{MAX_METHOD_BYTES, MAX_PATTERNS_OF_CONSTRAINT};
+use crate::limits::{MAX_LIST_ITEMS, MAX_METHOD_BYTES, MAX_PATTERNS_OF_CONSTRAINT};
+use crate::list::{ListOf, list_items};
 use crate::pattern::{UrlPattern, UrlPatterns};
-use crate::{
-    FaultCode, ListOf, MAX_LIST_ITEMS, ReadFault, Schema, TableOf, TableSchema, TextOf, TextSchema,
-    is_within, list_items, optional, refuse, required,
-};
+use crate::schema::{Schema, optional, required};
+use crate::table::{TableOf, TableSchema};
+use crate::text::{TextOf, TextSchema, is_within};
 use http_header::is_token_char;
 use std::alloc::Global;
 use sv_constraints::{Collection, Methods};

@@ -5,7 +5,7 @@ ghost use Rattle.toml.specs.View.{table_view};
 ghost use Rattle.sv_descriptor.specs.Components.{components};
 ghost use Rattle.sv_descriptor.specs.Fault.{fault};
 
-use crate::ReadFault;
+use crate::fault::ReadFault;
 use crate::filter::{FilterEntry, FilterMapping, FilterMappingTable, FilterTable};
 use crate::listener::{ListenerEntry, ListenerTable};
 use crate::servlet::{ServletEntry, ServletMapping, ServletMappingTable, ServletTable};

@@ -5,11 +5,13 @@ ghost use Rattle.sv_descriptor.specs.Constraint as spec;
 ghost use Rattle.sv_descriptor.specs.ListOf.{is_array};
 
 use crate::collection::Collections;
+use crate::fault::{FaultCode, ReadFault, refuse};
 use crate::ignored::element_keys;
-use crate::{
-    FaultCode, ListOf, MAX_LIST_ITEMS, Name, ReadFault, Schema, TableOf, TableSchema, TextOf,
-    TextSchema, list_or_empty, optional_or, refuse, required,
-};
+use crate::limits::MAX_LIST_ITEMS;
+use crate::list::ListOf;
+use crate::schema::{Schema, list_or_empty, optional_or, required};
+use crate::table::{TableOf, TableSchema};
+use crate::text::{Name, TextOf, TextSchema};
 use std::alloc::Global;
 use sv_constraints::{Auth, Constraint, Transport};
 use sv_text::Listed;

@@ -4,7 +4,8 @@ ghost use Rattle.std.specs.Prelude.{◌≡◌};
 ghost use Rattle.sv_text.specs.Gives.{GivesAnswer};
 ghost use Rattle.sv_descriptor.specs.ContextPath as spec;
 
-use crate::{FaultCode, ReadFault, TextSchema, refuse};
+use crate::fault::{FaultCode, ReadFault, refuse};
+use crate::text::TextSchema;
 use std::alloc::Global;
 use sv_text::{NoMemory, Text};
 use sv_uri::canon;

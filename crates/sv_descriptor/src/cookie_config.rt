@@ -5,12 +5,13 @@ ghost use Rattle.std.specs.List.{list_all};
 ghost use Rattle.sv_descriptor.specs.CookieConfig as spec;
 
 use crate::collection::is_token_text;
+use crate::fault::{FaultCode, ReadFault, refuse};
 use crate::ignored::element_keys;
-use crate::limits::{MAX_COOKIE_AGE, MAX_COOKIE_PATH_BYTES};
-use crate::{
-    FaultCode, MAX_NAME_BYTES, ReadFault, TableSchema, TextOf, TextSchema, Truth, WholeOf,
-    WholeSchema, is_within, optional, optional_or, refuse,
-};
+use crate::limits::{MAX_COOKIE_AGE, MAX_COOKIE_PATH_BYTES, MAX_NAME_BYTES};
+use crate::schema::{optional, optional_or};
+use crate::table::TableSchema;
+use crate::text::{TextOf, TextSchema, is_within};
+use crate::whole::{Truth, WholeOf, WholeSchema};
 use std::alloc::Global;
 use sv_message::CookieSettings;
 use sv_text::Text;

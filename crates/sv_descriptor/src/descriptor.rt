@@ -7,8 +7,10 @@ ghost use Rattle.sv_descriptor.specs.WellFormed.{IsWellFormed};
 ghost use Rattle.sv_descriptor.specs.Fault.{fault};
 
 use crate::agreement::check_agreement;
+use crate::document::read_document;
+use crate::fault::ReadFault;
+use crate::table::TableSchema;
 use crate::web_app::{WebApp, read_web_app};
-use crate::{ReadFault, TableSchema, read_document};
 use std::alloc::Global;
 use std::marker::Model;
 use toml::Table;

@@ -4,13 +4,14 @@ ghost use Rattle.sv_text.specs.Gives.{Gives};
 ghost use Rattle.sv_descriptor.specs.ErrorPage as spec;
 ghost use Rattle.sv_descriptor.specs.Fault.{fault};
 
+use crate::fault::{FaultCode, ReadFault, refuse};
 use crate::ignored::element_keys;
 use crate::limits::{MAX_ERROR_CODE, MIN_ERROR_CODE};
 use crate::location::{Location, PageLocation};
-use crate::{
-    FaultCode, Name, NumberBetween, ReadFault, TableSchema, TextOf, WholeOf, optional, refuse,
-    required,
-};
+use crate::schema::{optional, required};
+use crate::table::TableSchema;
+use crate::text::{Name, TextOf};
+use crate::whole::{NumberBetween, WholeOf};
 use std::alloc::Global;
 use sv_text::Text;
 use toml::Table;

@@ -5,13 +5,16 @@ ghost use Rattle.toml.specs.View.{table_view};
 ghost use Rattle.sv_descriptor.specs.Filter as spec;
 ghost use Rattle.sv_descriptor.specs.Fault.{fault};
 
+use crate::fault::{FaultCode, ReadFault, refuse};
 use crate::ignored::element_keys;
 use crate::init_param::{InitParam, InitParams};
+use crate::limits::MAX_LIST_ITEMS;
+use crate::list::ListOf;
+use crate::names::Named;
 use crate::pattern::{UrlPattern, UrlPatterns};
-use crate::{
-    FaultCode, ListOf, MAX_LIST_ITEMS, Name, Named, ReadFault, TableOf, TableSchema, TextOf,
-    TextSchema, has_key, list_or_empty, refuse, required,
-};
+use crate::schema::{has_key, list_or_empty, required};
+use crate::table::{TableOf, TableSchema};
+use crate::text::{Name, TextOf, TextSchema};
 use std::alloc::Global;
 use sv_mapping::{Kind, Pattern};
 use sv_text::{Listed, Text};

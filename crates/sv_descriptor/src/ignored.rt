@@ -6,7 +6,9 @@ ghost use Rattle.sv_descriptor.specs.Ignored as spec;
 ghost use Rattle.sv_descriptor.specs.Fault.{fault};
 ghost use Rattle.sv_descriptor.specs.Table.{texts};
 
-use crate::{ReadFault, TextSchema, only_keys};
+use crate::fault::ReadFault;
+use crate::table::only_keys;
+use crate::text::TextSchema;
 use std::alloc::Global;
 use toml::Table;
 

@@ -2,7 +2,10 @@
 
 ghost use Rattle.sv_descriptor.specs.InitParam.{init_params};
 
-use crate::{AnyText, ReadFault, Schema, TableSchema, TextOf};
+use crate::fault::ReadFault;
+use crate::schema::Schema;
+use crate::table::TableSchema;
+use crate::text::{AnyText, TextOf};
 use std::alloc::Global;
 use sv_text::{Listed, Text};
 use toml::Table;

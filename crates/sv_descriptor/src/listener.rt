@@ -2,8 +2,11 @@
 
 ghost use Rattle.sv_descriptor.specs.Listener.{listener};
 
+use crate::fault::ReadFault;
 use crate::ignored::element_keys;
-use crate::{Name, ReadFault, TableSchema, TextOf, required};
+use crate::schema::required;
+use crate::table::TableSchema;
+use crate::text::{Name, TextOf};
 use std::alloc::Global;
 use sv_text::Text;
 use toml::Table;

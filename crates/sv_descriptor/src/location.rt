@@ -5,7 +5,8 @@ ghost use Rattle.sv_text.specs.Gives.{GivesAnswer};
 ghost use Rattle.sv_uri.specs.Canonical.{begins_with_slash};
 ghost use Rattle.sv_descriptor.specs.Location as spec;
 
-use crate::{FaultCode, ReadFault, TextSchema, refuse};
+use crate::fault::{FaultCode, ReadFault, refuse};
+use crate::text::TextSchema;
 use std::alloc::Global;
 use std::marker::Model;
 use sv_text::{NoMemory, Text};

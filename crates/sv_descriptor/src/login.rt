@@ -2,9 +2,12 @@
 
 ghost use Rattle.sv_descriptor.specs.Login as spec;
 
+use crate::fault::{FaultCode, ReadFault, refuse};
 use crate::ignored::element_keys;
 use crate::location::{Location, PageLocation};
-use crate::{FaultCode, ReadFault, TableOf, TableSchema, TextOf, TextSchema, refuse, required};
+use crate::schema::required;
+use crate::table::{TableOf, TableSchema};
+use crate::text::{TextOf, TextSchema};
 use std::alloc::Global;
 use toml::Table;
 

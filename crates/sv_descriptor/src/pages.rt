@@ -6,9 +6,11 @@ ghost use Rattle.sv_descriptor.specs.Pages.{pages};
 ghost use Rattle.sv_descriptor.specs.Fault.{fault};
 
 use crate::error_page::{ErrorPage, ErrorPageTable};
+use crate::fault::ReadFault;
+use crate::schema::list_or_empty;
+use crate::table::TableOf;
 use crate::tables::tables;
 use crate::welcome_file::WelcomeFileTable;
-use crate::{ReadFault, TableOf, list_or_empty};
 use std::alloc::Global;
 use sv_text::{Listed, Text};
 use toml::Table;

@@ -2,7 +2,9 @@
 
 ghost use Rattle.sv_descriptor.specs.Pattern.{pattern};
 
-use crate::{FaultCode, ListOf, ReadFault, TextOf, TextSchema, refuse};
+use crate::fault::{FaultCode, ReadFault, refuse};
+use crate::list::ListOf;
+use crate::text::{TextOf, TextSchema};
 use std::alloc::Global;
 use sv_mapping::{Pattern, PatternFault};
 

@@ -3,8 +3,11 @@
 ghost use Rattle.std.specs.Prelude.{◌≡◌};
 ghost use Rattle.sv_descriptor.specs.Role as spec;
 
+use crate::fault::{FaultCode, ReadFault, refuse};
 use crate::ignored::element_keys;
-use crate::{FaultCode, Name, ReadFault, TableSchema, TextOf, TextSchema, refuse, required};
+use crate::schema::required;
+use crate::table::TableSchema;
+use crate::text::{Name, TextOf, TextSchema};
 use std::alloc::Global;
 use sv_text::Text;
 use toml::Table;

@@ -6,10 +6,12 @@ ghost use Rattle.sv_descriptor.specs.Security.{security};
 ghost use Rattle.sv_descriptor.specs.Fault.{fault};
 
 use crate::constraint::Constraints;
+use crate::fault::ReadFault;
 use crate::login::{FormLogin, LoginTable};
 use crate::role::RoleTable;
+use crate::schema::{list_or_empty, optional};
+use crate::table::TableOf;
 use crate::tables::tables;
-use crate::{ReadFault, TableOf, list_or_empty, optional};
 use std::alloc::Global;
 use sv_constraints::{Constraint, Rules};
 use sv_text::Listed;

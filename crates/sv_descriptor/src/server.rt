@@ -6,11 +6,15 @@ ghost use Rattle.sv_descriptor.specs.Server as spec;
 ghost use Rattle.sv_descriptor.specs.Fault.{fault};
 
 use crate::context_path::ContextPath;
-use crate::limits::{MAX_PORT, SEED_DIGITS};
-use crate::{
-    AnyText, FaultCode, HexText, ListOf, NO_LIMIT, Named, NumberBetween, ReadFault, TableOf,
-    TableSchema, TextOf, WholeOf, only_keys, optional, read_document, refuse, repeats, required,
-};
+use crate::document::read_document;
+use crate::fault::{FaultCode, ReadFault, refuse};
+use crate::limits::{MAX_PORT, NO_LIMIT, SEED_DIGITS};
+use crate::list::ListOf;
+use crate::names::{Named, repeats};
+use crate::schema::{optional, required};
+use crate::table::{TableOf, TableSchema, only_keys};
+use crate::text::{AnyText, HexText, TextOf};
+use crate::whole::{NumberBetween, WholeOf};
 use std::alloc::Global;
 use sv_text::{Bytes, Listed, Text};
 use toml::Table;

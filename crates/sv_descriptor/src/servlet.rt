@@ -3,13 +3,16 @@
 ghost use Rattle.std.specs.Prelude.{◌≡◌};
 ghost use Rattle.sv_descriptor.specs.Servlet as spec;
 
+use crate::fault::{FaultCode, ReadFault, refuse};
 use crate::ignored::element_keys;
 use crate::init_param::{InitParam, InitParams};
+use crate::limits::MAX_LIST_ITEMS;
+use crate::names::Named;
 use crate::pattern::{UrlPattern, UrlPatterns};
-use crate::{
-    FaultCode, MAX_LIST_ITEMS, Name, Named, ReadFault, TableOf, TableSchema, TextOf, TextSchema,
-    WholeOf, WholeSchema, list_or_empty, optional, refuse, required,
-};
+use crate::schema::{list_or_empty, optional, required};
+use crate::table::{TableOf, TableSchema};
+use crate::text::{Name, TextOf, TextSchema};
+use crate::whole::{WholeOf, WholeSchema};
 use std::alloc::Global;
 use sv_mapping::Pattern;
 use sv_text::{Listed, Text};

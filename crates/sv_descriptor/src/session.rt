@@ -7,12 +7,13 @@ ghost use Rattle.sv_descriptor.specs.Session as spec;
 ghost use Rattle.sv_descriptor.specs.Fault.{fault};
 
 use crate::cookie_config::CookieTable;
+use crate::fault::{FaultCode, ReadFault, refuse};
 use crate::ignored::element_keys;
 use crate::limits::{DEFAULT_SESSION_TIMEOUT, MAX_SESSION_TIMEOUT};
+use crate::schema::optional_or;
+use crate::table::{TableOf, TableSchema};
 use crate::version::Version;
-use crate::{
-    FaultCode, ReadFault, TableOf, TableSchema, WholeOf, WholeSchema, optional_or, refuse,
-};
+use crate::whole::{WholeOf, WholeSchema};
 use std::alloc::Global;
 use sv_message::CookieSettings;
 use sv_text::NoMemory;

@@ -7,7 +7,11 @@ ghost use Rattle.sv_descriptor.specs.Tables as spec;
 ghost use Rattle.sv_descriptor.specs.Fault.{fault};
 ghost use Rattle.sv_descriptor.specs.Table.{optional_or};
 
-use crate::{ListOf, MAX_LIST_ITEMS, ReadFault, TableOf, TableSchema, list_or_empty};
+use crate::fault::ReadFault;
+use crate::limits::MAX_LIST_ITEMS;
+use crate::list::ListOf;
+use crate::schema::list_or_empty;
+use crate::table::{TableOf, TableSchema};
 use std::alloc::Global;
 use sv_text::Listed;
 use toml::Table;

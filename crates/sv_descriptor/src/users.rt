@@ -6,11 +6,14 @@ ghost use Rattle.sv_descriptor.specs.Users as spec;
 ghost use Rattle.sv_descriptor.specs.Fault.{fault};
 ghost use Rattle.sv_descriptor.specs.Table.{texts};
 
-use crate::limits::{DIGEST_DIGITS, MAX_SALT_DIGITS};
-use crate::{
-    FaultCode, HexText, ListOf, MAX_LIST_ITEMS, Name, ReadFault, TableOf, TableSchema, TextOf,
-    only_keys, read_document, refuse, repeats, required,
-};
+use crate::document::read_document;
+use crate::fault::{FaultCode, ReadFault, refuse};
+use crate::limits::{DIGEST_DIGITS, MAX_LIST_ITEMS, MAX_SALT_DIGITS};
+use crate::list::ListOf;
+use crate::names::repeats;
+use crate::schema::required;
+use crate::table::{TableOf, TableSchema, only_keys};
+use crate::text::{HexText, Name, TextOf};
 use std::alloc::Global;
 use sv_realm::User;
 use sv_text::{Listed, NoMemory};

@@ -6,8 +6,10 @@ ghost use Rattle.toml.specs.View.{table_view};
 ghost use Rattle.sv_descriptor.specs.Version as spec;
 ghost use Rattle.sv_descriptor.specs.Fault.{fault};
 
+use crate::fault::ReadFault;
 use crate::limits::{MAX_SESSIONS_OF_VERSION_1, MAX_SESSIONS_OF_VERSION_2};
-use crate::{NumberBetween, ReadFault, WholeOf, optional};
+use crate::schema::optional;
+use crate::whole::{NumberBetween, WholeOf};
 use std::alloc::Global;
 use toml::Table;
 

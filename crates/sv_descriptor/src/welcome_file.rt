@@ -3,10 +3,13 @@
 ghost use Rattle.std.specs.Prelude.{◌≡◌};
 ghost use Rattle.sv_descriptor.specs.WelcomeFile as spec;
 
+use crate::fault::{FaultCode, ReadFault, refuse};
 use crate::ignored::element_keys;
-use crate::{
-    FaultCode, ListOf, MAX_LIST_ITEMS, ReadFault, TableSchema, TextOf, TextSchema, refuse, required,
-};
+use crate::limits::MAX_LIST_ITEMS;
+use crate::list::ListOf;
+use crate::schema::required;
+use crate::table::TableSchema;
+use crate::text::{TextOf, TextSchema};
 use std::alloc::Global;
 use sv_text::{Listed, Text};
 use toml::Table;

@@ -10,8 +10,8 @@ use Rattle.sv_tree.specs.Does.{Does, ◌>>=◌, ◌>>◌, becomes, gives, leaves
 use Rattle.sv_tree.specs.Endings.{errs, error_status, fails, faults, is_away_for, is_missing}
 use Rattle.sv_tree.specs.Filters.{Afters, Befores, Reached}
 use Rattle.sv_tree.specs.Site.{Chosen, FileAnswer, Site, begun_by, chosen, name_of}
-use Rattle.sv_tree.specs.declared.resource.Resource.TheVariants.{Files, Servlet}
-use Rattle.sv_tree.specs.declared.resource.Resource.{Resource}
+use Rattle.sv_tree.specs.declared.site.Resource.TheVariants.{Files, Servlet}
+use Rattle.sv_tree.specs.declared.site.Resource.{Resource}
 use Rattle.sv_tree.specs.State.{State, away_for, on_exchange}
 use Rattle.sv_tree.specs.Files as files
 use Rattle.sv_tree.specs.Tree as tree

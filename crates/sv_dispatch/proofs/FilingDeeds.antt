@@ -9,7 +9,7 @@ use Rattle.sv_tree.specs.Does.{Does, ◌>>◌, becomes, choose, gives, makes, se
 use Rattle.sv_tree.specs.Endings.{faults}
 use Rattle.sv_tree.specs.Files.{Sends, SendsTo, emptied}
 use Rattle.sv_tree.specs.Site.{Site}
-use Rattle.sv_tree.specs.declared.resource.Resource.TheVariants.{Files}
+use Rattle.sv_tree.specs.declared.site.Resource.TheVariants.{Files}
 use Rattle.sv_tree.specs.State.{State, on_exchange}
 use Rattle.sv_tree.specs.declared.dispatch_fault.DispatchFault.TheVariants.{TooLarge}
 use Rattle.sv_tree.specs.declared.finished.Finished.{Finished}

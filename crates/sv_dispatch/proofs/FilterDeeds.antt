@@ -11,7 +11,7 @@ use Rattle.sv_tree.specs.Does.{Does, ◌>>=◌, ◌>>◌, becomes, choose, gives
 use Rattle.sv_tree.specs.Endings.{fails, faults}
 use Rattle.sv_tree.specs.Filters.{Afters, Befores, Gated, Reached, after_of, before_of, ends_behind}
 use Rattle.sv_tree.specs.Site.{Site}
-use Rattle.sv_tree.specs.declared.resource.Resource.{Resource}
+use Rattle.sv_tree.specs.declared.site.Resource.{Resource}
 use Rattle.sv_tree.specs.State.{State, counted, is_full}
 use Rattle.sv_tree.specs.declared.dispatch_fault.DispatchFault.TheVariants.{DispatchLimit}
 use Rattle.sv_tree.specs.declared.finished.Finished.{Finished}

@@ -22,7 +22,7 @@ use Rattle.sv_tree.specs.Tree.{Tree, last, service_of}
 use Rattle.sv_tree.specs.declared.dispatch_fault.DispatchFault.TheVariants.{DispatchLimit}
 use Rattle.sv_tree.specs.declared.finished.Finished.{Finished}
 use Rattle.sv_tree.specs.declared.limits.TheConstants.{MAX_CALLS}
-use Rattle.sv_tree.specs.declared.resource.Resource.TheVariants.{Servlet}
+use Rattle.sv_tree.specs.declared.site.Resource.TheVariants.{Servlet}
 use Rattle.sv_tree.proofs.Counting.{turn_counts}
 use Rattle.sv_tree.proofs.Doing.{absurd_result, becomes_then, chosen_then}
 use Rattle.sv_dispatch.proofs.Deeds.{Makes, did_by, did_first, did_last, did_not, did_other, did_see, did_then}

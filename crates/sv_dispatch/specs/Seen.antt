@@ -2,8 +2,8 @@
 use Rattle.std.specs.Prelude.{◌≡◌, ℕ, Bool, true, false, List, codes, decimal, length, Option, Some, None, slice_index_or}
 use Rattle.sv_component.specs.Standing.{is_gone}
 use Rattle.sv_component.specs.declared.standing.Standing.TheVariants.{Gone}
-use Rattle.sv_dispatch.specs.declared.error_field.ErrorField.{ErrorField}
-use Rattle.sv_dispatch.specs.declared.error_field.ErrorField.TheVariants as fields
+use Rattle.sv_dispatch.specs.declared.parts.ErrorField.{ErrorField}
+use Rattle.sv_dispatch.specs.declared.parts.ErrorField.TheVariants as fields
 use Rattle.sv_exchange.specs.Changing.{Write, has_room}
 use Rattle.sv_exchange.specs.declared.kept_error.KeptField.{KeptField}
 use Rattle.sv_tree.specs.Does.{Does, ◌>>◌, choose, gives, makes, sees}

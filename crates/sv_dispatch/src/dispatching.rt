@@ -4,17 +4,17 @@ ghost use Rattle.std.specs.Prelude.{◌≡◌, ◌<◌, ℕ, IfOk, None, OnErr, 
 ghost use Rattle.sv_component.specs.declared.answers.Step.TheVariants.{Unavailable};
 ghost use Rattle.sv_dispatch.specs.Did.{Did, seen};
 ghost use Rattle.sv_dispatch.specs.Seen.{IsHere};
-ghost use Rattle.sv_tree.specs.declared.resource.Resource.TheVariants.{Files, Servlet};
+ghost use Rattle.sv_tree.specs.declared.site.Resource.TheVariants.{Files, Servlet};
 ghost use Rattle.sv_tree.specs.Does.{tries};
 ghost use Rattle.sv_tree.specs.State.{on_exchange};
 ghost use Rattle.sv_tree.specs.Site.{begun_by, chosen};
 ghost use Rattle.sv_tree.specs.Tree.{Dispatches, Responds, Serves, Stepped, Tree, Turn, Within, behind_include, is_too_late};
 
 use crate::endings::{away_for, err, error_status, fail, fault, lasting, missing};
-use crate::error_field::ErrorField;
 use crate::filing::filed;
 use crate::filters::{afters, befores};
 use crate::machine::Machine;
+use crate::parts::ErrorField;
 use crate::tables::Tables;
 use std::alloc::Global;
 use sv_component::{Standing, Step};

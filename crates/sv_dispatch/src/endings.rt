@@ -6,9 +6,9 @@ ghost use Rattle.sv_dispatch.specs.Seen.{field_of};
 ghost use Rattle.sv_tree.specs.Endings.{error_status, errs, errs_with, fails, faults, is_away_for, is_missing, is_not_allowed};
 ghost use Rattle.sv_message.specs.Phrases.{phrase_of};
 
-use crate::error_field::ErrorField;
 use crate::machine::Machine;
-use crate::phrase::phrase_of;
+use crate::parts::ErrorField;
+use crate::plain_answer::phrase_of;
 use crate::tables::Tables;
 use std::alloc::Global;
 use sv_text::{NoMemory, Text};

@@ -4,14 +4,12 @@
 
 mod dispatching;
 mod endings;
-mod error_field;
 mod filing;
 mod filters;
 mod live_dispatch;
 mod machine;
 mod pages;
 mod parts;
-mod phrase;
 mod plain_answer;
 mod running;
 mod serving;

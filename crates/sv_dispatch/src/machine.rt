@@ -1,6 +1,6 @@
 //! The elementary steps of a dispatch: one method for each step of the model.
 
-use crate::error_field::ErrorField;
+use crate::parts::ErrorField;
 use sv_component::{Gate, Standing, Step};
 use sv_mapping::Kind;
 use sv_text::NoMemory;

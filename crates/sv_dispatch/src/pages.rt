@@ -11,8 +11,7 @@ ghost use Rattle.sv_text.specs.Gives.{GivesAnswer};
 ghost use Rattle.sv_tree.specs.Served.{Pages, Shown, Shows, ShowsError, kept_field};
 
 use crate::live_dispatch::dispatch;
-use crate::phrase::phrase_of;
-use crate::plain_answer::{plain, plain_unless_committed, reset};
+use crate::plain_answer::{phrase_of, plain, plain_unless_committed, reset};
 use std::alloc::Global;
 use sv_component::{Exchange, Filter, Listener, Servlet};
 use sv_exchange::{KeptError, KeptField};

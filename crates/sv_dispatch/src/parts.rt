@@ -1,18 +1,17 @@
 //! Parts of a machine's steps: changes of the exchange, and results of components.
 
-ghost use Rattle.std.specs.Prelude.{◌≡◌, IfOk, None, OnErr, OnOk, Some, is_ok};
 ghost use Rattle.std.specs.Option.{option_copied};
+ghost use Rattle.std.specs.Prelude.{IfOk, None, OnErr, OnOk, Some, is_ok, ◌≡◌};
 ghost use Rattle.sv_dispatch.specs.Did.{seen};
 ghost use Rattle.sv_dispatch.specs.Running.{done_seen, gate_seen, made_seen, offer_seen, step_seen};
 ghost use Rattle.sv_dispatch.specs.Seen.{field_of};
 ghost use Rattle.sv_exchange.specs.Keeping.{with_kept};
 ghost use Rattle.sv_live.specs.Calling.{unless_broken};
-ghost use Rattle.sv_tree.specs.Seen.{chosen_seen};
 ghost use Rattle.sv_tree.specs.Files.{emptied};
+ghost use Rattle.sv_tree.specs.Seen.{chosen_seen};
 ghost use Rattle.sv_tree.specs.Site.{begun_by, emptied_for};
 ghost use Rattle.sv_tree.specs.State.{moment_after};
 
-use crate::error_field::ErrorField;
 use std::alloc::Global;
 use sv_component::{Exchange, Gate, Step};
 use sv_exchange::{ExchangeFault, KeptField};
@@ -202,4 +201,15 @@ pub(crate) fn moment_after(moment: u64, seconds: u64) -> u64
     ensures { result ≡ moment_after moment seconds }
 {
     moment.saturating_add(seconds)
+}
+
+/// The header field of an error that the container raises (RFC 9110, sections 10.2.1 and 10.2.3).
+#[derive(Clone, Copy, Debug, PartialEq, Eq)]
+pub(crate) enum ErrorField {
+    /// No field.
+    Nothing,
+    /// `allow`, with the methods that the file servlet supports.
+    Allow,
+    /// `retry-after`, with the number of seconds until the servlet is available again.
+    RetryAfter(u64),
 }

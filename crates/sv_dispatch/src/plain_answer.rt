@@ -1,13 +1,14 @@
 //! The plain text response to an error.
 
-ghost use Rattle.std.specs.Prelude.{◌≡◌, IfOk, string_bytes};
 ghost use Rattle.std.specs.Option.{option_copied};
+ghost use Rattle.std.specs.Prelude.{IfOk, string_bytes, ◌≡◌};
 ghost use Rattle.sv_dispatch.specs.Did.{seen};
 ghost use Rattle.sv_dispatch.specs.ServedBy.{Alone};
+ghost use Rattle.sv_message.specs.Phrases.{phrase_of};
 ghost use Rattle.sv_tree.specs.Served.{Plain, Resets, plain_text, sets, unless_committed};
 
 use crate::parts::made;
-use crate::phrase::phrase_of;
+use http::StatusCode;
 use std::alloc::Global;
 use sv_component::Exchange;
 use sv_exchange::KeptField;
@@ -85,4 +86,14 @@ fn plain_text(alloc: Global, status: u16) -> Result<String, NoMemory>
 {
     let phrase = phrase_of(status);
     Ok(format!(in alloc; "{status} {phrase}\n")?)
+}
+
+/// Returns the reason phrase of a status, or an empty text if it has none.
+pub(crate) fn phrase_of(status: u16) -> &'static str
+    ensures { result.now ≡ phrase_of status }
+{
+    match StatusCode::from_u16(status) {
+        Ok(code) => code.canonical_reason().unwrap_or(""),
+        Err(_) => "",
+    }
 }

@@ -1,10 +1,9 @@
 //! The machine over a started context, the exchange of a request and their journal.
 
-use crate::error_field::ErrorField;
 use crate::machine::Machine;
 use crate::parts::{
-    done_of, empty, enter, gate_of, keep_error, made, moment_after, offer, retired, step_of,
-    unless_broken,
+    ErrorField, done_of, empty, enter, gate_of, keep_error, made, moment_after, offer, retired,
+    step_of, unless_broken,
 };
 use crate::telling::tell_events;
 use std::alloc::Global;

@@ -13,7 +13,7 @@ pub(crate) trait Tables {
     ghost use Rattle.std.specs.List.{All};
     ghost use Rattle.sv_tree.specs.Seen.{chosen_seen, found_seen};
     ghost use Rattle.sv_tree.specs.Site.{Site, chosen, name_of};
-    ghost use Rattle.sv_tree.specs.declared.resource.Resource.TheVariants.{Servlet};
+    ghost use Rattle.sv_tree.specs.declared.site.Resource.TheVariants.{Servlet};
 
     /// The site of the model.
     ghost site: { Self → Site };

@@ -7,7 +7,7 @@ use Rattle.std.proofs.lemmas.List.{drop_at, length-append, set_at, take_at}
 use Rattle.std.proofs.lemmas.List.Filters.{length-filter_both}
 use Rattle.std.proofs.lemmas.Option.{none-some, same_Some}
 use Rattle.sv_message.specs.declared.field.Field.{Field}
-use Rattle.sv_exchange.specs.declared.attribute.Attribute.{Attribute}
+use Rattle.sv_exchange.specs.declared.attributes.Attribute.{Attribute}
 use Rattle.sv_exchange.specs.Attributes.{set_value}
 use Rattle.sv_exchange.specs.Fields.{field_of, is_called, set_field, without}
 

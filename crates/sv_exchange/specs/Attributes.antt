@@ -5,10 +5,10 @@ use Rattle.std.specs.List.{starts_with}
 use Rattle.std.specs.Option.{option_and_then, option_map_or}
 use Rattle.sv_mapping.specs.declared.kind.Kind.{Kind}
 use Rattle.sv_mapping.specs.declared.kind.Kind.TheVariants as kinds
-use Rattle.sv_exchange.specs.declared.attribute.Attribute.{Attribute}
+use Rattle.sv_exchange.specs.declared.attributes.Attribute.{Attribute}
 use Rattle.sv_exchange.specs.declared.dispatch.Dispatch.{Dispatch}
 use Rattle.sv_exchange.specs.Paths.{Paths}
-use Rattle.sv_exchange.specs.declared.told_error.ToldError.{ToldError}
+use Rattle.sv_exchange.specs.declared.kept_error.ToldError.{ToldError}
 use Rattle.sv_exchange.specs.State.{State}
 
 -- The names that only dispatches set.

@@ -7,7 +7,7 @@ use Rattle.sv_mapping.specs.declared.kind.Kind.TheVariants as kinds
 use Rattle.sv_exchange.specs.declared.dispatch.Dispatch.{Dispatch}
 use Rattle.sv_exchange.specs.Paths.{Paths}
 use Rattle.sv_exchange.specs.declared.kept_error.KeptError.{KeptError}
-use Rattle.sv_exchange.specs.declared.told_error.ToldError.{ToldError}
+use Rattle.sv_exchange.specs.declared.kept_error.ToldError.{ToldError}
 use Rattle.sv_exchange.specs.State.{State}
 
 -- The paths for a path in a context.

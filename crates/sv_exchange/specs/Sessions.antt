@@ -8,7 +8,7 @@ use Rattle.sv_realm.specs.declared.caller.Caller.{Caller}
 use Rattle.sv_session.specs.Calls as calls
 use Rattle.sv_session.specs.Id.{id_text}
 use Rattle.sv_session.specs.Store.{attributes_of}
-use Rattle.sv_session.specs.declared.attribute.Attribute.{Attribute}
+use Rattle.sv_session.specs.declared.slot.Attribute.{Attribute}
 use Rattle.sv_session.specs.declared.session_fault.SessionFault.{SessionFault}
 use Rattle.sv_session.specs.declared.session_fault.SessionFault.TheVariants as session_faults
 use Rattle.sv_text.specs.Faults.{when}

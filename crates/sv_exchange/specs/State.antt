@@ -9,7 +9,7 @@ use Rattle.sv_realm.specs.declared.caller.Caller.{Caller}
 use Rattle.sv_session.specs.Store.{Store}
 use Rattle.sv_message.specs.declared.cookie_settings.CookieSettings.{CookieSettings}
 use Rattle.sv_message.specs.declared.response.Cookie.{Cookie}
-use Rattle.sv_exchange.specs.declared.attribute.Attribute.{Attribute}
+use Rattle.sv_exchange.specs.declared.attributes.Attribute.{Attribute}
 use Rattle.sv_exchange.specs.declared.dispatch.Dispatch.{Dispatch}
 use Rattle.sv_exchange.specs.Paths.{Paths}
 use Rattle.sv_exchange.specs.declared.kept_error.KeptError.{KeptError}

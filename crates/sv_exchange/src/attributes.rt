@@ -1,13 +1,12 @@
 //! Attributes by name.
 
-ghost use Rattle.std.specs.Prelude.{◌≡◌, ◌<◌, length, position, reverse, bytes_eq, IfSome, OnOk, OnErr};
 ghost use Rattle.std.specs.Option.{option_copied};
+ghost use Rattle.std.specs.Prelude.{IfSome, OnErr, OnOk, bytes_eq, length, position, reverse, ◌<◌, ◌≡◌};
 ghost use Rattle.sv_exchange.specs.Attributes.{attribute_of, behind, is_reserved_attribute, rest_of, set_value, told_by, told_innermost, told_of, told_of_error, value_named};
 
-use crate::attribute::Attribute;
 use crate::dispatch::{Dispatch, Paths, shown};
 use crate::exchange::Exchange;
-use crate::told_error::ToldError;
+use crate::kept_error::ToldError;
 use std::alloc::Global;
 use sv_mapping::Kind;
 use sv_text::{NoMemory, Text};
@@ -164,4 +163,12 @@ fn told_of<'a>(rest: &[u8], context_path: &'a Text, paths: &'a Paths) -> Option<
     } else {
         None
     }
+}
+
+/// An attribute of a request: a name with a text (Jakarta Servlet 6.0, section 3.3).
+#[derive(Debug, Drop)]
+pub struct Attribute {
+    /// The name, which is case-sensitive. It may be empty.
+    pub name: Text,
+    pub value: Text,
 }

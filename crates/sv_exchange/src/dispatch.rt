@@ -6,7 +6,7 @@ ghost use Rattle.sv_text.specs.Gives.{GivesAnswer};
 ghost use Rattle.sv_exchange.specs.Dispatches.{is_include, paths_at};
 
 use crate::asked::{no_text, set_text};
-use crate::told_error::ToldError;
+use crate::kept_error::ToldError;
 use std::alloc::Global;
 use std::marker::Model;
 use sv_mapping::Kind;

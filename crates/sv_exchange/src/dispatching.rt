@@ -6,8 +6,7 @@ ghost use Rattle.sv_text.specs.Gives.{GivesAnswer};
 
 use crate::dispatch::copied;
 use crate::exchange::Exchange;
-use crate::kept_error::{KeptError, KeptField};
-use crate::told_error::ToldError;
+use crate::kept_error::{KeptError, KeptField, ToldError};
 use sv_mapping::Kind;
 use sv_message::Rare;
 use sv_text::{NoMemory, Text};

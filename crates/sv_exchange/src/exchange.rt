@@ -5,12 +5,11 @@ ghost use Rattle.sv_exchange.specs.Dispatches.{paths_at};
 ghost use Rattle.sv_exchange.specs.declared.limits.TheConstants.{OK};
 
 use crate::asked::{no_settings, no_text, set_settings, set_text};
-use crate::attribute::Attribute;
+use crate::attributes::Attribute;
 use crate::dispatch::{Paths, shown};
 use crate::dispatches::Dispatches;
 use crate::flushed::{Flushed, body_of};
-use crate::held_session::HeldSession;
-use crate::holding::{held_cookie, parts_of};
+use crate::holding::{HeldSession, held_cookie, parts_of};
 use crate::kept_error::KeptError;
 use crate::limits::{MAX_KEPT_BYTES, MAX_KEPT_FIELDS, OK};
 use http::Method;

@@ -1,14 +1,13 @@
 //! Queries on the session and the caller of a request.
 
-ghost use Rattle.std.specs.Prelude.{◌≡◌, bytes_eq};
 ghost use Rattle.std.specs.List.{list_any};
 ghost use Rattle.std.specs.Option.{option_and_then, option_copied, option_map};
-ghost use Rattle.sv_text.specs.Gives.{GivesAnswer};
+ghost use Rattle.std.specs.Prelude.{bytes_eq, ◌≡◌};
 ghost use Rattle.sv_exchange.specs.Beginning.{renewed_cookie};
 ghost use Rattle.sv_exchange.specs.Sessions.{context_cookie_path, cookie_of, cookie_path, is_in_role};
+ghost use Rattle.sv_text.specs.Gives.{GivesAnswer};
 
 use crate::exchange::Exchange;
-use crate::held_session::HeldSession;
 use std::alloc::Global;
 use sv_message::{Cookie, CookieSettings, Rare};
 use sv_realm::Caller;
@@ -175,4 +174,14 @@ fn context_cookie_path(alloc: Global, context_path: &str) -> Result<Text, NoMemo
     } else {
         Ok(Text::from_string(location(alloc, context_path)?))
     }
+}
+
+/// The session that a request holds when its exchange begins (Jakarta Servlet 6.0, section 7.1).
+#[derive(Drop)]
+pub struct HeldSession {
+    pub number: u64,
+    /// Whether the request's own message opened or renamed the session, so that the response sets its cookie.
+    pub is_renewed: bool,
+    /// The caller that the session holds.
+    pub caller: Rare<Caller>,
 }

@@ -3,7 +3,6 @@
 
 mod answered;
 mod asked;
-mod attribute;
 mod attributes;
 mod changing;
 mod dispatch;
@@ -14,7 +13,6 @@ mod exchange;
 mod exchange_fault;
 mod fields;
 mod flushed;
-mod held_session;
 mod holding;
 mod kept_error;
 mod laws;
@@ -24,16 +22,14 @@ mod parameters;
 mod reading;
 mod request;
 mod sessions;
-mod told_error;
 
-pub use attribute::Attribute;
+pub use attributes::Attribute;
 pub use dispatch::{Dispatch, Paths};
 pub use exchange::Exchange;
 pub use exchange_fault::ExchangeFault;
-pub use held_session::HeldSession;
-pub use kept_error::{KeptError, KeptField};
+pub use holding::HeldSession;
+pub use kept_error::{KeptError, KeptField, ToldError};
 pub use laws::{
     changes_are_calls, changes_keep_the_request, changes_move_the_sessions, includes_keep_the_head,
 };
 pub use limits::{LEAST_STATUS, MAX_BODY_LEN, MAX_STATUS, NOT_MODIFIED, OK, RESET_CONTENT};
-pub use told_error::ToldError;

@@ -5,7 +5,7 @@ use Rattle.std.proofs.lemmas.Bool.{and_from, and_parts, and_right, both_ways, ca
 use Rattle.std.proofs.lemmas.Slice.Eq.{bytes_eq-Decides}
 use Rattle.sv_files.specs.Below.{IsClosed, is_at_or_above, lies_below}
 use Rattle.sv_files.specs.Files.{is_folder}
-use Rattle.sv_files.specs.declared.file.File.{File}
+use Rattle.sv_files.specs.declared.files.File.{File}
 
 and_true : (b : Bool) → (b && true) ≡ b
 and_true true = refl

@@ -14,7 +14,7 @@ use Rattle.sv_files.specs.Below.{lies_below}
 use Rattle.sv_files.specs.Fault.{repeats}
 use Rattle.sv_files.specs.Index.{IsIndexOf}
 use Rattle.sv_files.specs.Files.{file_at, is_file, is_folder}
-use Rattle.sv_files.specs.declared.file.File.{File}
+use Rattle.sv_files.specs.declared.files.File.{File}
 use Rattle.sv_files.specs.declared.index.Index.{Index}
 
 -- ---- one more file, whose path is new

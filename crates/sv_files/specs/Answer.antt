@@ -7,7 +7,7 @@ use Rattle.sv_mapping.specs.declared.kind.Kind.TheVariants.{Request, Forward, In
 use Rattle.sv_files.specs.Files.{ends_in_slash, file_at, is_file, is_folder, is_served, welcome_paths}
 use Rattle.sv_files.specs.declared.answer.FileAnswer.{FileAnswer}
 use Rattle.sv_files.specs.declared.answer.FileAnswer.TheVariants as seen
-use Rattle.sv_files.specs.declared.file.File.{File}
+use Rattle.sv_files.specs.declared.files.File.{File}
 
 -- The bytes of a file; a redirect to a welcome path; a redirect to a folder, with a slash added; nothing found; or a
 -- method that is not allowed.

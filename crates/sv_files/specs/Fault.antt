@@ -5,8 +5,8 @@ use Rattle.sv_text.specs.Faults.{when, first_or}
 use Rattle.sv_files.specs.Files.{is_file, is_file_path}
 use Rattle.sv_files.specs.declared.fault.FilesFault.{FilesFault}
 use Rattle.sv_files.specs.declared.fault.FilesFault.TheVariants.{BadPath, Duplicate, TooMany, TooLarge, NoMemory}
-use Rattle.sv_files.specs.declared.file.File.{File}
-use Rattle.sv_files.specs.declared.limits.TheConstants.{MAX_FILES, MAX_FILE_BYTES}
+use Rattle.sv_files.specs.declared.files.File.{File}
+use Rattle.sv_files.specs.declared.files.TheConstants.{MAX_FILES, MAX_FILE_BYTES}
 
 -- Two files have the same path.
 abbrev pub repeats : List File → Bool

@@ -9,7 +9,7 @@ use Rattle.sv_uri.specs.LocationField.{location}
 use Rattle.sv_uri.specs.declared.fault.PathFault.{PathFault}
 use Rattle.sv_uri.specs.declared.path.Canon.{Canon}
 use Rattle.sv_files.specs.Below.{lies_below}
-use Rattle.sv_files.specs.declared.file.File.{File}
+use Rattle.sv_files.specs.declared.files.File.{File}
 
 abbrev pub ends_in_slash : List ℕ → Bool
 ends_in_slash path = ends_with nat_eq path (codes "/")

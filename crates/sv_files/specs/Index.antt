@@ -4,7 +4,7 @@ use Rattle.std.specs.HashMap.{get_by_text}
 use Rattle.std.specs.HashSet.{contains_text}
 use Rattle.std.specs.Str.{bytes_eq}
 use Rattle.sv_files.specs.Files.{is_folder}
-use Rattle.sv_files.specs.declared.file.File.{File}
+use Rattle.sv_files.specs.declared.files.File.{File}
 use Rattle.sv_files.specs.declared.index.Index.{Index}
 
 -- The index has exactly the paths of files, each with its position, and the paths of folders.

@@ -1,9 +1,9 @@
 //! The content types of files.
 
+ghost use Rattle.std.specs.Option.{option_copied};
 ghost use Rattle.std.specs.Prelude.{◌≡◌};
 ghost use Rattle.sv_files.specs.ContentType as spec;
-
-use crate::extension::extension_of;
+ghost use Rattle.sv_mapping.specs.Pattern.{extension, last_segment};
 
 /// Returns the content type of the file of this path, by its extension: the part of its last segment after the last
 /// `.`. Extensions are case-sensitive. An unknown one gives `application/octet-stream`.
@@ -28,5 +28,22 @@ fn type_of(extension: &str) -> &'static str
         "json" => "application/json",
         "svg" => "image/svg+xml",
         _ => "application/octet-stream",
+    }
+}
+
+/// Returns the part of the last segment after its last dot, if it has one.
+pub(crate) fn extension_of(path: &str) -> Option<&str>
+    ensures { option_copied result ≡ extension path.now }
+{
+    let (_, extension) = last_segment(path).rsplit_once('.')?;
+    Some(extension)
+}
+
+fn last_segment(path: &str) -> &str
+    ensures { result.now ≡ last_segment path.now }
+{
+    match path.rsplit_once('/') {
+        Some((_, segment)) => segment,
+        None => path,
     }
 }

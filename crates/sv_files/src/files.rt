@@ -1,23 +1,21 @@
 //! The static files of a context.
 
-ghost use Rattle.std.specs.Prelude.{◌≡◌, [], find, IfOk};
 ghost use Rattle.std.specs.Option.{option_copied};
-ghost use Rattle.sv_text.specs.Gives.{Gives, GivesAnswer};
+ghost use Rattle.std.specs.Prelude.{IfOk, [], find, ◌≡◌};
 ghost use Rattle.sv_files.specs.Answer as spec;
 ghost use Rattle.sv_files.specs.Fault.{files_of, list_fault, list_faults};
 ghost use Rattle.sv_files.specs.Files.{file_at, is_file, is_folder, is_served, welcome_paths};
+ghost use Rattle.sv_text.specs.Gives.{Gives, GivesAnswer};
 
 use crate::answer::{FileAnswer, answer_to};
 use crate::fault::FilesFault;
-use crate::file::File;
 use crate::index::Index;
-use crate::limits::MAX_FILES;
 use crate::list::{ends_in_slash, has_bad_path, has_large_file, index_of};
 use crate::welcome::{is_served, joined};
 use std::alloc::Global;
 use std::marker::Model;
 use sv_mapping::{Kind, Pattern};
-use sv_text::{NoMemory, Text};
+use sv_text::{Bytes, NoMemory, Text};
 
 /// The static files of a context. Contracts see a list of them.
 #[derive(Drop)]
@@ -30,7 +28,7 @@ impl Model for Files {
     ghost use Rattle.std.specs.Prelude.{◌≡◌, List, []};
     ghost use Rattle.sv_files.specs.Fault.{list_faults};
     ghost use Rattle.sv_files.specs.Index.{IsIndexOf};
-    ghost use Rattle.sv_files.specs.declared.file.File.{File};
+    ghost use Rattle.sv_files.specs.declared.files.File.{File};
 
     ghost Value = { List File };
 
@@ -190,3 +188,24 @@ fn welcome_servlet(
     }
     Ok(None)
 }
+
+/// A file and its path within the context.
+#[derive(Drop)]
+pub struct File {
+    /// The path, which begins with `/` and is canonical.
+    pub path: Text,
+    /// The contents of the file.
+    pub bytes: Bytes,
+}
+
+/// Maximum number of files of a context.
+pub const MAX_FILES: usize = 10_000;
+
+/// Maximum length of a file, in bytes.
+pub const MAX_FILE_BYTES: usize = 1_048_576;
+
+/// A context has at most 10,000 files, each of at most 1,048,576 bytes.
+pub fn limits_of_files()
+    ensures files { MAX_FILES ≡ 10000 }
+    ensures bytes { MAX_FILE_BYTES ≡ 1048576 }
+{}

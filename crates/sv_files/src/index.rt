@@ -8,9 +8,9 @@ ghost use Rattle.std.specs.Str.{bytes_eq};
 ghost use Rattle.sv_files.specs.Files as spec;
 ghost use Rattle.sv_files.specs.Index.{IsIndexOf};
 ghost use Rattle.sv_files.specs.Below.{IsClosed, is_at_or_above, lies_below};
-ghost use Rattle.sv_files.specs.declared.file.File.{File};
+ghost use Rattle.sv_files.specs.declared.files.File.{File};
 
-use crate::file::File;
+use crate::files::File;
 use std::alloc::Global;
 use std::collections::{HashMap, HashSet};
 use sv_text::NoMemory;

@@ -7,9 +7,8 @@ ghost use Rattle.sv_files.specs.Fault.{repeats};
 ghost use Rattle.sv_files.specs.Files as spec;
 ghost use Rattle.sv_files.specs.Index.{IsIndexOf};
 
-use crate::file::File;
+use crate::files::{File, MAX_FILE_BYTES};
 use crate::index::Index;
-use crate::limits::MAX_FILE_BYTES;
 use std::alloc::Global;
 use sv_text::NoMemory;
 use sv_uri::fault::CanonFault;

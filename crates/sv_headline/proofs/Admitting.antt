@@ -18,13 +18,13 @@ use Rattle.sv_descriptor.specs.declared.login.FormLogin.{FormLogin}
 use Rattle.sv_login.specs.Login.{has_no_session, login}
 use Rattle.sv_login.specs.Post.{Post, is_login, user_sent}
 use Rattle.sv_login.specs.Session.{living, logged_in, saved_target, session_faults, session_number, with_session}
-use Rattle.sv_login.specs.declared.login_outcome.LoginOutcome.{LoginOutcome}
-use Rattle.sv_login.specs.declared.login_outcome.LoginOutcome.TheVariants.{NoSession, NotLogin, Passed, WrongUser}
+use Rattle.sv_login.specs.declared.step.LoginOutcome.{LoginOutcome}
+use Rattle.sv_login.specs.declared.step.LoginOutcome.TheVariants.{NoSession, NotLogin, Passed, WrongUser}
 use Rattle.sv_login.specs.Outcome.{outcome}
 use Rattle.sv_login.specs.declared.outcome.Outcome.{Outcome}
 use Rattle.sv_login.specs.declared.outcome.Outcome.TheVariants as outcomes
 use Rattle.sv_policy.specs.Compiled.{Standing}
-use Rattle.sv_realm.specs.declared.user.User.{User}
+use Rattle.sv_realm.specs.declared.account.User.{User}
 use Rattle.sv_session.specs.Calls.{HoldsCaller, opened, opening_faults, renamed, renaming_faults, with_saved}
 use Rattle.sv_session.specs.Laws.{CallersAreEntered, CallsLeaveOrder}
 use Rattle.sv_session.specs.Runs.{Call, EnterCaller, Open, Rename, Save, TakeSaved, Touch, left_after, left_by, unless}

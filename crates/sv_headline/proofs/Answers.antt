@@ -3,7 +3,7 @@ use Rattle.std.proofs.Common.{ℕ, List, inl, inr, Option, None, Some}
 use Rattle.std.specs.Prelude.{codes}
 use Rattle.sv_admission.specs.declared.answer.Answer.{Answer}
 use Rattle.sv_admission.specs.declared.answer.Answer.TheVariants as answers
-use Rattle.sv_admission.specs.declared.limits.TheConstants.{SEE_OTHER}
+use Rattle.sv_admission.specs.declared.answer.TheConstants.{SEE_OTHER}
 use Rattle.sv_context.specs.Answered.{Answered, Answers, Requested, SendsTo, Tells}
 use Rattle.sv_exchange.specs.Changing.{SetHeader, SetStatus}
 use Rattle.sv_session.specs.declared.event.Event.{Event}

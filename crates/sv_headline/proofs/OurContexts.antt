@@ -13,7 +13,7 @@ use Rattle.sv_context.specs.Handled.{GivesResponse, admitted, exchange_begun, st
 use Rattle.sv_context.specs.Laws.{ExpiryLeavesNone, ExpiryOfNoneIsNothing}
 use Rattle.sv_context.specs.State.{ContextState, world_of}
 use Rattle.sv_lifecycle.specs.declared.deployment.Deployment.{Deployment}
-use Rattle.sv_context.specs.declared.limits.TheConstants.{SECONDS_OF_MINUTE}
+use Rattle.sv_context.specs.declared.deploying.TheConstants.{SECONDS_OF_MINUTE}
 use Rattle.sv_descriptor.specs.Version.{max_sessions}
 use Rattle.sv_journal.specs.Journal.{JournalState, new_journal, with_entry}
 use Rattle.sv_live.specs.Standing.{LiveState}
@@ -26,7 +26,7 @@ use Rattle.sv_session.specs.Expiry.{HasNoneExpired}
 use Rattle.sv_session.specs.Laws.{CallersAreEntered, CallsLeaveOrder, EmptyIsOrderly, MovesLeaveOrder}
 use Rattle.sv_session.specs.Runs.{Expire, Expires}
 use Rattle.sv_session.specs.Store.{IsOrderly, Store}
-use Rattle.sv_session.specs.declared.ended_session.EndedSession.{EndedSession}
+use Rattle.sv_session.specs.declared.ended_sessions.EndedSession.{EndedSession}
 use Rattle.sv_tree.specs.SiteOfDescriptor.{Content, site_of}
 use Rattle.sv_tree.specs.Laws.{AnswersMoveSessions, MovedGiveNoCaller, MovedLeaveNoneExpired, MovesJoin, StepsMoveSessions}
 use Rattle.sv_tree.specs.Moving.{IsMoved}

@@ -23,7 +23,7 @@ use Rattle.sv_run.specs.Events.{Happening}
 use Rattle.sv_run.specs.Reacting.{answer_shown}
 use Rattle.sv_run.specs.Runs.{Answer, Run}
 use Rattle.sv_run.specs.State.{State}
-use Rattle.sv_run.specs.declared.reaction.Reaction.{Reaction}
+use Rattle.sv_run.specs.declared.happening.Reaction.{Reaction}
 use Rattle.sv_run.specs.declared.step_fault.StepFault.TheVariants.{NoMemory}
 use Rattle.sv_script.specs.WholeLaws.{PlaysALawfulRun}
 use Rattle.sv_container.specs.Running.{StepsOf, run_of}

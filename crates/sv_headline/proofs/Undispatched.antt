@@ -5,11 +5,11 @@ use Rattle.std.specs.List.{AllByRecursion}
 use Rattle.sv_admission.specs.Asked.{Asked}
 use Rattle.sv_admission.specs.declared.answer.Answer.{Answer}
 use Rattle.sv_admission.specs.declared.answer.Answer.TheVariants as answers
-use Rattle.sv_admission.specs.declared.limits.TheConstants.{SEE_OTHER}
+use Rattle.sv_admission.specs.declared.answer.TheConstants.{SEE_OTHER}
 use Rattle.sv_component.proofs.Running.{runs_grown}
 use Rattle.sv_component.specs.Runs.{IsRun, OfFilter, OfListener, OfServlet, Record}
 use Rattle.sv_component.specs.World.{World}
-use Rattle.sv_component.specs.declared.named.Named.{Named}
+use Rattle.sv_component.specs.declared.components.Named.{Named}
 use Rattle.sv_component.specs.Steps.{ComponentSteps}
 use Rattle.sv_headline.specs.Refused.{TheUndispatchedCallNone, is_dispatch, is_dispatched, servlets_and_filters}
 use Rattle.sv_context.specs.Answered.{Answered, Answers, SendsTo, Tells}
@@ -26,7 +26,7 @@ use Rattle.sv_live.specs.SessionEnds.{end_events}
 use Rattle.sv_component.specs.Telling.{told}
 use Rattle.sv_run.proofs.Breaking.{event_same}
 use Rattle.sv_run.specs.Effect.{whole}
-use Rattle.sv_session.specs.declared.ended_session.EndedSession.{EndedSession}
+use Rattle.sv_session.specs.declared.ended_sessions.EndedSession.{EndedSession}
 use Rattle.sv_tree.specs.SiteOfDescriptor.{site_of}
 use Rattle.sv_tree.proofs.Doing.{chosen_then}
 use Rattle.sv_tree.proofs.Hearing.{all_keep, all_keep_alone}

@@ -6,6 +6,7 @@ ghost use Rattle.sv_headline.specs.Connection.{WhatAConnectionIsSentIsLawful};
 ghost use Rattle.sv_headline.specs.Cut.{WhatARefusedScriptPrintsBeginsTheWhole, WhatARefusedScriptPrintsIsCut};
 ghost use Rattle.sv_headline.specs.Headline.{WhatAScriptPrintsIsLawful};
 ghost use Rattle.sv_headline.specs.Memory.{AScriptInMemoryPrintsItsRun};
+ghost use Rattle.sv_headline.specs.Refused.{TheUndispatchedCallNone};
 
 use crate::contexts::sessions_of_contexts_stay_in_order;
 use crate::record::every_run_is_lawful_until_memory_is_refused;
@@ -99,3 +100,10 @@ pub fn what_a_connection_is_sent_is_lawful<
     requests_enter_exactly_where_allowed::<S, F, L, W>();
     a_connection_is_a_run::<Container<S, F, L, W>, T, C, Context<S, F, L>, W>();
 }
+
+/// An event that runs out of memory leaves the servlets and filters of a context unchanged, if it dispatched none of
+/// the context's requests. So they are not called for a request that is refused without a page or redirected, for a
+/// request to another context, or for an expiry.
+pub fn the_undispatched_call_none<S: Servlet, F: Filter, L: Listener, W: Words>()
+    ensures { TheUndispatchedCallNone (steps_of S.servlet_step F.filter_step L.listener_step) W.draws }
+{}

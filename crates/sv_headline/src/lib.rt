@@ -9,7 +9,6 @@ mod contexts;
 mod laws;
 mod lives;
 mod record;
-mod refused;
 mod runs;
 
 pub use contexts::{
@@ -18,12 +17,12 @@ pub use contexts::{
 };
 pub use laws::{
     a_script_in_memory_prints_its_run, callers_of_a_started_container_have_logged_in,
-    what_a_connection_is_sent_is_lawful, what_a_refused_script_prints_begins_the_whole,
-    what_a_refused_script_prints_is_cut, what_a_script_prints_is_lawful,
+    the_undispatched_call_none, what_a_connection_is_sent_is_lawful,
+    what_a_refused_script_prints_begins_the_whole, what_a_refused_script_prints_is_cut,
+    what_a_script_prints_is_lawful,
 };
 pub use lives::{components_are_destroyed_once, each_component_is_destroyed_once};
 pub use record::{every_run_is_lawful, every_run_is_lawful_until_memory_is_refused};
-pub use refused::the_undispatched_call_none;
 pub use runs::{
     callers_logged_in, callers_logged_in_since_the_start, constraints_change_by_edits_alone,
     orders_are_alike, orders_are_taken_alike, pieces_are_taken_in_parts, pieces_may_be_cut,

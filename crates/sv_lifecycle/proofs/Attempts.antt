@@ -27,9 +27,9 @@ use Rattle.sv_lifecycle.specs.Plan.{IsPlan}
 use Rattle.sv_lifecycle.specs.Starting.{GoesInOrder, Inits, RefusesUndone, RefusesUntouched, Started, Starts, Undone, Untouched, code_of, is_no_memory}
 use Rattle.sv_live.specs.World.{HasSameCounts, IsPlaceIn, world}
 use Rattle.sv_lifecycle.specs.declared.begin.Begun.{Begun}
-use Rattle.sv_live.specs.declared.place.Place.{Place}
-use Rattle.sv_live.specs.declared.place.Place.TheVariants as places
-use Rattle.sv_live.specs.declared.parts.Parts.{Parts}
+use Rattle.sv_live.specs.declared.live.Place.{Place}
+use Rattle.sv_live.specs.declared.live.Place.TheVariants as places
+use Rattle.sv_live.specs.declared.live.Parts.{Parts}
 use Rattle.sv_lifecycle.specs.declared.plan.Plan.{Plan}
 use Rattle.sv_component.specs.declared.standing.Standing.TheVariants.{Serving}
 use Rattle.sv_component.specs.Steps.{ComponentSteps}

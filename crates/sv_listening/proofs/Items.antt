@@ -8,7 +8,7 @@ use Rattle.std.proofs.lemmas.List.Elements.{All-drop, All-take}
 use Rattle.std.proofs.lemmas.List.Sums.{sum_by-append}
 use Rattle.httparse.specs.Grammar.{RequestHead, ReadsRequest, print_blank, print_end, print_request, print_section, print_version}
 use Rattle.sv_wire.proofs.ListLemmas.{drop_behind}
-use Rattle.sv_wire.specs.declared.framing.Framing.{Framing}
+use Rattle.sv_wire.specs.declared.body_reader.Framing.{Framing}
 use Rattle.sv_wire.specs.Body.{ReadsBody}
 use Rattle.sv_wire.specs.Chunks.{Body, unfinished, complete, broken}
 use Rattle.sv_text.proofs.FrontLemmas.{cut-whole, cut_unended-fronts}

@@ -5,8 +5,8 @@ use Rattle.std.proofs.lemmas.Bool.{cases_lt, cond-false, cond-true, ltb-false}
 use Rattle.std.proofs.lemmas.List.{drop-append-le, length-drop, length-take, length-take-le, take-append-drop, take-append-le, take-take, take_all}
 use Rattle.httparse.specs.Ascii.{crlf_bytes, line_feed}
 use Rattle.sv_wire.specs.declared.body_fault.BodyFault.TheVariants.{BadChunk, TooLarge}
-use Rattle.sv_wire.specs.declared.framing.Framing.{Framing}
-use Rattle.sv_wire.specs.declared.framing.Framing.TheVariants.{Length, Chunked}
+use Rattle.sv_wire.specs.declared.body_reader.Framing.{Framing}
+use Rattle.sv_wire.specs.declared.body_reader.Framing.TheVariants.{Length, Chunked}
 use Rattle.sv_wire.specs.declared.limits.TheConstants.{MAX_BODY_LEN, MAX_SIZE_LINE_LEN, MAX_TRAILER_LEN}
 use Rattle.sv_wire.specs.Body.{ReadsBody}
 use Rattle.sv_wire.specs.Chunks.{unfinished, complete, broken, Part, chunk, last, ReadsSize, trailer_at, read_trailer, read_data, after_line, BeginsAt, Begins, ReadsChunks}

@@ -4,7 +4,7 @@ use Rattle.std.specs.Bool.{MatchBool}
 use Rattle.sv_journal.specs.declared.entry.Entry.{Entry}
 use Rattle.sv_listening.specs.Lines.{recorded_text}
 use Rattle.sv_run.specs.Events.{Happening, connection_of, moment_after}
-use Rattle.sv_run.specs.declared.reaction.Reaction.{Reaction}
+use Rattle.sv_run.specs.declared.happening.Reaction.{Reaction}
 use Rattle.sv_run.specs.declared.step_fault.StepFault.{StepFault}
 use Rattle.sv_streams.specs.Calls.{Making, write_call}
 use Rattle.sv_streams.specs.declared.stream.WriteFailed.{WriteFailed}

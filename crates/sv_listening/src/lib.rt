@@ -2,7 +2,6 @@
 //! and record the entries of events in a journal. The crate also makes the seed of a container's random words.
 #![tactic(auto)]
 
-mod alarm;
 mod bounds;
 mod kept;
 mod laws;
@@ -16,7 +15,6 @@ mod part_stream;
 mod parting;
 mod place;
 mod record;
-mod recorded_laws;
 mod recorded_run;
 mod recorder;
 mod running;
@@ -29,7 +27,6 @@ mod socket_stream;
 mod sockets;
 mod time;
 
-pub use alarm::Alarm;
 pub use bounds::{an_event_sends_little, parts_complete_little, pieces_are_parts};
 pub use laws::{limits_are_as_stated, parts_are_what_is_read};
 pub use limits::{MAX_ANSWER_BYTES, MAX_SELF_TEST_ACCEPTS, SELF_TEST_SECONDS, SERVE_IDLE_SECONDS};
@@ -38,9 +35,8 @@ pub use listening::listen_and_serve;
 pub use own_acceptor::OwnAcceptor;
 pub use part_stream::PartStream;
 pub use record::Record;
-pub use recorded_laws::what_is_recorded_is_a_run;
-pub use recorded_run::{run_plainly, run_recorded};
-pub use recorder::Recorder;
+pub use recorded_run::{run_plainly, run_recorded, what_is_recorded_is_a_run};
+pub use recorder::{Alarm, Recorder};
 pub use running::listen_and_run;
 pub use seeding::{RANDOM_SOURCE, Seeding, seed_for};
 pub use self_asking::own_answer;

@@ -1,6 +1,6 @@
 //! Serving the connections of a port one after another.
 
-use crate::serve_on;
+use crate::serving::serve_on;
 use crate::sockets::{fault_of, listen};
 use std::alloc::Global;
 use std::io::Write;

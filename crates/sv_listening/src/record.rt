@@ -3,9 +3,9 @@
 ghost use Rattle.sv_text.specs.Gives.{GivesAnswer};
 ghost use Rattle.sv_listening.specs.Lines as lines;
 
-use crate::alarm::Alarm;
 use crate::lines::{push_lines, push_lost};
 use crate::place::moment_after;
+use crate::recorder::Alarm;
 use std::alloc::Global;
 use std::marker::Model;
 use sv_journal::Entry;

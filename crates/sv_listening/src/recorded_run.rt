@@ -1,8 +1,10 @@
 //! Serving all connections of an address at once, with a socket file and a journal.
 
-use crate::alarm::Alarm;
+ghost use Rattle.sv_listening.specs.Laws.{IsTakenWithin};
+ghost use Rattle.sv_run.specs.Contexts.{theory_of};
+
 use crate::record::Record;
-use crate::recorder::Recorder;
+use crate::recorder::{Alarm, Recorder};
 use crate::running::run_controlled;
 use crate::sockets::file_fault;
 use std::alloc::Global;
@@ -14,8 +16,8 @@ use std::rt::Files;
 use std::time::Clock;
 use sv_connection::{Limits, Queries};
 use sv_program::CommandFault;
-use sv_run::EventHandler;
-use sv_streams::WriteSink;
+use sv_run::{Context, EventHandler, Words};
+use sv_streams::{Sink, WriteSink};
 
 /// Serves as [`run_controlled`] does, appends the entries of events to the file of this name, and returns the handler.
 ///
@@ -78,3 +80,8 @@ impl<H: Eprint> Alarm for StandardError<'_, H> {
         let _ = eprintln!(self.host; "sv: journal");
     }
 }
+
+/// Recorded events are a run. If a handler takes each event as the run of a container does, so does a recorder of it.
+pub fn what_is_recorded_is_a_run<R: EventHandler, O: Sink, A: Alarm, C: Context, W: Words>()
+    ensures { IsTakenWithin R.steps ⟦<Recorder<R, O, A> as EventHandler>⟧.steps (λ recorder. recorder.within) (theory_of C.path_of C.conduct W.draws) }
+{}

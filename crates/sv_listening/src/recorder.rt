@@ -1,6 +1,5 @@
 //! An event handler that records its events.
 
-use crate::alarm::Alarm;
 use crate::place::connection_of;
 use crate::record::Record;
 use std::alloc::Global;
@@ -94,4 +93,10 @@ impl<R: Queries, O, A> Queries for Recorder<R, O, A> {
     fn standing(&self, alloc: Global) -> Result<Option<Bytes>, NoMemory> {
         self.within.standing(alloc)
     }
+}
+
+/// An alarm for lost journal entries.
+pub trait Alarm {
+    /// Reports that the entries of an event are lost, for the first time since a complete write.
+    fn is_losing(&mut self);
 }

@@ -1,7 +1,8 @@
 //! A request that a program sends to itself.
 
+use crate::own_acceptor::OwnAcceptor;
+use crate::self_test::{ask, first_line};
 use crate::sockets::{fault_of, listen};
-use crate::{OwnAcceptor, ask, first_line};
 use std::alloc::Global;
 use std::io;
 use std::io::ErrorKind;

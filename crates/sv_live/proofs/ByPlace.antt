@@ -8,7 +8,7 @@ use Rattle.sv_journal.specs.Journal.{JournalState}
 use Rattle.sv_live.specs.Calling.{CallsOnce, Retires}
 use Rattle.sv_live.specs.Standing.{LiveState}
 use Rattle.sv_live.specs.World.{HasSameCounts, world}
-use Rattle.sv_live.specs.declared.parts.Parts.{Parts}
+use Rattle.sv_live.specs.declared.live.Parts.{Parts}
 use Rattle.sv_component.specs.declared.standing.Standing.TheVariants.{Gone}
 use Rattle.sv_component.specs.Steps.{ComponentSteps}
 

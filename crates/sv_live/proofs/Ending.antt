@@ -7,8 +7,8 @@ use Rattle.sv_session.specs.Store.{Session}
 use Rattle.sv_live.specs.Calls.{stop_calls}
 use Rattle.sv_live.specs.Standing.{LiveState, in_service, live_world}
 use Rattle.sv_live.specs.World.{world}
-use Rattle.sv_live.specs.declared.place.Place.{Place}
-use Rattle.sv_live.specs.declared.parts.Parts.{Parts}
+use Rattle.sv_live.specs.declared.live.Place.{Place}
+use Rattle.sv_live.specs.declared.live.Parts.{Parts}
 
 module _ {S F L : Type 0} (moving : ComponentSteps S F L) where
   pub stops : (before opened : LiveState S F L) (text : List ℕ) (places : List Place) (sessions : List Session) (noted : JournalState) (after : Parts S F L) (noted_after : JournalState)

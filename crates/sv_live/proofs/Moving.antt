@@ -7,7 +7,7 @@ use Rattle.sv_component.specs.Call.{Call}
 use Rattle.sv_component.specs.Noted.{filter_entry, servlet_entry}
 use Rattle.sv_component.specs.Runs.{Moves, MovesAt, NamedStep, OfFilter, OfServlet, Record}
 use Rattle.sv_component.specs.World.{World, name_at}
-use Rattle.sv_component.specs.declared.named.Named.{Named}
+use Rattle.sv_component.specs.declared.components.Named.{Named}
 use Rattle.sv_component.specs.Steps.{ComponentSteps}
 use Rattle.sv_journal.specs.Journal.{JournalState, Takes}
 

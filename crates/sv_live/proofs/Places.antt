@@ -4,9 +4,9 @@ use Rattle.std.specs.List.{All}
 use Rattle.std.proofs.lemmas.List.{get_or-map, get_or-reverse, length-map, length-reverse, take_more}
 use Rattle.sv_live.specs.Calls.{destroyed}
 use Rattle.sv_live.specs.World.{HasSameCounts, IsPlaceIn}
-use Rattle.sv_live.specs.declared.place.Place.{Place}
-use Rattle.sv_live.specs.declared.place.Place.TheVariants.{Filter, Servlet}
-use Rattle.sv_live.specs.declared.parts.Parts.{Parts}
+use Rattle.sv_live.specs.declared.live.Place.{Place}
+use Rattle.sv_live.specs.declared.live.Place.TheVariants.{Filter, Servlet}
+use Rattle.sv_live.specs.declared.live.Parts.{Parts}
 
 -- Components keep their places.
 pub place_kept : {S F L : Type 0} (before after : Parts S F L) → HasSameCounts before after → (place : Place) → IsPlaceIn before place → IsPlaceIn after place

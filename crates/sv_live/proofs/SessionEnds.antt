@@ -10,8 +10,8 @@ use Rattle.sv_component.specs.World.{World}
 use Rattle.sv_component.specs.Steps.{ComponentSteps}
 use Rattle.sv_component.proofs.Growing.{grows_join, grows_none}
 use Rattle.sv_session.specs.declared.event.Event.TheVariants.{AttributeRemoved}
-use Rattle.sv_session.specs.declared.attribute.Attribute.{Attribute}
-use Rattle.sv_session.specs.declared.ended_session.EndedSession.{EndedSession}
+use Rattle.sv_session.specs.declared.slot.Attribute.{Attribute}
+use Rattle.sv_session.specs.declared.ended_sessions.EndedSession.{EndedSession}
 use Rattle.sv_session.specs.Calls.{ended}
 use Rattle.sv_session.specs.Store.{NumbersRise, Session}
 use Rattle.sv_live.specs.SessionEnds.{all_told, by_number, end_events, ends_told, put_by_number}

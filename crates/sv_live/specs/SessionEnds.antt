@@ -8,7 +8,7 @@ use Rattle.sv_session.specs.declared.event.Event.TheVariants.{AttributeRemoved, 
 use Rattle.sv_component.specs.Telling.{told}
 use Rattle.sv_session.specs.Calls.{ended}
 use Rattle.sv_session.specs.Store.{Session}
-use Rattle.sv_session.specs.declared.ended_session.EndedSession.{EndedSession}
+use Rattle.sv_session.specs.declared.ended_sessions.EndedSession.{EndedSession}
 
 -- Inserts a session into a list in order of session numbers.
 abbrev pub put_by_number : Session → List Session → List Session

@@ -14,8 +14,7 @@ ghost use Rattle.sv_component.specs.Standing.{is_gone};
 ghost use Rattle.sv_live.specs.Standing.{live_world, standing_at};
 ghost use Rattle.sv_component.specs.declared.standing.Standing.TheVariants as standings;
 
-use crate::live::Live;
-use crate::place::Place;
+use crate::live::{Live, Place};
 use std::alloc::Global;
 use sv_component::{
     Event, Exchange, Filter, Gate, Listener, Servlet, Standing, Step, gate_answer, step_answer,

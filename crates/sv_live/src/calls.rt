@@ -7,8 +7,7 @@ ghost use Rattle.sv_component.specs.Telling.{told};
 ghost use Rattle.sv_live.specs.Calls.{destroyed, init_record};
 ghost use Rattle.sv_live.specs.World.{HasSameCounts, IsPlaceIn, world};
 
-use crate::parts::Parts;
-use crate::place::Place;
+use crate::live::{Parts, Place};
 use std::alloc::Global;
 use sv_component::{Config, Event, Filter, Init, Listener, Servlet, init_answer};
 use sv_journal::{CallName, Entry, Journal};

@@ -4,13 +4,9 @@
 mod calling;
 mod calls;
 mod live;
-mod parts;
-mod place;
 mod session_ends;
 mod stopping;
 
-pub use live::Live;
-pub use parts::Parts;
-pub use place::Place;
+pub use live::{Live, Parts, Place};
 pub use stopping::end_all;
 pub use sv_component::{Named, Standing};

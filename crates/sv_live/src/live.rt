@@ -1,9 +1,7 @@
 //! A started context.
 
-use crate::parts::Parts;
-use crate::place::Place;
 use std::marker::Model;
-use sv_component::Standing;
+use sv_component::{Named, Standing};
 use sv_text::Text;
 
 /// A started context: its components, called by their index in the descriptor, from 0, and the availability of its
@@ -48,4 +46,22 @@ impl<S, F, L> Live<S, F, L> {
             standings,
         }
     }
+}
+
+/// The components of a context, in the order of their declaration.
+#[derive(Drop)]
+pub struct Parts<S, F, L> {
+    /// The servlets, with their names.
+    pub servlets: Vec<Named<S>>,
+    /// The filters, with their names.
+    pub filters: Vec<Named<F>>,
+    /// The listeners.
+    pub listeners: Vec<L>,
+}
+
+/// A filter or a servlet, by its index in the descriptor, from 0.
+#[derive(Clone, Copy)]
+pub enum Place {
+    Filter(usize),
+    Servlet(usize),
 }

@@ -8,8 +8,7 @@ ghost use Rattle.sv_live.specs.Calling.{StandsAsBefore};
 ghost use Rattle.sv_live.specs.Standing.{live_world};
 ghost use Rattle.sv_live.specs.World.{HasSameCounts, world};
 
-use crate::live::Live;
-use crate::parts::Parts;
+use crate::live::{Live, Parts};
 use std::alloc::Global;
 use sv_component::{Event, Filter, Listener, Servlet};
 use sv_journal::Journal;

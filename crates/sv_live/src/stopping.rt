@@ -8,9 +8,7 @@ ghost use Rattle.sv_live.specs.Calls.{destroyed, stop_calls};
 ghost use Rattle.sv_live.specs.Standing.{in_service, is_in_service, live_world, standing_at};
 ghost use Rattle.sv_live.specs.World.{HasSameCounts, IsPlaceIn, world};
 
-use crate::live::Live;
-use crate::parts::Parts;
-use crate::place::Place;
+use crate::live::{Live, Parts, Place};
 use crate::session_ends::end_sessions;
 use std::alloc::Global;
 use sv_component::{Event, Filter, Listener, Servlet, Standing};

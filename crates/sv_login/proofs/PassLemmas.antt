@@ -1,12 +1,12 @@
 -- A login step that passes.
 use Rattle.std.proofs.Common.{◌≡◌, ℕ, ◌+◌, Bool, true, false, not, List, [], ◌∷◌, Option, Some, None, refl, sym, ◌∙◌, ap, subst}
 use Rattle.std.specs.Option.{is_none, option_and_then, option_map}
-use Rattle.sv_realm.specs.declared.user.User.{User}
+use Rattle.sv_realm.specs.declared.account.User.{User}
 use Rattle.sv_session.specs.Calls.{caller_of, id_of}
 use Rattle.sv_session.specs.Id.{id_text}
 use Rattle.sv_session.specs.Store.{IsOrderly, Session, Store}
-use Rattle.sv_login.specs.declared.login_outcome.LoginOutcome.{LoginOutcome}
-use Rattle.sv_login.specs.declared.login_outcome.LoginOutcome.TheVariants.{NotLogin, Passed, WrongUser, NoSession}
+use Rattle.sv_login.specs.declared.step.LoginOutcome.{LoginOutcome}
+use Rattle.sv_login.specs.declared.step.LoginOutcome.TheVariants.{NotLogin, Passed, WrongUser, NoSession}
 use Rattle.sv_login.specs.Login.{first_case, has_no_session, login}
 use Rattle.sv_login.specs.Post.{Post, is_login, user_sent}
 use Rattle.sv_login.specs.Session.{logged_in, saved_target, session_number}

@@ -1,11 +1,11 @@
 -- Theorems about the login step (Jakarta Servlet 6.0, sections 7.1 and 13.6.3).
 use Rattle.std.specs.Prelude.{◌≡◌, ◌≢◌, ℕ, List, Option, Some, All}
-use Rattle.sv_realm.specs.declared.user.User.{User}
+use Rattle.sv_realm.specs.declared.account.User.{User}
 use Rattle.sv_session.specs.Calls.{caller_of, id_of}
 use Rattle.sv_session.specs.Runs.{Call, ids_given, left_after}
 use Rattle.sv_session.specs.Store.{Store, empty_store}
-use Rattle.sv_login.specs.declared.login_outcome.LoginOutcome.{LoginOutcome}
-use Rattle.sv_login.specs.declared.login_outcome.LoginOutcome.TheVariants.{Passed}
+use Rattle.sv_login.specs.declared.step.LoginOutcome.{LoginOutcome}
+use Rattle.sv_login.specs.declared.step.LoginOutcome.TheVariants.{Passed}
 use Rattle.sv_login.specs.Login.{login}
 use Rattle.sv_login.specs.Post.{Post, user_sent}
 

@@ -1,9 +1,9 @@
 -- The outcome of a login step, and the sessions after it (Jakarta Servlet 6.0, section 13.6.3).
 use Rattle.std.specs.Prelude.{ℕ, Bool, not, cond, List, [], ◌∷◌, Option, is_none, length, ◌==◌}
-use Rattle.sv_realm.specs.declared.user.User.{User}
+use Rattle.sv_realm.specs.declared.account.User.{User}
 use Rattle.sv_session.specs.Store.{Store}
-use Rattle.sv_login.specs.declared.login_outcome.LoginOutcome.{LoginOutcome}
-use Rattle.sv_login.specs.declared.login_outcome.LoginOutcome.TheVariants.{NotLogin, Passed, WrongUser, NoSession}
+use Rattle.sv_login.specs.declared.step.LoginOutcome.{LoginOutcome}
+use Rattle.sv_login.specs.declared.step.LoginOutcome.TheVariants.{NotLogin, Passed, WrongUser, NoSession}
 use Rattle.sv_login.specs.Post.{Post, is_login, user_sent}
 use Rattle.sv_login.specs.Session.{logged_in, saved_target, session_faults, session_number}
 

@@ -3,8 +3,8 @@
 use Rattle.std.specs.Prelude.{◌≡◌, ◌↔◌, ◌⊎◌, true, false, None, Some}
 use Rattle.sv_constraints.specs.declared.owned_decision.OwnedWhy.{OwnedWhy}
 use Rattle.sv_constraints.specs.declared.owned_decision.OwnedDecision.TheVariants as decisions
-use Rattle.sv_login.specs.declared.login_outcome.LoginOutcome.{LoginOutcome}
-use Rattle.sv_login.specs.declared.login_outcome.LoginOutcome.TheVariants as logins
+use Rattle.sv_login.specs.declared.step.LoginOutcome.{LoginOutcome}
+use Rattle.sv_login.specs.declared.step.LoginOutcome.TheVariants as logins
 use Rattle.sv_login.specs.declared.outcome.Outcome.{Outcome}
 use Rattle.sv_login.specs.declared.outcome.Outcome.TheVariants.{Protected, LoggedIn, LoginFailed, NoSession, Entered, SentToLogin, NoLogin, Denied}
 use Rattle.sv_login.specs.Outcome.{Findings, outcome}

@@ -3,7 +3,7 @@ use Rattle.std.specs.Prelude.{ℕ, Bool, ◌&&◌, ◌==◌, List, Option, None,
 use Rattle.std.specs.List.{ends_with}
 use Rattle.std.specs.Option.{option_map}
 use Rattle.std.specs.Str.{bytes_eq}
-use Rattle.sv_realm.specs.declared.user.User.{User}
+use Rattle.sv_realm.specs.declared.account.User.{User}
 use Rattle.sv_realm.specs.Realm.{caller_checked}
 use Rattle.sv_message.specs.Form.{form_parameters}
 use Rattle.sv_message.specs.Parameters.{first_named}

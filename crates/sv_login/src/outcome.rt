@@ -3,7 +3,7 @@
 ghost use Rattle.std.specs.Prelude.{◌≡◌};
 ghost use Rattle.sv_login.specs.Outcome.{login_outcome, verdict_outcome};
 
-use crate::LoginOutcome;
+use crate::step::LoginOutcome;
 use sv_constraints::{OwnedDecision, OwnedWhy};
 use sv_text::Text;
 

@@ -1,22 +1,21 @@
 //! The login step.
 
-ghost use Rattle.std.specs.Prelude.{◌≡◌, ◌==◌, ◌&&◌, OnErr, OnOk, Some, codes, cond};
 ghost use Rattle.std.specs.List.{ends_with};
 ghost use Rattle.std.specs.Option.{option_copied};
+ghost use Rattle.std.specs.Prelude.{OnErr, OnOk, Some, codes, cond, ◌&&◌, ◌==◌, ◌≡◌};
 ghost use Rattle.std.specs.Str.{bytes_eq};
-ghost use Rattle.sv_text.specs.Gives.{GivesAnswer};
 ghost use Rattle.sv_login.specs.Login.{has_no_session, login};
 ghost use Rattle.sv_login.specs.Post.{post_of};
 ghost use Rattle.sv_login.specs.Session.{logged_in, saved_target, session_number};
-ghost use Rattle.sv_login.specs.declared.login_outcome.LoginOutcome.TheVariants as outcomes;
+ghost use Rattle.sv_login.specs.declared.step.LoginOutcome.TheVariants as outcomes;
+ghost use Rattle.sv_text.specs.Gives.{GivesAnswer};
 
 use crate::credentials::Credentials;
 use crate::held_session::renewed;
-use crate::login_outcome::LoginOutcome;
 use std::alloc::Global;
 use sv_realm::Realm;
 use sv_session::{SessionFault, Sessions};
-use sv_text::NoMemory;
+use sv_text::{NoMemory, Text};
 use sv_uri::path::Canon;
 
 /// Performs the login step of a request (Jakarta Servlet 6.0, section 13.6.3). `canon` has its path within the context.
@@ -86,4 +85,23 @@ fn enter(
         Err(SessionFault::NoMemory) => Err(NoMemory),
         Err(_) => Ok(LoginOutcome::NoSession),
     }
+}
+
+/// The outcome of a login step (Jakarta Servlet 6.0, section 13.6.3). All but `Passed` leave the sessions unchanged.
+#[derive(Drop)]
+pub enum LoginOutcome {
+    /// The request is not a login post, and is handled like any other.
+    NotLogin,
+    /// A name or a password is missing, no user has the name, or the password does not fit the user.
+    WrongUser,
+    /// The name and the password fit, but the live session cannot get a new id, or there is none and none can be
+    /// opened.
+    NoSession,
+    /// The login passed.
+    Passed {
+        /// The number of the session that holds the caller.
+        number: u64,
+        /// The target saved in the session, if any, to which the client is sent. It was removed from the session.
+        target: Option<Text>,
+    },
 }

@@ -4,7 +4,7 @@ use Rattle.std.specs.Prelude.{ℕ, ◌-◌, Bool, true, false, ◌||◌, ◌&&�
 use Rattle.std.specs.List.{starts_with, ends_with, list_any, after_last}
 use Rattle.std.specs.Option.{option_map_or}
 use Rattle.std.specs.Str.{bytes_eq}
-use Rattle.sv_mapping.specs.declared.limits.TheConstants.{MAX_PATTERN_BYTES}
+use Rattle.sv_mapping.specs.declared.pattern.TheConstants.{MAX_PATTERN_BYTES}
 
 abbrev pub is_slash : ℕ → Bool
 is_slash b = b == 47

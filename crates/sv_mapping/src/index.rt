@@ -12,10 +12,11 @@ ghost use Rattle.sv_mapping.specs.Places.{exact_place, first_place};
 ghost use Rattle.sv_mapping.specs.Segments.{is_rooted, segments_of};
 ghost use Rattle.sv_mapping.specs.Trie.{IsTrie};
 
-use crate::look_up_laws::best_is_looked_up;
+use crate::form::{Form, extension};
+use crate::laws::best_is_looked_up;
+use crate::pattern::Pattern;
 use crate::segments::is_rooted;
 use crate::trie::{Trie, Way};
-use crate::{Form, Pattern, extension};
 use std::alloc::Global;
 use std::collections::HashMap;
 use sv_text::NoMemory;

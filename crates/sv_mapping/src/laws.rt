@@ -2,8 +2,10 @@
 
 ghost use Rattle.std.specs.Prelude.{◌≡◌};
 ghost use Rattle.sv_mapping.specs.BestMatch.{BestExists, BestIsAMatch, BestIsUnique, BestStandsFirst};
+ghost use Rattle.sv_mapping.specs.Chosen.{IsFoundWhereServed, IsUnique};
 ghost use Rattle.sv_mapping.specs.MatchOrder.{BestIsFirstTried, BestOfOthers};
-ghost use Rattle.sv_mapping.specs.declared.limits.TheConstants.{MAX_PATTERN_BYTES};
+ghost use Rattle.sv_mapping.specs.Places.{BestIsLookedUp};
+ghost use Rattle.sv_mapping.specs.declared.pattern.TheConstants.{MAX_PATTERN_BYTES};
 
 /// There is a best match exactly if a pattern matches the path.
 pub fn best_exists()
@@ -41,3 +43,23 @@ pub fn best_stands_first()
 pub fn limits_are_as_stated()
     ensures pattern { MAX_PATTERN_BYTES ≡ 1024 }
 {}
+
+/// The chosen context paths of a list for a path are equal.
+pub fn the_chosen_context_path_is_unique()
+    ensures { IsUnique }
+{}
+
+/// A path has a context exactly if some context path of the list serves it.
+pub fn a_context_is_found_where_one_serves()
+    ensures { IsFoundWhereServed }
+{}
+
+/// The place of the best match is that of the exact pattern for the path, or else that of its longest prefix pattern,
+/// or else that of its extension pattern, or else that of the default pattern.
+pub fn best_is_looked_up()
+    ensures { BestIsLookedUp }
+{
+    best_is_first_tried();
+    best_of_others();
+    best_stands_first();
+}

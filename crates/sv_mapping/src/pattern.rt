@@ -1,15 +1,14 @@
 //! URL patterns: texts that say which paths they match.
 
-ghost use Rattle.std.specs.Prelude.{◌≡◌, ◌↔◌, false, not, IsErrOf, IsTrue};
-ghost use Rattle.sv_text.specs.Gives.{Gives};
+ghost use Rattle.std.specs.Prelude.{IsErrOf, IsTrue, false, not, ◌↔◌, ◌≡◌};
 ghost use Rattle.sv_mapping.specs.BestMatch.{outranks};
 ghost use Rattle.sv_mapping.specs.Fault.{pattern_read, text_fault};
 ghost use Rattle.sv_mapping.specs.Form.{form_seen};
 ghost use Rattle.sv_mapping.specs.Pattern.{form, form_text, is_extension_pattern, is_path_pattern, is_pattern, matches};
+ghost use Rattle.sv_text.specs.Gives.{Gives};
 
 use crate::fault::PatternFault;
 use crate::form::Form;
-use crate::limits::MAX_PATTERN_BYTES;
 use crate::rank::Rank;
 use std::alloc::Global;
 use std::marker::Model;
@@ -100,3 +99,6 @@ fn is_extension_pattern(text: &str) -> bool
 {
     text.starts_with("*.") && !text.as_bytes().contains(&b'/')
 }
+
+/// The greatest length of a URL pattern's text, in bytes.
+pub const MAX_PATTERN_BYTES: usize = 1024;

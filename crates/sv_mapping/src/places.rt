@@ -1,10 +1,13 @@
 //! The places of texts, and the search along the fronts of a path.
 
-ghost use Rattle.std.specs.Prelude.{◌≡◌, ◌≤◌, ℕ, List, [], ◌∷◌, ◌++◌, length, position, OnOk};
-ghost use Rattle.sv_mapping.specs.ContextIndexPlaces.{ArePlaces, place_of};
+ghost use Rattle.std.specs.Option.{option_copied};
+ghost use Rattle.std.specs.Prelude.{IfSome, List, OnOk, [], length, position, ℕ, ◌++◌, ◌<◌, ◌||◌, ◌∷◌, ◌≡◌, ◌≤◌};
+ghost use Rattle.std.specs.Str.{bytes_eq};
 ghost use Rattle.sv_mapping.specs.Chosen.{is_chosen};
+ghost use Rattle.sv_mapping.specs.ContextIndexPlaces.{ArePlaces, place_of};
+ghost use Rattle.sv_mapping.specs.Fronts.{serves};
+ghost use Rattle.sv_mapping.specs.Pattern.{is_at_or_below};
 
-use crate::outer::outer;
 use std::alloc::Global;
 use std::collections::HashMap;
 use sv_text::NoMemory;
@@ -71,4 +74,16 @@ fn longer(one: usize, other: usize) -> usize
     ensures other { other ≤ result }
 {
     one.max(other)
+}
+
+/// Returns the text before the last slash of a path, if there is one. A context path serves the path if it is the path,
+/// or if it serves this front.
+pub(crate) fn outer(path: &str) -> Option<&str>
+    ensures serves { (context : List ℕ) → is_at_or_below context path.now ≡ (bytes_eq path.now context || serves context (option_copied result)) }
+    ensures shorter { IfSome result (λ front. length front.now < length path.now) }
+{
+    match path.rsplit_once('/') {
+        Some((front, _)) => Some(front),
+        None => None,
+    }
 }

@@ -1,13 +1,12 @@
 //! Splitting a matched path into servlet path and path info (Jakarta Servlet 6.0, section 3.5).
 
-ghost use Rattle.std.specs.Prelude.{◌≡◌, [], ◌++◌, IsTrue, take, unwrap_or};
 ghost use Rattle.std.specs.Option.{option_copied};
+ghost use Rattle.std.specs.Prelude.{IsTrue, [], take, unwrap_or, ◌++◌, ◌≡◌};
 ghost use Rattle.std.specs.Str.{IsCharBoundary};
 ghost use Rattle.sv_mapping.specs.Pattern.{matches};
 ghost use Rattle.sv_mapping.specs.Split.{path_info, rest_from, servlet_path};
 
 use crate::form::Form;
-use crate::parts::Split;
 use crate::pattern::Pattern;
 
 /// Splits a path that the pattern matches.
@@ -38,4 +37,13 @@ fn split_at(path: &str, len: usize) -> Split<'_>
         servlet_path,
         path_info: if rest.is_empty() { None } else { Some(rest) },
     }
+}
+
+/// The parts of a path within its context.
+#[derive(Clone, Copy)]
+pub struct Split<'a> {
+    /// The part of the path that the pattern claims.
+    pub servlet_path: &'a str,
+    /// The rest after the prefix of a prefix pattern, unless it is empty, or `/` for the pattern `""`.
+    pub path_info: Option<&'a str>,
 }

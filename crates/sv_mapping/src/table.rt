@@ -6,8 +6,8 @@ ghost use Rattle.sv_mapping.specs.BestMatch.{best, best_pattern};
 ghost use Rattle.sv_mapping.specs.Segments.{segments};
 ghost use Rattle.sv_text.specs.Gives.{GivesAnswer};
 
-use crate::Pattern;
 use crate::index::{Index, Looked};
+use crate::pattern::Pattern;
 use std::alloc::Global;
 use std::marker::Model;
 use sv_text::{Listed, NoMemory, Text};

@@ -3,7 +3,7 @@
 ghost use Rattle.std.specs.Prelude.{◌≡◌};
 ghost use Rattle.sv_message.specs.Messages.{with_body};
 
-use crate::Field;
+use crate::field::Field;
 use http::Method;
 use sv_text::{Bytes, Listed};
 

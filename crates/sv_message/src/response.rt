@@ -3,8 +3,8 @@
 ghost use Rattle.std.specs.Prelude.{◌↔◌, IsTrue};
 ghost use Rattle.http.specs.StatusCode.{IsStatusCode};
 
-use crate::Field;
 use crate::body::Body;
+use crate::field::Field;
 use crate::rare::Rare;
 use sv_text::{Listed, Text};
 

@@ -1,7 +1,9 @@
 //! Request targets and their canonical paths.
 
 use crate::targets::Targets;
+use std::test::Fail;
 use sv_rows::{Strays, hold};
+use sv_uri::canon;
 
 /// Target, path or fault, query (`-` for none).
 const ROWS: &str = r#"
@@ -242,4 +244,11 @@ fn a_target_is_read_as_its_canonical_path_or_its_first_fault(
     rt: HostRuntime,
 ) -> Result<(), Strays> {
     hold(&rt, &[ROWS], &Targets)
+}
+
+#[test]
+fn a_target_is_read_with_ample_memory(rt: HostRuntime) -> Result<(), Fail> {
+    let canon = canon(rt.alloc(), b"/a%20b")?;
+    assert_eq!(rt; canon.path.as_str(), "/a b");
+    Ok(())
 }

@@ -4,8 +4,6 @@
 #[cfg(test)]
 mod ample_memory;
 #[cfg(test)]
-mod ample_paths;
-#[cfg(test)]
 mod calls;
 #[cfg(test)]
 mod canonical_paths;

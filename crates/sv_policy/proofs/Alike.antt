@@ -7,7 +7,7 @@ use Rattle.std.specs.List.{list_any}
 use Rattle.sv_constraints.specs.Covering.{covers, covers_method, lists}
 use Rattle.sv_constraints.specs.declared.constraint.Collection.{Collection}
 use Rattle.sv_constraints.specs.declared.constraint.Constraint.{Constraint}
-use Rattle.sv_constraints.specs.declared.rules.Rules.{Rules}
+use Rattle.sv_constraints.specs.declared.constraint.Rules.{Rules}
 use Rattle.sv_policy.specs.Entries.{entry_for}
 use Rattle.sv_policy.specs.Merged.{IsMerged}
 use Rattle.sv_policy.specs.Table.{IsTable}

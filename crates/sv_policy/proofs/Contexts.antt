@@ -9,9 +9,9 @@ use Rattle.std.proofs.lemmas.Option.{slice_get-get_or, slice_get_past}
 use Rattle.sv_mapping.specs.Chosen.{is_chosen}
 use Rattle.sv_mapping.specs.Pattern.{is_at_or_below}
 use Rattle.sv_policy.specs.Context.{context_of, context_paths, policy}
-use Rattle.sv_policy.specs.declared.context.ContextPolicy.{ContextPolicy}
+use Rattle.sv_policy.specs.declared.explained_context.ContextPolicy.{ContextPolicy}
 use Rattle.sv_policy.specs.Compiled.{Standing}
-use Rattle.sv_realm.specs.declared.user.User.{User}
+use Rattle.sv_realm.specs.declared.account.User.{User}
 
 at_place : {X : Type 0} (t : X → Bool) (xs : List X) → option_and_then (λ i. slice_get xs i) (position t xs) ≡ find t xs
 at_place t xs =

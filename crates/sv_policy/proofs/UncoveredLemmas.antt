@@ -14,7 +14,7 @@ use Rattle.sv_constraints.specs.Verdict.{least_number}
 use Rattle.sv_constraints.specs.declared.constraint.Constraint.{Constraint}
 use Rattle.sv_constraints.specs.declared.constraint.Methods.TheVariants.{Except, Only}
 use Rattle.sv_constraints.specs.declared.findings.Findings.{Findings}
-use Rattle.sv_constraints.specs.declared.rules.Rules.{Rules}
+use Rattle.sv_constraints.specs.declared.constraint.Rules.{Rules}
 use Rattle.sv_policy.proofs.Joined.{filter_same}
 use Rattle.sv_policy.proofs.Named.{first_false, second_false, unnamed_members}
 use Rattle.sv_policy.proofs.Rising.{passing_lists, rising_lists, rising_rises, rising_same}

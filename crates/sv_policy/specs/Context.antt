@@ -1,9 +1,9 @@
 -- The context of a request (Jakarta Servlet 6.0, section 12.1).
 use Rattle.std.specs.Prelude.{ℕ, List, map, find, Option}
 use Rattle.sv_mapping.specs.Chosen.{is_chosen}
-use Rattle.sv_policy.specs.declared.context.ContextPolicy.{ContextPolicy}
+use Rattle.sv_policy.specs.declared.explained_context.ContextPolicy.{ContextPolicy}
 use Rattle.sv_policy.specs.Compiled.{Standing}
-use Rattle.sv_realm.specs.declared.user.User.{User}
+use Rattle.sv_realm.specs.declared.account.User.{User}
 
 -- A context with this path, these current constraints and these users.
 abbrev pub policy : List ℕ → Standing → List User → ContextPolicy

@@ -6,7 +6,7 @@ use Rattle.std.specs.Option.{option_map}
 use Rattle.std.specs.declared.boxed.Box.{Box}
 use Rattle.sv_constraints.specs.Covering.{covers, lists}
 use Rattle.sv_constraints.specs.declared.constraint.Constraint.{Constraint}
-use Rattle.sv_constraints.specs.declared.rules.Rules.{Rules}
+use Rattle.sv_constraints.specs.declared.constraint.Rules.{Rules}
 use Rattle.sv_policy.specs.Merged.{IsMerged}
 use Rattle.sv_policy.specs.declared.entries.Entries.{Entries}
 use Rattle.sv_policy.specs.declared.merged.Merged.{Merged}

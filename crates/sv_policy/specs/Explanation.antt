@@ -10,17 +10,17 @@ use Rattle.sv_uri.specs.declared.fault.PathFault.{PathFault}
 use Rattle.sv_uri.specs.declared.path.Canon.{Canon}
 use Rattle.sv_realm.specs.Realm.{caller_named}
 use Rattle.sv_realm.specs.declared.caller.Caller.{Caller}
-use Rattle.sv_realm.specs.declared.user.User.{User}
+use Rattle.sv_realm.specs.declared.account.User.{User}
 use Rattle.sv_constraints.specs.Verdict.{verdict}
 use Rattle.sv_policy.specs.Context.{context_of}
 use Rattle.sv_mapping.specs.Within.{path_within}
 use Rattle.sv_mapping.specs.Protected.{is_protected}
-use Rattle.sv_policy.specs.declared.context.ContextPolicy.{ContextPolicy}
+use Rattle.sv_policy.specs.declared.explained_context.ContextPolicy.{ContextPolicy}
 use Rattle.sv_policy.specs.declared.explanation.Explanation.{Explanation}
 use Rattle.sv_policy.specs.declared.explanation.Explanation.TheVariants.{Refused, Hidden, Decided}
 use Rattle.sv_policy.specs.declared.explanation.HiddenCause.TheVariants.{NoContext, Protected}
-use Rattle.sv_policy.specs.declared.fault.ExplainFault.{ExplainFault}
-use Rattle.sv_policy.specs.declared.fault.ExplainFault.TheVariants.{BadMethod, NoSuchUser}
+use Rattle.sv_policy.specs.declared.explain_fault.ExplainFault.{ExplainFault}
+use Rattle.sv_policy.specs.declared.explain_fault.ExplainFault.TheVariants.{BadMethod, NoSuchUser}
 
 abbrev pub Answer : Type 0
 Answer = Result Explanation ExplainFault

@@ -1,7 +1,7 @@
 -- Reasons for a missing explanation.
 use Rattle.std.specs.Prelude.{ℕ, List, codes, Option, Some, None}
-use Rattle.sv_policy.specs.declared.fault.ExplainFault.{ExplainFault}
-use Rattle.sv_policy.specs.declared.fault.ExplainFault.TheVariants.{BadMethod, NoSuchUser, NoMemory}
+use Rattle.sv_policy.specs.declared.explain_fault.ExplainFault.{ExplainFault}
+use Rattle.sv_policy.specs.declared.explain_fault.ExplainFault.TheVariants.{BadMethod, NoSuchUser, NoMemory}
 
 -- The fault, or none if memory ran out.
 abbrev pub explain_fault : ExplainFault → Option ExplainFault

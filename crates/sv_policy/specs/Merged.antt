@@ -9,7 +9,7 @@ use Rattle.sv_constraints.specs.Verdict.{least_where}
 use Rattle.sv_constraints.specs.declared.constraint.Auth.{Auth}
 use Rattle.sv_constraints.specs.declared.constraint.Auth.TheVariants.{Absent, Roles}
 use Rattle.sv_constraints.specs.declared.constraint.Constraint.{Constraint}
-use Rattle.sv_constraints.specs.declared.rules.Rules.{Rules}
+use Rattle.sv_constraints.specs.declared.constraint.Rules.{Rules}
 use Rattle.sv_policy.specs.declared.merged.Merged.{Merged}
 use Rattle.sv_policy.specs.declared.role_numbers.RoleNumbers.{RoleNumbers}
 

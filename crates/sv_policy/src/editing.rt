@@ -3,9 +3,8 @@
 ghost use Rattle.std.specs.Prelude.{◌≡◌, Ok, OnErr, OnOk};
 ghost use Rattle.sv_policy.specs.Edits.{GivesOutcome, append_outcome, edit_outcome, edited, edited_all, is_too_many, lists_too_many, numbered, place_of, with_last, withdraw_outcome, without_place};
 
-use crate::edit::{Edit, NewConstraint};
+use crate::edit::{Edit, MAX_CONSTRAINTS, MAX_PATTERNS_OF_CONSTRAINT, NewConstraint};
 use crate::edit_fault::EditFault;
-use crate::limits::{MAX_CONSTRAINTS, MAX_PATTERNS_OF_CONSTRAINT};
 use crate::policy::Policy;
 use crate::rebuilding::{rebuilt_with, rebuilt_without};
 use std::alloc::Global;

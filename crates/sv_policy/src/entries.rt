@@ -54,7 +54,7 @@ fn differ(one: bool, other: bool) -> bool
 
 impl Entries {
     ghost use Rattle.sv_constraints.specs.declared.constraint.Constraint.{Constraint};
-    ghost use Rattle.sv_constraints.specs.declared.rules.Rules.{Rules};
+    ghost use Rattle.sv_constraints.specs.declared.constraint.Rules.{Rules};
 
     /// Merges constraints into the entries of a pattern.
     pub fn merge(

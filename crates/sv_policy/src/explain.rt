@@ -8,9 +8,9 @@ ghost use Rattle.sv_policy.specs.Context.{policy};
 ghost use Rattle.sv_policy.specs.Explanation as spec;
 ghost use Rattle.sv_policy.specs.Fault.{explain_fault};
 
-use crate::context::{ContextPolicy, HasPolicy, context_of};
+use crate::explain_fault::ExplainFault;
+use crate::explained_context::{ContextPolicy, HasPolicy, context_of};
 use crate::explanation::{Explanation, HiddenCause};
-use crate::fault::ExplainFault;
 use std::alloc::Global;
 use sv_constraints::OwnedDecision;
 use sv_mapping::{is_protected, path_within};

@@ -2,10 +2,10 @@
 
 ghost use Rattle.std.specs.Prelude.{◌≡◌};
 ghost use Rattle.sv_policy.specs.Gaps.{GapsAreExact, GapsRise};
+ghost use Rattle.sv_policy.specs.MergedLaws.{RisingHasTheTexts, RisingIsAlone, RisingRises, UncoveredIsExact, UncoveredRises};
 ghost use Rattle.sv_policy.specs.Patterns.{BestIsOfTexts};
-ghost use Rattle.sv_policy.specs.declared.limits.TheConstants.{MAX_CONSTRAINTS, MAX_PATTERNS_OF_CONSTRAINT};
+ghost use Rattle.sv_policy.specs.declared.edit.TheConstants.{MAX_CONSTRAINTS, MAX_PATTERNS_OF_CONSTRAINT};
 
-use crate::{rising_is_in_order, uncovered_methods_are_exact};
 use sv_mapping::laws::best_is_unique;
 
 /// Patterns with the same texts have the same best match for each path, whatever their order and number.
@@ -36,4 +36,19 @@ pub fn gaps_rise()
 pub fn limits_are_as_stated()
     ensures constraints { MAX_CONSTRAINTS ≡ 1000 }
     ensures patterns { MAX_PATTERNS_OF_CONSTRAINT ≡ 64 }
+{}
+
+/// Sorting texts by bytes gives a strictly ascending list of the same texts, and no other list is strictly ascending
+/// and has the same texts.
+pub fn rising_is_in_order()
+    ensures rises { RisingRises }
+    ensures texts { RisingHasTheTexts }
+    ensures alone { RisingIsAlone }
+{}
+
+/// The uncovered methods at a pattern are exactly those that no constraint covers there, and the listed names are
+/// strictly ascending.
+pub fn uncovered_methods_are_exact()
+    ensures exact { UncoveredIsExact }
+    ensures rises { UncoveredRises }
 {}

@@ -5,10 +5,10 @@ ghost use Rattle.sv_constraints.specs.Covering.{all_patterns, lists};
 ghost use Rattle.sv_policy.specs.Table.{IsTable};
 ghost use Rattle.sv_policy.specs.Patterns.{lists_pattern};
 
-use crate::Table;
 use crate::likeness::mark_of;
 use crate::making::Making;
 use crate::patterns::is_listed;
+use crate::table::Table;
 use crate::tables::{merged, table_like};
 use std::alloc::Global;
 use sv_constraints::{Constraint, Rules};

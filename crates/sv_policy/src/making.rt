@@ -5,7 +5,7 @@ ghost use Rattle.std.specs.Option.{option_and_then, option_copied};
 ghost use Rattle.std.specs.Prelude.{slice_get};
 ghost use Rattle.sv_policy.specs.Table.{IsTable};
 
-use crate::Table;
+use crate::table::Table;
 use std::alloc::Global;
 use std::collections::HashMap;
 use std::rc::Rc;
@@ -38,7 +38,7 @@ pub fn table_at(tables: &[Rc<Table>], place: Option<usize>) -> Option<&Table>
 
 impl Making {
     ghost use Rattle.sv_constraints.specs.declared.constraint.Constraint.{Constraint};
-    ghost use Rattle.sv_constraints.specs.declared.rules.Rules.{Rules};
+    ghost use Rattle.sv_constraints.specs.declared.constraint.Rules.{Rules};
 
     /// Starts with these tables.
     pub fn beginning(alloc: Global, tables: Vec<Rc<Table>>) -> Result<Making, NoMemory>

@@ -39,7 +39,7 @@ fn names_everyone(auth: &Auth) -> bool
 
 impl Merged {
     ghost use Rattle.sv_constraints.specs.declared.constraint.Constraint.{Constraint};
-    ghost use Rattle.sv_constraints.specs.declared.rules.Rules.{Rules};
+    ghost use Rattle.sv_constraints.specs.declared.constraint.Rules.{Rules};
 
     /// Returns the merge of no constraints.
     fn none(alloc: Global) -> Merged

@@ -7,10 +7,10 @@ ghost use Rattle.sv_policy.specs.Compiled.{AreCompiled};
 ghost use Rattle.sv_policy.specs.Patterns.{listed_in};
 ghost use Rattle.sv_policy.specs.Rebuilt.{AreSameElsewhere, IsRebuilt};
 
-use crate::Table;
 use crate::listed_tables::push_tables;
 use crate::making::Making;
 use crate::patterns::{is_among, patterns_of};
+use crate::table::Table;
 use crate::tables::index_of;
 use std::alloc::Global;
 use std::rc::Rc;

@@ -29,7 +29,7 @@ pub struct Table {
 
 impl Table {
     ghost use Rattle.sv_constraints.specs.declared.constraint.Constraint.{Constraint};
-    ghost use Rattle.sv_constraints.specs.declared.rules.Rules.{Rules};
+    ghost use Rattle.sv_constraints.specs.declared.constraint.Rules.{Rules};
 
     /// Merges constraints into the table of a pattern.
     pub fn merge(

@@ -6,9 +6,9 @@ ghost use Rattle.sv_policy.specs.Table.{IsTable};
 ghost use Rattle.sv_policy.specs.Patterns.{lists_pattern};
 ghost use Rattle.sv_text.specs.Gives.{GivesAnswer};
 
-use crate::Table;
 use crate::likeness::are_alike;
 use crate::patterns::copied;
+use crate::table::Table;
 use std::alloc::Global;
 use std::rc::Rc;
 use sv_constraints::{Constraint, Rules};

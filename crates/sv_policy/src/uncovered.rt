@@ -1,21 +1,22 @@
 //! The gaps of merged tables.
 
-ghost use Rattle.std.specs.Prelude.{◌≡◌, ◌++◌, ◌∷◌, [], List, All, Contains, IfOk, OnOk, map, if◌then◌else◌};
+ghost use Rattle.std.specs.Prelude.{All, Contains, IfOk, List, OnOk, [], if◌then◌else◌, map, ◌++◌, ◌∷◌, ◌≡◌};
 ghost use Rattle.sv_constraints.specs.declared.constraint.Constraint.{Constraint};
-ghost use Rattle.sv_constraints.specs.declared.rules.Rules.{Rules};
-ghost use Rattle.sv_policy.specs.Table.{IsTable};
-ghost use Rattle.sv_policy.specs.Uncovered.{has_methods, rising, uncovered_methods};
+ghost use Rattle.sv_constraints.specs.declared.constraint.Rules.{Rules};
 ghost use Rattle.sv_policy.specs.Compiled.{AreCompiled};
 ghost use Rattle.sv_policy.specs.Filed.{IsFiled};
 ghost use Rattle.sv_policy.specs.Gaps.{gap_at, gaps};
+ghost use Rattle.sv_policy.specs.Table.{IsTable};
+ghost use Rattle.sv_policy.specs.Uncovered.{has_methods, rising, uncovered_methods};
 
-use crate::gap::Gap;
+use crate::laws::rising_is_in_order;
 use crate::patterns::copied;
-use crate::{Table, rising_is_in_order};
+use crate::table::Table;
 use std::alloc::Global;
 use std::collections::BTreeMap;
 use std::rc::Rc;
 use sv_constraints::Methods;
+use sv_mapping::Pattern;
 use sv_text::NoMemory;
 
 /// Returns the gaps of the constraints that the tables were merged from.
@@ -76,4 +77,14 @@ fn has_methods(methods: &Methods) -> bool
         Methods::Only(listed) => !listed.as_slice().is_empty(),
         Methods::Except(_) => true,
     }
+}
+
+/// A pattern of a policy and the methods that no constraint covers there (Jakarta Servlet 6.0, section 13.8.4).
+#[derive(Drop)]
+pub struct Gap {
+    /// The pattern.
+    pub pattern: Pattern,
+    /// The uncovered methods: the listed ones, or all except the listed ones; never [`Methods::All`]. The names are in
+    /// ascending byte order.
+    pub methods: Methods,
 }

@@ -6,7 +6,7 @@ use Rattle.sv_descriptor.specs.declared.fault.DescriptorFault.{DescriptorFault}
 use Rattle.sv_policy.specs.Explanation.{Answer}
 use Rattle.sv_policy.specs.Text.{explanation_text}
 use Rattle.sv_policy.specs.declared.explanation.Explanation.{Explanation}
-use Rattle.sv_policy.specs.declared.fault.ExplainFault.TheVariants.{BadMethod, NoSuchUser}
+use Rattle.sv_policy.specs.declared.explain_fault.ExplainFault.TheVariants.{BadMethod, NoSuchUser}
 use Rattle.sv_policy_c.specs.Answer.{IsShort, IsUntouched, IsWritten}
 use Rattle.sv_policy_c.specs.Engine.{engine_of, explained}
 use Rattle.sv_policy_c.specs.Status.{number}

@@ -4,7 +4,7 @@ use Rattle.sv_text.specs.Steps.{◌>>=◌}
 use Rattle.sv_descriptor.specs.Fault.{Reads}
 use Rattle.sv_descriptor.specs.Descriptor.{descriptor_of}
 use Rattle.sv_policy.specs.Compiled.{compiled}
-use Rattle.sv_realm.specs.declared.user.User.{User}
+use Rattle.sv_realm.specs.declared.account.User.{User}
 use Rattle.sv_policy.specs.Context.{policy}
 use Rattle.sv_policy.specs.Explanation.{Answer, explanation}
 use Rattle.sv_policy_c.specs.declared.engine.Engine.{Engine}

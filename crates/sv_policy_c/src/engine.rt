@@ -2,7 +2,7 @@
 
 ghost use Rattle.std.specs.Prelude.{◌≡◌, IfOk, IfErr, Err, Ok, None, Some};
 ghost use Rattle.sv_policy.specs.Fault.{explain_fault};
-ghost use Rattle.sv_policy.specs.declared.fault.ExplainFault.TheVariants.{BadMethod};
+ghost use Rattle.sv_policy.specs.declared.explain_fault.ExplainFault.TheVariants.{BadMethod};
 ghost use Rattle.sv_policy_c.specs.Engine as spec;
 ghost use Rattle.sv_descriptor.specs.Fault.{fault};
 ghost use Rattle.sv_text.specs.Gives.{Gives, GivesAnswer};

@@ -3,7 +3,7 @@
 use Rattle.std.specs.Prelude.{ℕ, List, [], ◌∷◌, Option, Some, None, Result, Ok, Err}
 use Rattle.std.specs.Option.{ok_or}
 use Rattle.sv_text.specs.Steps.{◌>>=◌}
-use Rattle.sv_realm.specs.declared.user.User.{User}
+use Rattle.sv_realm.specs.declared.account.User.{User}
 use Rattle.sv_descriptor.specs.Fault.{Reads}
 use Rattle.sv_descriptor.specs.declared.fault.DescriptorFault.{DescriptorFault}
 use Rattle.sv_descriptor.specs.Server.{server_of}

@@ -5,7 +5,7 @@ use Rattle.sv_constraints.specs.declared.constraint.Methods.{Methods}
 use Rattle.sv_constraints.specs.declared.constraint.Methods.TheVariants.{All, Only}
 use Rattle.sv_constraints.specs.declared.constraint.Auth.TheVariants.{Roles}
 use Rattle.sv_constraints.specs.declared.constraint.Transport.TheVariants.{Absent}
-use Rattle.sv_constraints.specs.declared.rules.Rules.{Rules}
+use Rattle.sv_constraints.specs.declared.constraint.Rules.{Rules}
 
 -- the constraint of this number that requires the role `manager` at one pattern, for these methods
 abbrev pub constraint_on : ℕ → List ℕ → Methods → Constraint

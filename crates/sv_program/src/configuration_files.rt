@@ -7,7 +7,7 @@ ghost use Rattle.sv_program.specs.ConfigurationFiles.{ReadsContext, ReadsContext
 
 use crate::command_fault::CommandFault;
 use crate::configuration::{ContextTexts, server_in};
-use crate::file_store::FileStore;
+use crate::disk::FileStore;
 use std::alloc::Global;
 use std::path::Path;
 use sv_descriptor::{ContextEntry, Server};

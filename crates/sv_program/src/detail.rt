@@ -7,8 +7,10 @@ ghost use Rattle.sv_program.specs.CommandFault.{command_fault};
 ghost use Rattle.sv_program.specs.Detail as spec;
 ghost use Rattle.sv_program.specs.Telling as telling;
 
+use crate::command_fault::CommandFault;
+use crate::configuration_files::read_server_file;
+use crate::disk::FileStore;
 use crate::line::detail_line;
-use crate::{CommandFault, FileStore, read_server_file};
 use std::alloc::Global;
 use std::path::Path;
 use sv_descriptor::{ContextEntry, DescriptorFault, Server};

@@ -7,9 +7,7 @@ mod configuration_files;
 mod detail;
 mod disk;
 mod example_policy;
-mod file_store;
 mod first_command;
-mod laws;
 mod limits;
 mod line;
 mod lists;
@@ -26,11 +24,11 @@ pub use command_fault::CommandFault;
 pub use configuration::{ContextTexts, descriptor_in, realm_in, server_in};
 pub use configuration_files::{read_contexts, read_server_file};
 pub use detail::fault_detail;
-pub use disk::Disk;
-pub use file_store::FileStore;
+pub use disk::{Disk, FileStore};
 pub use first_command::{denies_uncovered, first, first_line};
-pub use laws::{limits_are_as_stated, limits_of_the_second_line};
-pub use limits::{MAX_INPUT_BYTES, MAX_SHOWN_CHARACTERS};
+pub use limits::{
+    MAX_INPUT_BYTES, MAX_SHOWN_CHARACTERS, limits_are_as_stated, limits_of_the_second_line,
+};
 pub use line::detail_line;
 pub use output::{print_line, print_text};
 pub use sv_constraints::{OwnedDecision, OwnedWhy};

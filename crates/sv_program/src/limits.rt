@@ -1,7 +1,19 @@
 //! The limits of the commands.
 
+ghost use Rattle.std.specs.Prelude.{◌≡◌};
+
 /// Maximum number of bytes that the command `first` reads: the limit of a request's head.
 pub const MAX_INPUT_BYTES: u64 = 65_536;
 
 /// Maximum number of characters shown of a text.
 pub const MAX_SHOWN_CHARACTERS: usize = 80;
+
+/// The limits of this crate as numbers.
+pub fn limits_are_as_stated()
+    ensures input { MAX_INPUT_BYTES ≡ 65536 }
+{}
+
+/// At most 80 characters of a text are shown.
+pub fn limits_of_the_second_line()
+    ensures { MAX_SHOWN_CHARACTERS ≡ 80 }
+{}

@@ -11,7 +11,7 @@ ghost use Rattle.sv_program.specs.Uncovered as spec;
 use crate::command_fault::CommandFault;
 use crate::configuration::{ContextTexts, descriptor_in};
 use crate::configuration_files::{read_contexts, read_server_file};
-use crate::file_store::FileStore;
+use crate::disk::FileStore;
 use crate::output::print_text;
 use std::alloc::Global;
 use std::io::Write;

@@ -3,7 +3,7 @@ use Rattle.std.specs.Prelude.{◌≡◌, ◌==◌, ℕ, ◌++◌, Bool, List, []
 use Rattle.std.specs.Fmt.{decimal}
 use Rattle.std.specs.Option.{option_and_then, option_map}
 use Rattle.sv_connection.specs.Asking.{Explaining, Saying}
-use Rattle.sv_connection.specs.declared.figures.Figures.{Figures}
+use Rattle.sv_connection.specs.declared.queries.Figures.{Figures}
 use Rattle.sv_readiness.specs.declared.asking.Ask.{Ask}
 use Rattle.sv_readiness.specs.declared.asking.Ask.TheVariants.{Explain, Status, Uncovered, Unknown}
 use Rattle.sv_readiness.specs.declared.asking.Ask.TheVariants as ask
@@ -11,12 +11,12 @@ use Rattle.sv_readiness.specs.declared.limits.TheConstants.{MAX_LINE_BYTES}
 use Rattle.sv_policy.specs.declared.edit.Edit.{Edit}
 use Rattle.sv_run.specs.Events.{Edited}
 use Rattle.sv_run.specs.Reacting.{Reacting}
-use Rattle.sv_run.specs.declared.reaction.Reaction.{Reaction}
+use Rattle.sv_run.specs.declared.happening.Reaction.{Reaction}
 use Rattle.sv_run.specs.declared.step_fault.StepFault.{StepFault}
 use Rattle.sv_script.specs.Fields.{at_blank, text_of}
 use Rattle.sv_script.specs.Line.{asked}
 use Rattle.sv_script.specs.Printed.{edited_lines}
-use Rattle.sv_script.specs.declared.fault.LineFault.{LineFault}
+use Rattle.sv_script.specs.declared.line.LineFault.{LineFault}
 use Rattle.sv_script.specs.declared.line.ScriptLine.{ScriptLine}
 use Rattle.sv_script.specs.declared.line.ScriptLine.TheVariants as script
 use Rattle.sv_text.specs.Gives.{GivesAnswer}

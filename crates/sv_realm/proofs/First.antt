@@ -12,7 +12,7 @@ use Rattle.std.proofs.lemmas.List.Sums.{fails_before_first, passes_at_first}
 use Rattle.std.proofs.lemmas.Option.{get_or_from_slice_get, none-some, option_and_then_some, same_Some, slice_get-get_or, slice_get_within}
 use Rattle.std.proofs.lemmas.Slice.Eq.{bytes_eq-Decides}
 use Rattle.sv_realm.specs.declared.caller.Caller.{Caller}
-use Rattle.sv_realm.specs.declared.user.User.{User}
+use Rattle.sv_realm.specs.declared.account.User.{User}
 use Rattle.sv_realm.specs.Laws.{ChecksTheNamed, FindsTheFirst, MissesNone}
 use Rattle.sv_realm.specs.Realm.{caller_at, caller_checked, caller_named, caller_of, user_named}
 use Rattle.sv_realm.specs.User.{fits}

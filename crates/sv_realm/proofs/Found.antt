@@ -6,7 +6,7 @@ use Rattle.std.specs.Option.{option_map}
 use Rattle.std.specs.Str.{bytes_eq}
 use Rattle.std.proofs.lemmas.Option.{slice_get-map}
 use Rattle.sv_realm.specs.declared.account.Account.{Account}
-use Rattle.sv_realm.specs.declared.user.User.{User}
+use Rattle.sv_realm.specs.declared.account.User.{User}
 use Rattle.sv_realm.specs.Account.{AreNumbered, account_of, user_of}
 use Rattle.sv_realm.specs.Realm.{caller_at, caller_checked, caller_named, caller_of, user_named}
 use Rattle.sv_realm.specs.User.{fits}

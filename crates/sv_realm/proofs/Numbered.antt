@@ -4,7 +4,7 @@ use Rattle.std.specs.List.{enumerate_from}
 use Rattle.std.specs.Option.{option_map}
 use Rattle.std.proofs.lemmas.List.{map-append}
 use Rattle.sv_realm.specs.declared.account.Account.{Account}
-use Rattle.sv_realm.specs.declared.user.User.{User}
+use Rattle.sv_realm.specs.declared.account.User.{User}
 use Rattle.sv_realm.specs.Account.{AreNumbered, account_of, user_of}
 
 pub enumerate_more : {X : Type 0} (n : ℕ) (xs : List X) (x : X)

@@ -2,7 +2,7 @@
 use Rattle.std.specs.Prelude.{◌≡◌, ℕ, Bool, false, List, map, Option, None, Some}
 use Rattle.std.specs.List.{enumerate_from}
 use Rattle.sv_realm.specs.declared.account.Account.{Account}
-use Rattle.sv_realm.specs.declared.user.User.{User}
+use Rattle.sv_realm.specs.declared.account.User.{User}
 use Rattle.sv_realm.specs.Realm.{caller_of}
 use Rattle.sv_realm.specs.User.{fits}
 

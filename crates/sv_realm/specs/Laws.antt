@@ -1,7 +1,7 @@
 -- Theorems about realms (Jakarta Servlet 6.0 section 13.6; FIPS 180-4 section 6.2).
 use Rattle.std.specs.Prelude.{◌≡◌, ◌≢◌, ◌↔◌, ℕ, List, Some, None, All, IsTrue, length, slice_get, take}
 use Rattle.sv_realm.specs.declared.caller.Caller.{Caller}
-use Rattle.sv_realm.specs.declared.user.User.{User}
+use Rattle.sv_realm.specs.declared.account.User.{User}
 use Rattle.sv_realm.specs.Realm.{caller_at, caller_checked, caller_named}
 use Rattle.sv_realm.specs.User.{fits}
 

@@ -1,16 +1,15 @@
 //! The accounts of a realm: for each user, the caller and the salt and digest that passwords are checked against.
 
-ghost use Rattle.std.specs.Prelude.{◌≡◌, ◌≤◌, IfOk, find, map, vec_len};
 ghost use Rattle.std.specs.List.{enumerate_from};
 ghost use Rattle.std.specs.Option.{option_copied};
+ghost use Rattle.std.specs.Prelude.{IfOk, find, map, vec_len, ◌≡◌, ◌≤◌};
 ghost use Rattle.std.specs.Str.{bytes_eq};
 ghost use Rattle.sv_realm.specs.Account.{account_of};
 
 use crate::caller::Caller;
-use crate::limits::MAX_USERS;
-use crate::user::User;
+use crate::realm::MAX_USERS;
 use std::alloc::Global;
-use sv_text::{Bytes, NoMemory};
+use sv_text::{Bytes, Listed, NoMemory, Text};
 
 /// A user of a realm: the caller that a login gives, and the salt and digest that the password is checked against.
 #[derive(Drop)]
@@ -63,4 +62,18 @@ pub fn account_named<'a>(accounts: &'a [Account], name: &str) -> Option<&'a Acco
     accounts
         .iter()
         .find(|account| account.caller.name.as_str() == name)
+}
+
+/// A user, with the salt and digest that a password is checked against.
+#[derive(Drop)]
+pub struct User {
+    /// The user's name.
+    pub name: Text,
+    /// The salt as bytes, decoded from hexadecimal.
+    pub salt: Bytes,
+    /// The digest as bytes, decoded from hexadecimal: the SHA-256 of the salt followed by the password. A digest that
+    /// does not have 32 bytes fits no password.
+    pub digest: Bytes,
+    /// The names of the user's roles.
+    pub roles: Listed<Text>,
 }

@@ -2,7 +2,7 @@
 
 ghost use Rattle.std.specs.Prelude.{◌≡◌};
 ghost use Rattle.sv_realm.specs.Laws.{ChecksTheNamed, FindsTheFirst, FitsByWholeDigest, MissesNone};
-ghost use Rattle.sv_realm.specs.declared.limits.TheConstants.{MAX_USERS};
+ghost use Rattle.sv_realm.specs.declared.realm.TheConstants.{MAX_USERS};
 
 /// The caller found by a name has that name and is found again by their number, and no earlier user has the name. If no
 /// caller is found, no user has the name.

@@ -4,16 +4,13 @@
 mod account;
 mod caller;
 mod laws;
-mod limits;
 mod password;
 mod realm;
-mod user;
 
+pub use account::User;
 pub use caller::Caller;
 pub use laws::{
     a_checked_caller_is_the_named_one, a_digest_that_fits_is_whole, limits_are_as_stated,
     the_first_user_of_a_name_counts,
 };
-pub use limits::MAX_USERS;
-pub use realm::Realm;
-pub use user::User;
+pub use realm::{MAX_USERS, Realm};

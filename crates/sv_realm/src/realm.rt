@@ -1,15 +1,13 @@
 //! A realm: the users of a server, by name and by number.
 
-ghost use Rattle.std.specs.Prelude.{◌≡◌, ◌≤◌, vec_len};
 ghost use Rattle.std.specs.Option.{option_copied};
+ghost use Rattle.std.specs.Prelude.{vec_len, ◌≡◌, ◌≤◌};
 ghost use Rattle.sv_realm.specs.Realm.{caller_at, caller_checked, caller_named};
 ghost use Rattle.sv_text.specs.Gives.{GivesAnswer};
 
-use crate::account::{Account, account_named, accounts_of};
+use crate::account::{Account, User, account_named, accounts_of};
 use crate::caller::Caller;
-use crate::limits::MAX_USERS;
 use crate::password::fits;
-use crate::user::User;
 use std::alloc::Global;
 use std::marker::Model;
 use sv_text::NoMemory;
@@ -22,7 +20,7 @@ pub struct Realm {
 
 impl Model for Realm {
     ghost use Rattle.std.specs.Prelude.{List, map};
-    ghost use Rattle.sv_realm.specs.declared.user.User.{User};
+    ghost use Rattle.sv_realm.specs.declared.account.User.{User};
 
     ghost Value = { List User };
 
@@ -80,3 +78,6 @@ impl Realm {
         Some(&account.caller)
     }
 }
+
+/// Maximum number of users in a realm.
+pub const MAX_USERS: usize = 1000;

@@ -6,7 +6,7 @@ use Rattle.sv_journal.specs.Journal.{JournalState, new_journal}
 use Rattle.sv_journal.specs.declared.entry.Entry.{Entry}
 use Rattle.sv_run.proofs.Effects.{first-assoc, first-at_none, or-assoc, or-at_false}
 use Rattle.sv_run.specs.Effect.{Effect, closing, joined, nothing, noting, shown, telling}
-use Rattle.sv_run.specs.declared.reaction.Reaction.{Reaction}
+use Rattle.sv_run.specs.declared.happening.Reaction.{Reaction}
 
 pub or-true : (a : Bool) → true ≡ (a || true)
 or-true true = refl

@@ -10,7 +10,7 @@ use Rattle.sv_run.specs.Effect.{Effect, answered, handled, noting}
 use Rattle.sv_run.specs.Items.{IsAnswerTo, Responds, TakesMessage, closes_behind}
 use Rattle.sv_run.specs.Messages.{Destination, Itself, Within, destination, destination_at, destination_in, empty_response, place_for, plain_response}
 use Rattle.sv_run.specs.State.{world_of}
-use Rattle.sv_run.specs.declared.reaction.Reaction.{Reaction}
+use Rattle.sv_run.specs.declared.happening.Reaction.{Reaction}
 use Rattle.sv_uri.specs.Canonical.{canonical}
 use Rattle.sv_uri.specs.declared.fault.PathFault.{PathFault}
 use Rattle.sv_uri.specs.declared.path.Canon.{Canon}

@@ -10,7 +10,7 @@ use Rattle.sv_run.specs.Effect.{Effect, answered, joined, nothing, sending}
 use Rattle.sv_run.specs.Items.{IsTextAt, Takes, TakesItem, continue_text}
 use Rattle.sv_run.specs.Messages.{plain_response}
 use Rattle.sv_run.specs.State.{World}
-use Rattle.sv_run.specs.declared.reaction.Reaction.{Reaction}
+use Rattle.sv_run.specs.declared.happening.Reaction.{Reaction}
 use Rattle.sv_wire.specs.WireFault.{fault_status}
 use Rattle.sv_wire.specs.declared.item.Item.{Item}
 use Rattle.sv_wire.specs.declared.item.Item.TheVariants.{Continue, Refuse}

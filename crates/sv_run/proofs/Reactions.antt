@@ -5,7 +5,7 @@ use Rattle.sv_run.specs.Events.{Happening}
 use Rattle.sv_run.specs.Reacting.{Reacting, Reacts, StepsLike, answer_shown}
 use Rattle.sv_run.specs.Runs.{Answer, Run}
 use Rattle.sv_run.specs.State.{State}
-use Rattle.sv_run.specs.declared.reaction.Reaction.{Reaction}
+use Rattle.sv_run.specs.declared.happening.Reaction.{Reaction}
 use Rattle.sv_run.specs.declared.step_fault.StepFault.{StepFault}
 
 pub reacts_join : {R : Type 0} (steps : Reacting R) (before between after : R) (events more : List Happening) (answers others : List (Result Reaction StepFault))

@@ -5,7 +5,7 @@ use Rattle.sv_journal.specs.Journal.{JournalState}
 use Rattle.sv_journal.specs.declared.entry.Entry.{Entry}
 use Rattle.sv_policy.specs.declared.edit_fault.EditFault.{EditFault}
 use Rattle.sv_run.specs.Contexts.{Handling}
-use Rattle.sv_run.specs.declared.reaction.Reaction.{Reaction}
+use Rattle.sv_run.specs.declared.happening.Reaction.{Reaction}
 
 -- the deed for a message: the container answered it itself, with that entry, or the context at a place handled it
 pub data Deed (Context : Type 0) : Type 0 where

@@ -6,7 +6,7 @@ use Rattle.sv_run.specs.Contexts.{Theory}
 use Rattle.sv_run.specs.Effect.{Effect, shown}
 use Rattle.sv_run.specs.Events.{Happening, Steps}
 use Rattle.sv_run.specs.State.{State, world_of}
-use Rattle.sv_run.specs.declared.reaction.Reaction.{Reaction}
+use Rattle.sv_run.specs.declared.happening.Reaction.{Reaction}
 use Rattle.sv_run.specs.declared.step_fault.StepFault.{StepFault}
 
 abbrev pub state_of : {C W : Type 0} → Host C W → State C W

@@ -3,7 +3,7 @@ use Rattle.std.specs.Prelude.{◌≡◌, ◌||◌, ◌++◌}
 use Rattle.std.specs.Option.{option_or}
 use Rattle.sv_run.specs.declared.output.Output.{Output}
 use Rattle.sv_run.specs.Effect.{Effect, noting}
-use Rattle.sv_run.specs.declared.reaction.Reaction.{Reaction}
+use Rattle.sv_run.specs.declared.happening.Reaction.{Reaction}
 
 abbrev pub reaction_of : Output → Reaction
 reaction_of output = record { sends = output.sends.items; closes = output.closes; journal = output.journal; edited = output.edited }

@@ -5,7 +5,7 @@ use Rattle.sv_run.specs.Effect.{shown}
 use Rattle.sv_run.specs.Events.{Happening, Steps}
 use Rattle.sv_run.specs.Runs.{Answer, Run}
 use Rattle.sv_run.specs.State.{State}
-use Rattle.sv_run.specs.declared.reaction.Reaction.{Reaction}
+use Rattle.sv_run.specs.declared.happening.Reaction.{Reaction}
 use Rattle.sv_run.specs.declared.step_fault.StepFault.{StepFault}
 
 -- how an event is handled: the handler before it, the event, its reaction or fault, and the handler after it

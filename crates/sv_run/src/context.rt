@@ -1,12 +1,13 @@
 //! The traits that a container requires of a context and of a source of random words.
 
-ghost use Rattle.std.specs.Prelude.{◌≡◌, ℕ, true, List, Err, IfErr, IfOk, IsTrue};
 ghost use Rattle.http.specs.StatusCode.{IsStatusCode};
+ghost use Rattle.std.specs.Prelude.{Err, IfErr, IfOk, IsTrue, List, true, ℕ, ◌≡◌};
 ghost use Rattle.sv_journal.specs.declared.entry.Entry.{Entry};
 ghost use Rattle.sv_mapping.specs.Pattern.{is_at_or_below};
 ghost use Rattle.sv_policy.specs.declared.edit_fault.EditFault.TheVariants as fault;
 ghost use Rattle.sv_run.specs.Contexts.{Conduct, request_of};
 ghost use Rattle.sv_run.specs.Effect.{noting};
+ghost use Rattle.sv_run.specs.Events.{ExpiresAll, MovesAll};
 ghost use Rattle.sv_run.specs.Lawful.{EditsAlone, IsMotion, KeepsPath};
 
 use std::alloc::Global;
@@ -85,4 +86,17 @@ pub trait Words {
     /// Returns the next pair of words. It does not allocate.
     fn pair(&mut self) -> (u64, u64)
         ensures { draws self.old result self.new };
+}
+
+/// Ends the sessions that have expired at `moment`, context by context. It allocates only for the journal, and ends the
+/// sessions even if the journal runs out of memory.
+#[inline(always)]
+pub fn expire_all<C: Context>(alloc: Global, contexts: &mut [C], moment: u64, journal: &mut Journal)
+    ensures expires { (told : List Entry) × ExpiresAll C.conduct contexts.old moment told contexts.new
+        × (journal.new.whole ≡ true → journal.new ≡ noting told journal.old) }
+    ensures moves { MovesAll C.conduct contexts.old contexts.new }
+{
+    for place in 0..contexts.len() {
+        contexts[place].expire(alloc, moment, journal);
+    }
 }

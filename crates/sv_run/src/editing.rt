@@ -6,7 +6,7 @@ ghost use Rattle.sv_run.specs.Contexts.{theory_of};
 ghost use Rattle.sv_run.specs.Editing.{EditsIn, place_with};
 ghost use Rattle.sv_run.specs.Events.{AltersAll};
 
-use crate::{Context, Words};
+use crate::context::{Context, Words};
 use std::alloc::Global;
 use sv_mapping::HasContextPath;
 use sv_policy::{Edit, EditFault};

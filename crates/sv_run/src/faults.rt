@@ -6,7 +6,9 @@ ghost use Rattle.sv_run.specs.Events.{fault_of, moment_after, opening_fault, unk
 ghost use Rattle.sv_run.specs.Seen.{happening_of};
 
 use crate::connections::Connections;
-use crate::{Happening, LAST_MOMENT, MAX_CONNECTIONS, StepFault};
+use crate::happening::Happening;
+use crate::limits::{LAST_MOMENT, MAX_CONNECTIONS};
+use crate::step_fault::StepFault;
 
 /// Returns the time after an event that is not refused.
 pub fn moment_after(before: u64, happening: Happening) -> u64

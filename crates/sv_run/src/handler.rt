@@ -5,8 +5,7 @@ ghost use Rattle.sv_run.specs.Reacting.{ReactionsAreARun};
 ghost use Rattle.sv_run.specs.Seen.{happening_of};
 
 use crate::context::{Context, Words};
-use crate::happening::Happening;
-use crate::reaction::Reaction;
+use crate::happening::{Happening, Reaction};
 use crate::step_fault::StepFault;
 use sv_journal::Journal;
 use sv_wire::Awaited;

@@ -1,6 +1,8 @@
 //! The events of a container.
 
-use sv_policy::Edit;
+use sv_journal::Journal;
+use sv_policy::{Edit, EditFault};
+use sv_text::Bytes;
 
 /// An event of a container. Connections are identified by numbers, and times are in seconds since 1970. The container's
 /// time is the greatest time so far, at most [`LAST_MOMENT`](crate::LAST_MOMENT).
@@ -35,4 +37,19 @@ pub enum Happening<'a> {
         context: &'a str,
         edit: &'a Edit,
     },
+}
+
+/// The reaction to an accepted event.
+#[derive(Drop)]
+pub struct Reaction {
+    /// The bytes to send on the event's connection.
+    pub sends: Bytes,
+    /// Whether the connection closes after these bytes.
+    pub closes: bool,
+    /// The journal of the event: the requests that entered or were refused, the calls and the notifications, in order.
+    /// It is complete.
+    pub journal: Journal,
+    /// The answer to an edit: the number of the constraint that was appended or withdrawn, or the fault, which is never
+    /// `NoMemory`. `None` for every other event.
+    pub edited: Option<Result<u64, EditFault>>,
 }

@@ -15,13 +15,16 @@ ghost use Rattle.sv_run.specs.Seen.{happening_of};
 ghost use Rattle.sv_run.specs.State.{settled_at};
 
 use crate::connections::Connections;
+use crate::context::{Context, Words};
 use crate::editing::told_of;
 use crate::faults::{fault_of, moment_after};
+use crate::handler::EventHandler;
+use crate::happening::{Happening, Reaction};
 use crate::indexed::Indexed;
 use crate::items::take_items;
 use crate::output::Output;
 use crate::spare::Spare;
-use crate::{Context, EventHandler, Happening, Reaction, StepFault, Words};
+use crate::step_fault::StepFault;
 use std::alloc::Global;
 use sv_journal::Journal;
 use sv_mapping::{ContextIndex, HasContextPath};

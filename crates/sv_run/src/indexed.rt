@@ -14,11 +14,10 @@ ghost use Rattle.sv_run.specs.Events.{AltersAll, ExpiresAll, MovesAll};
 ghost use Rattle.sv_run.specs.Items.{Responds};
 ghost use Rattle.sv_run.specs.Messages.{Within};
 
+use crate::context::{Context, Words, expire_all};
 use crate::editing::edit_context;
-use crate::expiring::expire_all;
 use crate::output::Output;
 use crate::serving::handle_at;
-use crate::{Context, Words};
 use std::alloc::Global;
 use std::marker::Model;
 use sv_journal::Journal;

@@ -10,10 +10,10 @@ ghost use Rattle.sv_run.specs.Items.{Takes, TakesItem};
 ghost use Rattle.sv_run.specs.State.{world_of};
 
 use crate::answering::{refuse, send_continue};
+use crate::context::{Context, Words};
 use crate::indexed::Indexed;
 use crate::messages::take_message;
 use crate::output::Output;
-use crate::{Context, Words};
 use std::alloc::Global;
 use sv_text::NoMemory;
 use sv_wire::{DateText, Item};

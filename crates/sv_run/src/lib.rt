@@ -7,7 +7,6 @@ mod connections;
 mod context;
 mod counted_words;
 mod editing;
-mod expiring;
 mod faults;
 mod handler;
 mod happening;
@@ -18,19 +17,17 @@ mod laws;
 mod limits;
 mod messages;
 mod output;
-mod reaction;
 mod seeded_words;
 mod serving;
 mod spare;
 mod step_fault;
 
 pub use connections::Connections;
-pub use context::{Context, Words};
+pub use context::{Context, Words, expire_all};
 pub use counted_words::CountedWords;
-pub use expiring::expire_all;
 pub use faults::{fault_of, moment_after};
 pub use handler::{EventHandler, reactions_are_a_run};
-pub use happening::Happening;
+pub use happening::{Happening, Reaction};
 pub use host::Host;
 pub use laws::{
     callers_logged_in, constraints_change_by_edits_alone, ended_readings_stay, feedings_may_be_cut,
@@ -41,6 +38,5 @@ pub use laws::{
 };
 pub use limits::{LAST_MOMENT, MAX_CONNECTIONS};
 pub use output::Output;
-pub use reaction::Reaction;
 pub use seeded_words::SeededWords;
 pub use step_fault::StepFault;

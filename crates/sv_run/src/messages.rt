@@ -12,9 +12,9 @@ ghost use Rattle.sv_run.specs.State.{world_of};
 ghost use Rattle.sv_wire.specs.declared.item.Item.TheVariants as item;
 
 use crate::answering::{answer_bad_path, answer_hidden, answer_star};
+use crate::context::{Context, Words};
 use crate::indexed::Indexed;
 use crate::output::Output;
-use crate::{Context, Words};
 use std::alloc::Global;
 use sv_message::{Message, Target};
 use sv_text::NoMemory;

@@ -5,7 +5,7 @@ ghost use Rattle.sv_run.specs.Output.{Adds, reaction_of};
 ghost use Rattle.sv_journal.specs.Journal.{new_journal};
 ghost use Rattle.sv_run.specs.Effect.{editing};
 
-use crate::Reaction;
+use crate::happening::Reaction;
 use std::alloc::Global;
 use sv_journal::Journal;
 use sv_policy::EditFault;

@@ -11,8 +11,8 @@ ghost use Rattle.sv_run.specs.Items.{Responds};
 ghost use Rattle.sv_run.specs.Messages.{Within};
 
 use crate::answering::{is_head, send};
+use crate::context::{Context, Words};
 use crate::output::Output;
-use crate::{Context, Words};
 use std::alloc::Global;
 use sv_message::Message;
 use sv_text::NoMemory;

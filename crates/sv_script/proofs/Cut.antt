@@ -6,7 +6,7 @@ use Rattle.sv_script.specs.Replay.{Replays}
 use Rattle.sv_script.specs.declared.replay_fault.ReplayFault.{ReplayFault}
 use Rattle.sv_script.specs.declared.replay_fault.ReplayFault.TheVariants.{Script, Output, NoMemory}
 use Rattle.sv_run.specs.Reacting.{Reacting}
-use Rattle.sv_run.specs.declared.reaction.Reaction.{Reaction}
+use Rattle.sv_run.specs.declared.happening.Reaction.{Reaction}
 use Rattle.sv_script.specs.Printed.{shutdown_text, start_text}
 use Rattle.sv_script.specs.WholeLaws.{ACutTextBeginsTheWhole, ARefusedRunIsCut, Begins, IsCut, IsUnwritten}
 use Rattle.sv_script.specs.Whole.{PlaysOnce, PrintsOf, PrintsStop, blame}

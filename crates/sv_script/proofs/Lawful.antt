@@ -9,7 +9,7 @@ use Rattle.sv_run.specs.Laws.{RequestsEnterExactlyWhereAllowed}
 use Rattle.sv_run.specs.Reacting.{Reacting, StepsLike, answer_shown}
 use Rattle.sv_run.specs.Runs.{Answer, journal_of}
 use Rattle.sv_run.specs.State.{State}
-use Rattle.sv_run.specs.declared.reaction.Reaction.{Reaction}
+use Rattle.sv_run.specs.declared.happening.Reaction.{Reaction}
 use Rattle.sv_run.specs.declared.step_fault.StepFault.{StepFault}
 use Rattle.sv_script.specs.WholeLaws.{PlaysALawfulRun, entries_of}
 use Rattle.sv_run.proofs.Reactions.{run_of}

@@ -3,12 +3,12 @@ use Rattle.std.proofs.Common.{◌≡◌, ℕ, ◌+◌, List, [], ◌∷◌, Opti
 use Rattle.std.specs.Option.{option_to_list}
 use Rattle.sv_script.specs.Asked.{event_of, moment_behind, reaction_text, reactions_text}
 use Rattle.sv_script.specs.PlaySteps.{Accepts, PlaysLine, TakesEvent}
-use Rattle.sv_script.specs.declared.course.Course.{Course}
+use Rattle.sv_script.specs.declared.play.Course.{Course}
 use Rattle.sv_script.specs.declared.replay_fault.ReplayFault.{ReplayFault}
 use Rattle.sv_script.specs.declared.replay_fault.ReplayFault.TheVariants.{Script, Output, NoMemory}
 use Rattle.sv_run.specs.Events.{Happening}
 use Rattle.sv_run.specs.Reacting.{Reacting, Reacts}
-use Rattle.sv_run.specs.declared.reaction.Reaction.{Reaction}
+use Rattle.sv_run.specs.declared.happening.Reaction.{Reaction}
 use Rattle.sv_script.specs.Line.{asked}
 use Rattle.sv_script.specs.declared.line.ScriptLine.{ScriptLine}
 use Rattle.sv_streams.specs.Calls.{Making, WritesAll}

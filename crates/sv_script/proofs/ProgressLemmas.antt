@@ -6,15 +6,15 @@ use Rattle.sv_script.specs.Asked.{event_of, events_of, moment_behind, moment_beh
 use Rattle.sv_script.specs.Lines.{AreNext, IsNext}
 use Rattle.sv_script.specs.PlaySteps.{Accepts, PlaysLine}
 use Rattle.sv_script.specs.Replay.{AnswersLine, Played, Plays, Replays}
-use Rattle.sv_script.specs.declared.course.Course.{Course}
+use Rattle.sv_script.specs.declared.play.Course.{Course}
 use Rattle.sv_script.specs.declared.replay_fault.ReplayFault.{ReplayFault}
 use Rattle.sv_script.specs.declared.replay_fault.ReplayFault.TheVariants as faults
 use Rattle.sv_run.specs.Events.{Happening}
 use Rattle.sv_run.specs.Reacting.{Reacting, Reacts}
-use Rattle.sv_run.specs.declared.reaction.Reaction.{Reaction}
+use Rattle.sv_run.specs.declared.happening.Reaction.{Reaction}
 use Rattle.sv_run.specs.declared.step_fault.StepFault.{StepFault}
 use Rattle.sv_script.specs.Line.{asked}
-use Rattle.sv_script.specs.declared.fault.LineFault.{LineFault}
+use Rattle.sv_script.specs.declared.line.LineFault.{LineFault}
 use Rattle.sv_script.specs.declared.line.ScriptLine.{ScriptLine}
 use Rattle.sv_streams.specs.Calls.{AreMade, Call, Making, WritesAll, failures, given, meets_end, reads, taken}
 use Rattle.sv_streams.specs.Lines.{AreReads, LinesState, NextLine, max_reads, new_lines, piece_bytes, unread}

@@ -2,7 +2,7 @@
 use Rattle.std.proofs.Common.{◌≡◌, ℕ, ◌+◌, List, [], ◌∷◌, ◌++◌, refl, sym, ap, ◌∙◌, append_assoc, append-nil, length, arith, subst, Err}
 use Rattle.std.specs.Option.{option_to_list}
 use Rattle.sv_script.specs.Asked.{event_of, events_of, moment_behind, moment_behind_all, reaction_text, reactions_text}
-use Rattle.sv_run.specs.declared.reaction.Reaction.{Reaction}
+use Rattle.sv_run.specs.declared.happening.Reaction.{Reaction}
 use Rattle.sv_script.specs.Replay.{FailsAtLast}
 use Rattle.sv_script.specs.declared.line.ScriptLine.{ScriptLine}
 use Rattle.sv_streams.specs.Calls.{Making, WritesAll}

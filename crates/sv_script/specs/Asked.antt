@@ -3,7 +3,7 @@ use Rattle.std.specs.Prelude.{ℕ, ◌+◌, List, [], ◌∷◌, ◌++◌, Optio
 use Rattle.std.specs.Option.{option_to_list}
 use Rattle.sv_run.specs.Events.{Happening}
 use Rattle.sv_run.specs.Events as events
-use Rattle.sv_run.specs.declared.reaction.Reaction.{Reaction}
+use Rattle.sv_run.specs.declared.happening.Reaction.{Reaction}
 use Rattle.sv_script.specs.Printed.{event_text}
 use Rattle.sv_script.specs.declared.line.ScriptLine.{ScriptLine}
 use Rattle.sv_script.specs.declared.line.ScriptLine.TheVariants.{Nothing, Open, Send, End, Lost, Tick, Edit}

@@ -5,8 +5,8 @@ use Rattle.std.specs.Str.{byte, bytes_eq}
 use Rattle.sv_script.specs.Editing.{appending, withdrawing}
 use Rattle.sv_script.specs.Escape.{unescaped}
 use Rattle.sv_script.specs.Fields.{at_blank, number}
-use Rattle.sv_script.specs.declared.fault.LineFault.{LineFault}
-use Rattle.sv_script.specs.declared.fault.LineFault.TheVariants.{Unreadable, NoMemory}
+use Rattle.sv_script.specs.declared.line.LineFault.{LineFault}
+use Rattle.sv_script.specs.declared.line.LineFault.TheVariants.{Unreadable, NoMemory}
 use Rattle.sv_script.specs.declared.line.ScriptLine.{ScriptLine}
 use Rattle.sv_script.specs.declared.line.ScriptLine.TheVariants.{Nothing, Open, Send, End, Lost, Tick}
 

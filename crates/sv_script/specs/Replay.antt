@@ -7,10 +7,10 @@ use Rattle.sv_script.specs.declared.replay_fault.ReplayFault.{ReplayFault}
 use Rattle.sv_script.specs.declared.replay_fault.ReplayFault.TheVariants.{Script, Output, NoMemory}
 use Rattle.sv_run.specs.Events.{Happening}
 use Rattle.sv_run.specs.Reacting.{Reacting, Reacts}
-use Rattle.sv_run.specs.declared.reaction.Reaction.{Reaction}
+use Rattle.sv_run.specs.declared.happening.Reaction.{Reaction}
 use Rattle.sv_run.specs.declared.step_fault.StepFault.{StepFault}
 use Rattle.sv_script.specs.Line.{asked}
-use Rattle.sv_script.specs.declared.fault.LineFault.TheVariants.{Unreadable}
+use Rattle.sv_script.specs.declared.line.LineFault.TheVariants.{Unreadable}
 use Rattle.sv_script.specs.declared.line.ScriptLine.{ScriptLine}
 use Rattle.sv_streams.specs.Calls.{AreMade, Call, Making, WritesAll, failures, given, meets_end, reads, taken}
 use Rattle.sv_streams.specs.Lines.{has_line_feed, max_reads}

@@ -4,7 +4,7 @@ use Rattle.std.specs.List.{AllByRecursion}
 use Rattle.sv_script.specs.Asked.{reactions_text}
 use Rattle.sv_script.specs.Lines.{AreNext, lines_of}
 use Rattle.sv_script.specs.Replay.{FailsAtLast}
-use Rattle.sv_run.specs.declared.reaction.Reaction.{Reaction}
+use Rattle.sv_run.specs.declared.happening.Reaction.{Reaction}
 use Rattle.sv_streams.specs.Calls.{Making, WritesAll}
 use Rattle.sv_streams.specs.Lines.{has_line_feed}
 use Rattle.sv_streams.specs.declared.stream.WriteFailed.{WriteFailed}

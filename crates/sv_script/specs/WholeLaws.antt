@@ -13,7 +13,7 @@ use Rattle.sv_run.specs.Laws.{EntersWhereAllowed, RequestsEnterExactlyWhereAllow
 use Rattle.sv_run.specs.Reacting.{Reacting, StepsLike, answer_shown}
 use Rattle.sv_run.specs.Runs.{Answer, Run, deeds_of}
 use Rattle.sv_run.specs.State.{State}
-use Rattle.sv_run.specs.declared.reaction.Reaction.{Reaction}
+use Rattle.sv_run.specs.declared.happening.Reaction.{Reaction}
 use Rattle.sv_script.specs.Printed.{shutdown_text, start_text}
 use Rattle.sv_script.specs.Whole.{RunsWhole}
 use Rattle.sv_streams.specs.Calls.{AreMade, Making, WritesAll}

@@ -1,8 +1,8 @@
 //! The lines that edit the constraints of a context.
 
 ghost use Rattle.std.specs.Prelude.{◌≡◌};
-ghost use Rattle.sv_text.specs.Gives.{GivesAnswer};
 ghost use Rattle.sv_script.specs.Editing as spec;
+ghost use Rattle.sv_text.specs.Gives.{GivesAnswer};
 
 use crate::fields::{at_blank, number, text_of};
 use crate::line::ScriptLine;
@@ -149,3 +149,9 @@ fn auth_of(alloc: Global, text: &[u8]) -> Result<Option<Auth>, NoMemory>
         Ok(names_of(alloc, NameKind::Role, text)?.map(Auth::Roles))
     }
 }
+
+/// The maximum length of the name of a method, in bytes.
+pub const MAX_METHOD_BYTES: usize = 15;
+
+/// The maximum length of the name of a role, in bytes.
+pub const MAX_ROLE_BYTES: usize = 64;

@@ -5,7 +5,7 @@ ghost use Rattle.std.specs.Option.{option_map};
 ghost use Rattle.sv_script.specs.Asked as spec;
 ghost use Rattle.sv_run.specs.Seen.{happening_of};
 
-use crate::ScriptLine;
+use crate::line::ScriptLine;
 use sv_run::Happening;
 
 /// Returns the event that a line asks for at a time, if any.

@@ -1,14 +1,14 @@
 //! The lines of a script.
 
 ghost use Rattle.std.specs.Prelude.{◌≡◌};
-ghost use Rattle.sv_text.specs.Gives.{Gives, GivesAnswer};
 ghost use Rattle.sv_script.specs.Line as spec;
+ghost use Rattle.sv_script.specs.declared.line.LineFault.TheVariants as fault;
+ghost use Rattle.sv_text.specs.Gives.{Gives, GivesAnswer};
 
 use crate::editing::{appending, withdrawing};
 use crate::escape::unescaped;
-use crate::fault::LineFault;
 use crate::fields::{at_blank, number};
-use std::alloc::Global;
+use std::alloc::{AllocError, AllocFailed, Global};
 use sv_policy::Edit;
 use sv_text::{Bytes, NoMemory, Text};
 
@@ -104,4 +104,21 @@ fn piece(alloc: Global, rest: &[u8]) -> Result<Option<ScriptLine>, NoMemory>
         return Ok(None);
     };
     Ok(Some(ScriptLine::Send(connection, bytes)))
+}
+
+/// The reason why a line of a script cannot be read.
+#[derive(Clone, Copy, Debug, PartialEq, Eq)]
+pub enum LineFault {
+    /// The line has none of the forms of a script's lines.
+    Unreadable,
+    /// Memory ran out.
+    NoMemory,
+}
+
+impl From<NoMemory> for LineFault {
+    ghost from_gives = { λ _ e. e ≡ fault.NoMemory };
+
+    fn from(_refusal: NoMemory) -> LineFault {
+        LineFault::NoMemory
+    }
 }

@@ -1,14 +1,14 @@
 //! Plays one line of a script, and writes the text of its reaction.
 
-ghost use Rattle.std.specs.Prelude.{◌<◌, ◌≤◌, ◌^◌};
+ghost use Rattle.std.specs.Prelude.{◌<◌, ◌^◌, ◌≤◌};
+ghost use Rattle.sv_run.specs.Seen.{happening_of};
 ghost use Rattle.sv_script.specs.Asked.{reaction_text};
 ghost use Rattle.sv_script.specs.PlaySteps.{PlaysLine, Prints, Reads, TakesEvent};
-ghost use Rattle.sv_run.specs.Seen.{happening_of};
 
-use crate::course::Course;
 use crate::events::{event_of, moment_behind};
+use crate::line::{LineFault, ScriptLine, read_line};
+use crate::printed::event_text;
 use crate::replay_fault::{ReplayFault, fault_of};
-use crate::{LineFault, ScriptLine, event_text, read_line};
 use std::alloc::Global;
 use sv_run::{EventHandler, Happening, Reaction};
 use sv_streams::{Sink, write_all};
@@ -100,4 +100,15 @@ fn print<O: Sink>(
         Ok(()) => Ok(()),
         Err(_) => Err(ReplayFault::Output),
     }
+}
+
+/// The progress of a replay. It begins with zeros.
+#[derive(Clone, Copy)]
+pub(crate) struct Course {
+    /// The last time that a line set, in seconds since 1970.
+    pub moment: u64,
+    /// The number of lines played.
+    pub lines: u64,
+    /// The number of events accepted.
+    pub events: u64,
 }

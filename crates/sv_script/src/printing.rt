@@ -4,8 +4,8 @@ ghost use Rattle.std.specs.Prelude.{◌≡◌, true};
 ghost use Rattle.sv_script.specs.Printed as texts;
 ghost use Rattle.sv_script.specs.Whole.{Prints, PrintsOf, PrintsStop};
 
+use crate::printed::{shutdown_text, start_text};
 use crate::replay_fault::ReplayFault;
-use crate::{shutdown_text, start_text};
 use std::alloc::Global;
 use sv_journal::{Entry, Journal};
 use sv_streams::{Sink, write_all};

@@ -2,8 +2,7 @@
 
 ghost use Rattle.sv_script.specs.Replay.{Replays};
 
-use crate::course::Course;
-use crate::play::play;
+use crate::play::{Course, play};
 use crate::replay_fault::ReplayFault;
 use std::alloc::Global;
 use sv_run::EventHandler;

@@ -1,7 +1,7 @@
 -- The effect of the calls on the attributes of a session, by the index of an attribute.
 use Rattle.std.proofs.Common.{◌≡◌, ℕ, ◌<◌, List, [], ◌∷◌, ◌++◌, length, Some, None, get_or, set, refl, sym, ◌∙◌, ap, subst}
 use Rattle.std.specs.List.{position, remove}
-use Rattle.sv_session.specs.declared.attribute.Attribute.{Attribute}
+use Rattle.sv_session.specs.declared.slot.Attribute.{Attribute}
 use Rattle.sv_session.specs.Attributes.{is_named, value_named, with_named, without_named}
 use Rattle.sv_session.specs.Store.{Session}
 use Rattle.sv_session.proofs.FirstLemmas.{IsFirstAt, found_at, missed_at}

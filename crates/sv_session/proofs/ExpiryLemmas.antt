@@ -5,7 +5,7 @@ use Rattle.std.specs.Option.{option_map}
 use Rattle.std.proofs.lemmas.Bool.{both_ways, cases_Bool, or_parts}
 use Rattle.std.proofs.lemmas.Bool.Decides.{nat_tests}
 use Rattle.std.proofs.lemmas.Option.{none-some, same_Some}
-use Rattle.sv_session.specs.declared.ended_session.EndedSession.{EndedSession}
+use Rattle.sv_session.specs.declared.ended_sessions.EndedSession.{EndedSession}
 use Rattle.sv_session.specs.Calls.{ended, ending, expiring, left_by_expiry, without}
 use Rattle.sv_session.specs.Expiry.{HasNoneExpired, by_deadline, earlier, ends_before, expired, has_expired, unexpired}
 use Rattle.sv_session.specs.Lists.{without_first}

@@ -3,8 +3,8 @@ use Rattle.std.specs.Prelude.{◌≡◌, ℕ, ◌+◌, ◌∷◌, Bool, true, fa
 use Rattle.std.specs.List.{list_any, reduce}
 use Rattle.std.specs.Option.{option_map, option_map_or, option_and_then}
 use Rattle.sv_text.specs.Faults.{when}
-use Rattle.sv_session.specs.declared.attribute.Attribute.{Attribute}
-use Rattle.sv_session.specs.declared.ended_session.EndedSession.{EndedSession}
+use Rattle.sv_session.specs.declared.slot.Attribute.{Attribute}
+use Rattle.sv_session.specs.declared.ended_sessions.EndedSession.{EndedSession}
 use Rattle.sv_session.specs.declared.session_fault.SessionFault.{SessionFault}
 use Rattle.sv_session.specs.declared.session_fault.SessionFault.TheVariants.{TooMany, SerialSpent, NoSuch, NoMemory, TooLarge}
 use Rattle.sv_session.specs.declared.limits.TheConstants.{MAX_ATTRIBUTES, MAX_NAME_BYTES, MAX_VALUE_BYTES, GREATEST_SERIAL}

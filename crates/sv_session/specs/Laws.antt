@@ -1,7 +1,7 @@
 -- Jakarta Servlet 6.0, chapter 7: theorems about the calls on the sessions of a context.
 use Rattle.std.specs.Prelude.{◌≡◌, ◌≢◌, ◌↔◌, ◌⊎◌, ◌<◌, ℕ, ◌+◌, false, List, [], ◌∷◌, length, Some, None, map}
 use Rattle.std.specs.List.{AllPairs}
-use Rattle.sv_session.specs.declared.ended_session.EndedSession.{EndedSession}
+use Rattle.sv_session.specs.declared.ended_sessions.EndedSession.{EndedSession}
 use Rattle.sv_session.specs.declared.session_fault.SessionFault.TheVariants.{SerialSpent}
 use Rattle.sv_session.specs.Calls.{HoldsCaller, caller_of, ended, expiring, judged_by_expiry, opening_faults, renaming_faults, session_opened, touched}
 use Rattle.sv_session.specs.Expiry.{HasNoneExpired, by_deadline, expired, has_expired, unexpired}

@@ -1,7 +1,7 @@
 -- Jakarta Servlet 6.0, chapter 7: the effect of successive calls, and the ids that they give.
 use Rattle.std.specs.Prelude.{◌≡◌, ℕ, ◌+◌, List, [], ◌∷◌, ◌++◌, Option, Some, None}
 use Rattle.std.specs.List.{AllByRecursion}
-use Rattle.sv_session.specs.declared.ended_session.EndedSession.{EndedSession}
+use Rattle.sv_session.specs.declared.ended_sessions.EndedSession.{EndedSession}
 use Rattle.sv_session.specs.declared.session_fault.SessionFault.{SessionFault}
 use Rattle.sv_session.specs.Calls.{expiring, left_by_expiry, opened, opening_faults, renamed, renaming_faults, setting_faults, touched, with_attribute, with_caller, with_saved, without, without_attribute}
 use Rattle.sv_session.specs.Id.{id_text}

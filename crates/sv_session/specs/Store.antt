@@ -2,7 +2,7 @@
 use Rattle.std.specs.Prelude.{ℕ, ◌<◌, ◌≤◌, Bool, ◌==◌, List, [], ◌∷◌, Option, find}
 use Rattle.std.specs.Option.{option_map, option_map_or}
 use Rattle.std.specs.Str.{bytes_eq}
-use Rattle.sv_session.specs.declared.attribute.Attribute.{Attribute}
+use Rattle.sv_session.specs.declared.slot.Attribute.{Attribute}
 use Rattle.sv_session.specs.Lists.{on_first}
 
 -- A session. The caller is the number of a user of the realm. The saved target is that of the request that a login

@@ -1,17 +1,17 @@
 //! The sessions of a context that ended together.
 
-ghost use Rattle.std.specs.Prelude.{◌≡◌, List, drop, length, map, slice_get};
 ghost use Rattle.std.specs.Option.{option_map};
+ghost use Rattle.std.specs.Prelude.{List, drop, length, map, slice_get, ◌≡◌};
 ghost use Rattle.std.specs.Vec.Iter.{into_iter_items, into_iter_len};
 ghost use Rattle.sv_session.specs.Calls.{ended};
 ghost use Rattle.sv_session.specs.Slots.{living};
-ghost use Rattle.sv_session.specs.declared.ended_session.EndedSession.{EndedSession};
+ghost use Rattle.sv_session.specs.declared.ended_sessions.EndedSession.{EndedSession};
 
-use crate::ended_session::EndedSession;
-use crate::slot::Slot;
+use crate::slot::{Attribute, Slot};
 use std::alloc::Global;
 use std::marker::Model;
 use std::vec::IntoIter;
+use sv_text::Listed;
 
 /// Sessions that ended together, returned one after another to notify their listeners.
 #[derive(Drop)]
@@ -62,4 +62,22 @@ fn next_living(slots: &mut IntoIter<Slot, Global>) -> Option<Slot>
         }
     }
     None
+}
+
+/// A session that has ended, as its listeners see it.
+#[derive(Drop)]
+pub struct EndedSession {
+    /// The session's number.
+    pub number: u64,
+    /// Its attributes, in the order in which they were first set.
+    pub attributes: Listed<Attribute>,
+}
+
+/// The result of an expiry: the session that it ended, if any, and the number of records judged.
+#[derive(Drop)]
+pub struct Counted {
+    /// The session that ended.
+    pub ended: Option<EndedSession>,
+    /// The number of records judged so far. It stays at the maximum once it has reached it.
+    pub judged: u64,
 }

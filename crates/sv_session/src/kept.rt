@@ -5,11 +5,11 @@ ghost use Rattle.std.specs.Option.{option_copied};
 ghost use Rattle.sv_session.specs.Attributes.{is_named, names_one, value_named, with_named, without_named};
 ghost use Rattle.sv_session.specs.Calls.{ended, is_too_large, session_opened};
 
-use crate::Due;
-use crate::attribute::Attribute;
-use crate::ended_session::EndedSession;
+use crate::due::Due;
+use crate::ended_sessions::EndedSession;
 use crate::id::id_of;
 use crate::limits::{MAX_ATTRIBUTES, MAX_NAME_BYTES, MAX_VALUE_BYTES};
+use crate::slot::Attribute;
 use std::alloc::Global;
 use std::marker::Model;
 use std::mem;

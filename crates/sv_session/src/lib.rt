@@ -1,10 +1,7 @@
 //! The sessions of a context: their ids, callers, attributes and expiry (Jakarta Servlet 6.0, chapter 7).
 #![tactic(auto)]
 
-mod attribute;
-mod counted;
 mod due;
-mod ended_session;
 mod ended_sessions;
 mod event;
 mod id;
@@ -19,11 +16,8 @@ mod session_fault;
 mod sessions;
 mod slot;
 
-pub use attribute::Attribute;
-pub use counted::Counted;
 pub use due::Due;
-pub use ended_session::EndedSession;
-pub use ended_sessions::EndedSessions;
+pub use ended_sessions::{Counted, EndedSession, EndedSessions};
 pub use event::Event;
 pub use laws::{
     an_accessed_session_has_not_expired, an_id_names_its_session, callers_are_entered,
@@ -35,3 +29,4 @@ pub use limits::{GREATEST_SERIAL, MAX_ATTRIBUTES, MAX_NAME_BYTES, MAX_VALUE_BYTE
 pub use queue::Queue;
 pub use session_fault::SessionFault;
 pub use sessions::Sessions;
+pub use slot::Attribute;

@@ -3,17 +3,15 @@
 ghost use Rattle.std.specs.Prelude.{◌≡◌, ◌+◌, ◌<◌, ◌++◌, ◌∷◌, [], ℕ, MatchResult, None, OnErr, OnOk, Some, is_some, length, map, slice_get};
 ghost use Rattle.std.specs.Option.{option_copied};
 
-use crate::attribute::Attribute;
-use crate::counted::Counted;
-use crate::ended_session::EndedSession;
-use crate::ended_sessions::EndedSessions;
+use crate::due::Due;
+use crate::ended_sessions::{Counted, EndedSession, EndedSessions};
 use crate::id::{ID_BYTES, id_of};
 use crate::ids::Ids;
 use crate::kept::Kept;
 use crate::limits::{GREATEST_SERIAL, MAX_ATTRIBUTES, MAX_NAME_BYTES, MAX_VALUE_BYTES};
+use crate::queue::Queue;
 use crate::session_fault::SessionFault;
-use crate::slot::{Slot, first_living, gathered, place_of, push};
-use crate::{Due, Queue};
+use crate::slot::{Attribute, Slot, first_living, gathered, place_of, push};
 use std::alloc::Global;
 use std::marker::Model;
 use std::mem;

@@ -1,16 +1,17 @@
 //! The slot of a session.
 
-ghost use Rattle.std.specs.Prelude.{◌≡◌, ◌<◌, ◌++◌, ◌∷◌, [], ℕ, IfOk, IfSome, MatchOption, None, false, filter, find, length, map, vec_capacity, vec_len};
 ghost use Rattle.std.specs.Option.{option_copied};
+ghost use Rattle.std.specs.Prelude.{IfOk, IfSome, MatchOption, None, [], false, filter, find, length, map, vec_capacity, vec_len, ℕ, ◌++◌, ◌<◌, ◌∷◌, ◌≡◌};
 ghost use Rattle.sv_session.specs.Calls.{ended};
 ghost use Rattle.sv_session.specs.Slots.{IsFirstFrom, IsPlace, SlotsRise, due_of, living};
 ghost use Rattle.sv_session.specs.Store.{is_numbered};
 
-use crate::ended_session::EndedSession;
+use crate::due::Due;
+use crate::ended_sessions::EndedSession;
 use crate::kept::Kept;
-use crate::{Due, Queue};
+use crate::queue::Queue;
 use std::alloc::Global;
-use sv_text::NoMemory;
+use sv_text::{NoMemory, Text};
 
 /// A live session, or one that has ended, whose number keeps its place in the order.
 #[derive(Drop)]
@@ -95,4 +96,13 @@ pub(crate) fn gathered(alloc: Global, slots: &[Slot]) -> Result<Queue, NoMemory>
         }
     }
     Ok(queue)
+}
+
+/// A named value of a session (Jakarta Servlet 6.0, section 7.4).
+#[derive(Drop)]
+pub struct Attribute {
+    /// The name, at most `MAX_NAME_BYTES` long.
+    pub name: Text,
+    /// The value, at most `MAX_VALUE_BYTES` long.
+    pub value: Text,
 }

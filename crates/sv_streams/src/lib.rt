@@ -9,12 +9,10 @@ mod lines_fault;
 mod memory_stream;
 mod standard;
 mod stream;
-mod writing;
 
 pub use clock::{Clock, SystemClock};
 pub use line_reader::{LineReader, MAX_READS};
 pub use lines_fault::LinesFault;
 pub use memory_stream::MemoryStream;
 pub use standard::{ReadSource, ReadWriteStream, WriteSink};
-pub use stream::{ReadFailed, Sink, Source, Stream, WriteFailed};
-pub use writing::write_all;
+pub use stream::{ReadFailed, Sink, Source, Stream, WriteFailed, write_all};

@@ -1,7 +1,7 @@
 //! Streams that are read and written.
 
-ghost use Rattle.std.specs.Prelude.{◌<◌, ◌≤◌, length, IfOk};
-ghost use Rattle.sv_streams.specs.Calls.{Call, read_call, write_call};
+ghost use Rattle.std.specs.Prelude.{IfOk, length, ◌<◌, ◌≡◌, ◌≤◌};
+ghost use Rattle.sv_streams.specs.Calls.{Call, WritesAll, read_call, write_call};
 
 /// A read that gave nothing because it failed.
 #[derive(Clone, Copy, Debug, PartialEq, Eq)]
@@ -41,4 +41,21 @@ pub trait Sink: Stream {
         requires { 0 < length bytes.now }
         ensures within { IfOk result (λ count. (0 < count) × (count ≤ length bytes.now)) }
         ensures made { Self.makes self.old (write_call result bytes.now) self.new };
+}
+
+/// Writes all of the bytes, in as many writes as the sink needs. Empty bytes need none.
+///
+/// # Errors
+/// A write failed, and no other write follows it. The sink has taken a front of the bytes.
+pub fn write_all<W: Sink>(sink: &mut W, bytes: &[u8]) -> Result<(), WriteFailed>
+    ensures { WritesAll W.makes bytes.now sink.old result sink.new }
+{
+    let mut rest = bytes;
+    while !rest.is_empty() {
+        match sink.write(rest) {
+            Ok(count) => rest = rest.split_at(count).1,
+            Err(failed) => return Err(failed),
+        }
+    }
+    Ok(())
 }

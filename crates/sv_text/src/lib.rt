@@ -3,15 +3,13 @@
 #![tactic(auto)]
 
 mod bytes;
-mod copies;
 mod front;
 mod listed;
 mod no_memory;
 mod text;
 
 pub use bytes::Bytes;
-pub use copies::copied_texts;
 pub use front::{Cut, Delimited, cut_front};
 pub use listed::Listed;
 pub use no_memory::NoMemory;
-pub use text::Text;
+pub use text::{Text, copied_texts};

@@ -1,8 +1,9 @@
 //! A text with the list of its bytes as its model.
 
-ghost use Rattle.std.specs.Prelude.{◌≡◌, [], ◌++◌, Some, IfOk, OnErr, OnOk, string_bytes};
+ghost use Rattle.std.specs.Prelude.{IfOk, OnErr, OnOk, Some, [], string_bytes, ◌++◌, ◌≡◌};
 ghost use Rattle.sv_text.specs.Gives.{GivesAnswer};
 
+use crate::listed::Listed;
 use crate::no_memory::NoMemory;
 use arrayvec::ArrayString;
 use std::alloc::Global;
@@ -145,4 +146,15 @@ fn joined(alloc: Global, front: &str, back: &str) -> Result<String, NoMemory>
     text.push_str(front)?;
     text.push_str(back)?;
     Ok(text)
+}
+
+/// Copies texts, in order.
+pub fn copied_texts(alloc: Global, texts: &[Text]) -> Result<Listed<Text>, NoMemory>
+    ensures { GivesAnswer result texts.now }
+{
+    let mut copies = Vec::with_capacity(alloc, texts.len())?;
+    for text in texts {
+        copies.push(Text::copy_of(alloc, text.as_str())?)?;
+    }
+    Ok(Listed::from_vec(copies))
 }

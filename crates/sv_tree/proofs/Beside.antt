@@ -15,7 +15,7 @@ use Rattle.sv_mapping.specs.Pattern.{matches}
 use Rattle.sv_mapping.specs.Split.{path_info, servlet_path}
 use Rattle.sv_mapping.proofs.FirstBest.{get-position}
 use Rattle.sv_tree.specs.Site.{Chosen, Mapping, chosen_by}
-use Rattle.sv_tree.specs.declared.resource.Resource.TheVariants.{Servlet}
+use Rattle.sv_tree.specs.declared.site.Resource.TheVariants.{Servlet}
 use Rattle.sv_tree.specs.ServletMappings.{beside, mappings_of, patterns_of, places_beside, servlet_place}
 
 abbrev pub texts_of : List Mapping → List (List ℕ)

@@ -3,7 +3,7 @@ use Rattle.std.proofs.Common.{ℕ, ◌≡◌, List, ap, ◌∙◌}
 use Rattle.sv_descriptor.specs.Agreement.{servlet_patterns}
 use Rattle.sv_descriptor.specs.declared.web_app.WebApp.{WebApp}
 use Rattle.sv_files.specs.Answer.{Answer, file_answer}
-use Rattle.sv_files.specs.declared.file.File.{File}
+use Rattle.sv_files.specs.declared.files.File.{File}
 use Rattle.sv_mapping.specs.declared.kind.Kind.{Kind}
 use Rattle.sv_tree.specs.FileServlet.{answered}
 use Rattle.sv_tree.specs.ServletMappings.{mappings_of}

@@ -1,12 +1,12 @@
 -- The results of the code as terms of the dispatch model.
 use Rattle.std.specs.Prelude.{◌<◌, length}
 use Rattle.std.specs.Option.{option_copied}
-use Rattle.sv_tree.specs.declared.chosen.Chosen as code
+use Rattle.sv_tree.specs.declared.site.Chosen as code
 use Rattle.sv_tree.specs.declared.file_found.FileFound as found
 use Rattle.sv_tree.specs.declared.file_found.FileFound.TheVariants as founds
 use Rattle.sv_tree.specs.Site.{Chosen, FileAnswer, File, Redirect, Missing, NotAllowed, Site}
-use Rattle.sv_tree.specs.declared.resource.Resource.{Resource}
-use Rattle.sv_tree.specs.declared.resource.Resource.TheVariants.{Servlet, Files}
+use Rattle.sv_tree.specs.declared.site.Resource.{Resource}
+use Rattle.sv_tree.specs.declared.site.Resource.TheVariants.{Servlet, Files}
 
 abbrev pub chosen_seen : code.Chosen → Chosen
 chosen_seen chosen = record {

@@ -8,8 +8,8 @@ use Rattle.sv_mapping.specs.Split.{path_info, servlet_path}
 use Rattle.sv_mapping.specs.declared.kind.Kind.{Kind}
 use Rattle.sv_mapping.specs.declared.kind.Kind.TheVariants as kinds
 use Rattle.sv_tree.specs.State.{Exchange}
-pub use Rattle.sv_tree.specs.declared.resource.Resource.{Resource}
-pub use Rattle.sv_tree.specs.declared.resource.Resource.TheVariants.{Servlet, Files}
+pub use Rattle.sv_tree.specs.declared.site.Resource.{Resource}
+pub use Rattle.sv_tree.specs.declared.site.Resource.TheVariants.{Servlet, Files}
 use Rattle.sv_uri.specs.declared.path.Canon.{Canon}
 
 -- The result of the file servlet for a path: a file with its content type and bytes, the location of a redirect,

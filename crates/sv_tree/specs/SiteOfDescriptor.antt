@@ -8,7 +8,7 @@ use Rattle.sv_descriptor.specs.Agreement.{servlet_names, servlet_patterns}
 use Rattle.sv_descriptor.specs.declared.web_app.WebApp.{WebApp}
 use Rattle.sv_error_pages.specs.Choice.{page_for}
 use Rattle.sv_files.specs.Answer.{file_answer}
-use Rattle.sv_files.specs.declared.file.File.{File}
+use Rattle.sv_files.specs.declared.files.File.{File}
 use Rattle.sv_mapping.specs.declared.kind.Kind.{Kind}
 use Rattle.sv_tree.specs.FileServlet.{answered}
 use Rattle.sv_tree.specs.ServletMappings.{mappings_of}

@@ -1,7 +1,6 @@
 //! The definition of a dispatch, with its laws. The code that makes dispatches is verified against it.
 #![tactic(auto)]
 
-mod chosen;
 mod dispatch_fault;
 mod file_found;
 mod finished;
@@ -9,11 +8,9 @@ mod laws;
 mod limits;
 mod patterns;
 mod redirect;
-mod resource;
 mod servlet_patterns;
 mod site;
 
-pub use chosen::Chosen;
 pub use dispatch_fault::DispatchFault;
 pub use file_found::FileFound;
 pub use finished::Finished;
@@ -28,6 +25,5 @@ pub use limits::{
     METHOD_NOT_ALLOWED, NOT_FOUND, SERVICE_UNAVAILABLE,
 };
 pub use redirect::sent_to;
-pub use resource::Resource;
 pub use servlet_patterns::ServletPatterns;
-pub use site::Site;
+pub use site::{Chosen, Resource, Site};

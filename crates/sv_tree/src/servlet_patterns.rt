@@ -8,9 +8,8 @@ ghost use Rattle.sv_tree.specs.Site.{chosen_by};
 ghost use Rattle.sv_tree.specs.Seen.{chosen_seen};
 ghost use Rattle.sv_tree.specs.ServletMappings as spec;
 
-use crate::Resource;
-use crate::chosen::Chosen;
 use crate::patterns::{copied_patterns, servlet_places};
+use crate::site::{Chosen, Resource};
 use std::alloc::Global;
 use std::marker::Model;
 use sv_descriptor::Descriptor;

@@ -1,20 +1,18 @@
 //! The site of a context.
 
-ghost use Rattle.std.specs.Prelude.{◌≡◌, ◌<◌, [], IfOk, IsTrue, Ok, length, slice_index_or};
 ghost use Rattle.std.specs.List.{All};
 ghost use Rattle.std.specs.Option.{option_copied};
-ghost use Rattle.sv_text.specs.Gives.{GivesAnswer};
-ghost use Rattle.sv_uri.specs.Canonical.{canonical};
+ghost use Rattle.std.specs.Prelude.{IfOk, IsTrue, Ok, [], length, slice_index_or, ◌<◌, ◌≡◌};
 ghost use Rattle.sv_descriptor.specs.Agreement.{servlet_names};
 ghost use Rattle.sv_descriptor.specs.Location.{is_location};
 ghost use Rattle.sv_descriptor.specs.WellFormed.{IsWellFormed};
+ghost use Rattle.sv_text.specs.Gives.{GivesAnswer};
 ghost use Rattle.sv_tree.specs.Seen.{IsThere, chosen_seen, found_seen};
 ghost use Rattle.sv_tree.specs.ServletMappings.{mappings_of};
-ghost use Rattle.sv_tree.specs.SiteOfDescriptor.{Content, site_of};
 ghost use Rattle.sv_tree.specs.Site as tree;
+ghost use Rattle.sv_tree.specs.SiteOfDescriptor.{Content, site_of};
+ghost use Rattle.sv_uri.specs.Canonical.{canonical};
 
-use crate::Resource;
-use crate::chosen::Chosen;
 use crate::file_found::{FileFound, answered};
 use crate::servlet_patterns::ServletPatterns;
 use std::alloc::Global;
@@ -215,4 +213,24 @@ fn read_page(alloc: Global, page: &str) -> Result<Canon, NoMemory>
         Err(CanonFault::Path(_)) => unreachable!(),
         Err(CanonFault::NoMemory) => Err(NoMemory),
     }
+}
+
+/// The resource that serves a path, and the split of the path (Jakarta Servlet 6.0, sections 3.5 and 12.1).
+#[derive(Clone, Copy)]
+pub struct Chosen<'a> {
+    /// The servlet whose pattern matches the path best, or the file servlet if none matches.
+    pub resource: Resource,
+    /// The servlet path: the prefix of a prefix pattern, empty for the pattern `""`, and otherwise the whole path.
+    pub servlet_path: &'a str,
+    /// The rest of the path after the prefix of a prefix pattern, if any, and `/` for the pattern `""`.
+    pub path_info: Option<&'a str>,
+}
+
+/// The resource that answers a path after its filters (Jakarta Servlet 6.0, sections 12.1 and 12.2).
+#[derive(Clone, Copy, Debug, PartialEq, Eq)]
+pub enum Resource {
+    /// The servlet at this index in the descriptor's list, from 0.
+    Servlet(usize),
+    /// The file servlet, if no servlet is mapped.
+    Files,
 }

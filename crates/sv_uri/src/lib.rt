@@ -3,7 +3,6 @@
 #![tactic(auto)]
 
 mod canonical;
-mod context_path;
 pub mod fault;
 pub mod laws;
 mod location_field;
@@ -16,5 +15,4 @@ mod separator;
 mod walk;
 
 pub use canonical::canon;
-pub use context_path::shown_context;
-pub use location_field::location;
+pub use location_field::{location, shown_context};

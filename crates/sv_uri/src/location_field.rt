@@ -1,6 +1,7 @@
 //! Paths in Location fields.
 
-ghost use Rattle.std.specs.Prelude.{◌≡◌, string_bytes, IfOk};
+ghost use Rattle.std.specs.Prelude.{IfOk, string_bytes, ◌≡◌};
+ghost use Rattle.sv_uri.specs.ContextPath.{shown_context};
 ghost use Rattle.sv_uri.specs.LocationField as spec;
 
 use percent_encoding::{AsciiSet, NON_ALPHANUMERIC, ascii_set, percent_encode};
@@ -41,4 +42,12 @@ pub fn location(alloc: Global, path: &str) -> Result<String, NoMemory>
     let mut text = String::with_capacity(alloc, path.len())?;
     percent_encode(path.as_bytes(), ESCAPED).append_to(&mut text)?;
     Ok(text)
+}
+
+/// Returns the context path as it is shown: `/` for the root context, whose path is empty (Jakarta Servlet 6.0, section
+/// 3.5), and any other path unchanged.
+pub fn shown_context(path: &str) -> &str
+    ensures { result.now ≡ shown_context path.now }
+{
+    if path.is_empty() { "/" } else { path }
 }

@@ -1,10 +1,10 @@
 -- The contents of an application's context, built call by call (Jakarta Servlet 6.0, sections 4.4 and 14.4).
 use Rattle.std.specs.Prelude.{ℕ, List, [], ◌∷◌, ◌++◌, bytes_eq, codes, if◌then◌else◌}
 use Rattle.std.specs.Borrow.{Bor}
-use Rattle.sv_component.specs.declared.named.Named.{Named}
-use Rattle.sv_files.specs.declared.file.File.{File}
+use Rattle.sv_component.specs.declared.components.Named.{Named}
+use Rattle.sv_files.specs.declared.files.File.{File}
 use Rattle.sv_web.specs.Elements.{filter_elements, listener_elements, servlet_elements}
-use Rattle.sv_web.specs.declared.content.Content.{Content}
+use Rattle.sv_web.specs.declared.deployment.Content.{Content}
 
 module _ {S F L : Type 0} where
   -- an empty context at a path

@@ -2,19 +2,19 @@
 use Rattle.std.specs.Prelude.{ℕ, List, [], ◌∷◌, codes, Option, Some, None, Result, Ok, Err}
 use Rattle.sv_text.specs.Gives.{Gives}
 use Rattle.sv_text.specs.Steps.{◌>>=◌}
-use Rattle.sv_component.specs.declared.named.Named.{Named}
+use Rattle.sv_component.specs.declared.components.Named.{Named}
 use Rattle.sv_lifecycle.specs.declared.deployment.Deployment as context
 use Rattle.sv_descriptor.specs.declared.web_app.WebApp.{WebApp}
 use Rattle.sv_deployments.specs.FilesFault.{told}
 use Rattle.sv_deployments.specs.Results.{both}
 use Rattle.sv_files.specs.Fault.{files_of}
-use Rattle.sv_files.specs.declared.file.File.{File}
+use Rattle.sv_files.specs.declared.files.File.{File}
 use Rattle.sv_program.specs.CommandFault.{command_fault}
 use Rattle.sv_program.specs.Configuration.{Step, descriptor_in, each, users_in}
 use Rattle.sv_program.specs.declared.command_fault.CommandFault.{CommandFault}
 use Rattle.sv_program.specs.declared.configuration.ContextTexts.{ContextTexts}
-use Rattle.sv_realm.specs.declared.user.User.{User}
-use Rattle.sv_web.specs.declared.content.Content.{Content}
+use Rattle.sv_realm.specs.declared.account.User.{User}
+use Rattle.sv_web.specs.declared.deployment.Content.{Content}
 
 -- a context has a users file if its text is not empty
 abbrev pub users_name : List ℕ → Option (List ℕ)

@@ -1,9 +1,8 @@
 //! A context of an application, built call by call.
 
-ghost use Rattle.std.specs.Prelude.{◌≡◌, IfOk, Ok, OnOk, [], ◌∷◌, ◌++◌};
+ghost use Rattle.std.specs.Prelude.{IfOk, Ok, OnOk, [], ◌++◌, ◌∷◌, ◌≡◌};
 ghost use Rattle.sv_text.specs.Gives.{GivesAnswer};
 
-use crate::content::Content;
 use crate::elements::{push_elements, push_filter, push_listener, push_servlet};
 use std::alloc::Global;
 use std::marker::Model;
@@ -31,7 +30,7 @@ pub struct Deployment<S, F, L> {
 
 impl<S, F, L> Model for Deployment<S, F, L> {
     ghost use Rattle.std.specs.Prelude.{string_bytes};
-    ghost use Rattle.sv_web.specs.declared.content.Content.{Content};
+    ghost use Rattle.sv_web.specs.declared.deployment.Content.{Content};
 
     ghost Value = { Content S F L };
 
@@ -218,4 +217,24 @@ fn put_text(alloc: Global, place: &mut Text, text: &str) -> Result<(), NoMemory>
 {
     *place = Text::copy_of(alloc, text)?;
     Ok(())
+}
+
+/// The contents of one context. Its descriptor declares the servlets, filters and listeners in the order of their
+/// lists.
+#[derive(Drop)]
+pub struct Content<S, F, L> {
+    /// The context path, empty for the root context.
+    pub path: Text,
+    /// The deployment descriptor as a text.
+    pub descriptor: Text,
+    /// The servlets, with their names.
+    pub servlets: Listed<Named<S>>,
+    /// The filters, with their names.
+    pub filters: Listed<Named<F>>,
+    /// The listeners.
+    pub listeners: Listed<L>,
+    /// The static files.
+    pub files: Listed<File>,
+    /// The users file as a text, empty if there are no users.
+    pub users: Text,
 }

@@ -6,7 +6,7 @@ ghost use Rattle.sv_deployments.specs.Parts.{seen};
 ghost use Rattle.sv_program.specs.CommandFault.{command_fault};
 ghost use Rattle.sv_web.specs.Deployments as spec;
 
-use crate::Content;
+use crate::deployment::Content;
 use std::alloc::Global;
 use sv_component::{Filter, Listener, Servlet};
 use sv_deployments::{both, files_of};

@@ -2,7 +2,6 @@
 //! application.
 #![tactic(auto)]
 
-mod content;
 mod cookies;
 mod deployment;
 mod deployments;
@@ -15,9 +14,8 @@ mod redirecting;
 mod sending;
 mod sent_cookies;
 
-pub use content::Content;
 pub use cookies::{NewCookie, SameSite, set_cookie};
-pub use deployment::Deployment;
+pub use deployment::{Content, Deployment};
 pub use deployments::deployments_of;
 pub use escaping::escape_html;
 pub use fault::{Fault, gate_of, step_of};

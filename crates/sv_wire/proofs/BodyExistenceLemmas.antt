@@ -4,8 +4,8 @@ use Rattle.std.proofs.lemmas.List.{length-drop}
 use Rattle.httparse.specs.Grammar.{chunk_size}
 use Rattle.sv_text.specs.declared.front.Cut.{Cut}
 use Rattle.sv_text.specs.declared.front.Cut.TheVariants.{Whole, Endless, Unended}
-use Rattle.sv_wire.specs.declared.framing.Framing.{Framing}
-use Rattle.sv_wire.specs.declared.framing.Framing.TheVariants.{Length, Chunked}
+use Rattle.sv_wire.specs.declared.body_reader.Framing.{Framing}
+use Rattle.sv_wire.specs.declared.body_reader.Framing.TheVariants.{Length, Chunked}
 use Rattle.sv_wire.specs.declared.text_kind.TextKind.TheVariants.{SizeLine}
 use Rattle.sv_wire.specs.Body.{read_length, ReadsBody}
 use Rattle.sv_wire.specs.Chunks.{Body, unfinished, complete, Part, chunk, last, cut_text, ReadsSize, after_line, BeginsAt, Begins, ReadsChunks}

@@ -11,8 +11,8 @@ use Rattle.sv_text.specs.declared.front.Cut.{Cut}
 use Rattle.sv_text.specs.declared.front.Cut.TheVariants.{Whole, Endless, Unended}
 use Rattle.sv_wire.specs.declared.text_kind.TextKind.{TextKind}
 use Rattle.sv_wire.specs.declared.text_kind.TextKind.TheVariants.{SizeLine, Trailer}
-use Rattle.sv_wire.specs.declared.framing.Framing.{Framing}
-use Rattle.sv_wire.specs.declared.framing.Framing.TheVariants.{Length, Chunked}
+use Rattle.sv_wire.specs.declared.body_reader.Framing.{Framing}
+use Rattle.sv_wire.specs.declared.body_reader.Framing.TheVariants.{Length, Chunked}
 use Rattle.sv_wire.specs.declared.limits.TheConstants.{MAX_BODY_LEN, MAX_SIZE_LINE_LEN, MAX_TRAILER_LEN}
 use Rattle.sv_wire.specs.Body.{read_length, ReadsBody}
 use Rattle.sv_wire.specs.Chunks.{Body, unfinished, complete, broken, Part, chunk, last, ends_text, text_limit, cut_text, ReadsSize, trailer_at, read_trailer, read_data, after_line, BeginsAt, Begins, ReadsChunks}

@@ -7,8 +7,8 @@ use Rattle.httparse.specs.Ascii.{crlf_bytes}
 use Rattle.sv_text.specs.declared.front.Cut.{Cut}
 use Rattle.sv_text.specs.declared.front.Cut.TheVariants.{Whole, Endless, Unended}
 use Rattle.sv_wire.specs.declared.body_fault.BodyFault.TheVariants.{BadChunk, TooLarge}
-use Rattle.sv_wire.specs.declared.framing.Framing.{Framing}
-use Rattle.sv_wire.specs.declared.framing.Framing.TheVariants.{Length, Chunked}
+use Rattle.sv_wire.specs.declared.body_reader.Framing.{Framing}
+use Rattle.sv_wire.specs.declared.body_reader.Framing.TheVariants.{Length, Chunked}
 use Rattle.sv_wire.specs.declared.limits.TheConstants.{MAX_BODY_LEN}
 use Rattle.sv_wire.specs.declared.text_kind.TextKind.TheVariants.{SizeLine, Trailer}
 use Rattle.sv_wire.specs.Body.{read_length, ReadsBody, FitsLimit}

@@ -13,7 +13,7 @@ use Rattle.std.proofs.lemmas.List.Sums.{AllPass-from_list_all}
 use Rattle.std.proofs.lemmas.Str.Parse.{digit_from_value}
 use Rattle.httparse.specs.Grammar.{AllPass, is_ows, skip_ows, trim_ows}
 use Rattle.httparse.proofs.TrimLemmas.{AllPass-reverse}
-use Rattle.sv_wire.specs.declared.framing.Framing.TheVariants.{Chunked, Length}
+use Rattle.sv_wire.specs.declared.body_reader.Framing.TheVariants.{Chunked, Length}
 use Rattle.sv_message.specs.declared.field.Field.{Field}
 use Rattle.sv_message.specs.declared.limits.TheConstants.{MAX_LENGTH_DIGITS}
 use Rattle.sv_message.specs.declared.codings.Codings.TheVariants as codings

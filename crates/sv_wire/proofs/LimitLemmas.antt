@@ -8,7 +8,7 @@ use Rattle.std.proofs.lemmas.List.Elements.{All-nil, All-cons}
 use Rattle.sv_text.specs.declared.front.Cut.{Cut}
 use Rattle.sv_text.specs.declared.front.Cut.TheVariants.{Whole, Endless, Unended}
 use Rattle.sv_text.specs.Faults.{when, first_or}
-use Rattle.sv_wire.specs.declared.framing.Framing.TheVariants.{Length, Chunked}
+use Rattle.sv_wire.specs.declared.body_reader.Framing.TheVariants.{Length, Chunked}
 use Rattle.sv_wire.specs.declared.limits.TheConstants.{MAX_BODY_LEN}
 use Rattle.sv_wire.specs.Body.{FitsLimit}
 use Rattle.sv_wire.specs.Chunks.{Body, unfinished, complete, broken}

@@ -4,8 +4,8 @@ use Rattle.std.specs.Bool.{MatchBool}
 use Rattle.std.specs.Result.{IfOk}
 use Rattle.std.proofs.lemmas.Bool.{le-ltb, ltb-false}
 use Rattle.std.proofs.lemmas.List.{append_assoc, append-nil, take-append-le, drop-append-le, length-take, length-drop, take_all, drop_all, drop-drop, take-append-drop, take-take}
-use Rattle.sv_wire.specs.declared.framing.Framing.{Framing}
-use Rattle.sv_wire.specs.declared.framing.Framing.TheVariants.{Length, Chunked}
+use Rattle.sv_wire.specs.declared.body_reader.Framing.{Framing}
+use Rattle.sv_wire.specs.declared.body_reader.Framing.TheVariants.{Length, Chunked}
 use Rattle.sv_wire.specs.declared.body_reader.BodyEnd.{BodyEnd}
 use Rattle.sv_wire.specs.declared.body_reader.BodyEnd.TheVariants.{Complete, Broken}
 use Rattle.sv_wire.specs.declared.body_reader.Progress.TheVariants.{Awaits, Ended}

@@ -2,7 +2,7 @@
 use Rattle.std.proofs.Common.{◌≡◌, ℕ, ◌+◌, ◌<◌, ◌≤◌, Bool, true, false, cond, eqb, ltb, ◌⊎◌, inl, inr, List, [], ◌∷◌, ◌++◌, length, take, drop, All, Option, None, Some, refl, sym, ap, ◌∙◌, subst, arith, append_assoc, append-nil, length-append, length-take, le-ltb, ltb-false, eqb-true}
 use Rattle.std.proofs.lemmas.Bool.{cond-false, eqb-false, ne_eqb}
 use Rattle.std.proofs.lemmas.List.Elements.{All-cons, All-nil}
-use Rattle.sv_wire.specs.declared.framing.Framing.TheVariants.{Chunked}
+use Rattle.sv_wire.specs.declared.body_reader.Framing.TheVariants.{Chunked}
 use Rattle.sv_wire.specs.declared.body_fault.BodyFault.TheVariants.{TooLarge}
 use Rattle.sv_wire.specs.declared.limits.TheConstants.{MAX_BODY_LEN, MAX_SIZE_LINE_LEN}
 use Rattle.sv_wire.specs.Body.{ReadsBody}

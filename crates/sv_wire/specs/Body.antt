@@ -1,7 +1,7 @@
 -- The body of a message by its framing (RFC 9112, section 6).
 use Rattle.std.specs.Prelude.{◌≡◌, ℕ, ◌≤◌, List, [], ◌++◌, length, take, drop, nat_lt, if◌then◌else◌, ⊤}
-use Rattle.sv_wire.specs.declared.framing.Framing.{Framing}
-use Rattle.sv_wire.specs.declared.framing.Framing.TheVariants.{Length, Chunked}
+use Rattle.sv_wire.specs.declared.body_reader.Framing.{Framing}
+use Rattle.sv_wire.specs.declared.body_reader.Framing.TheVariants.{Length, Chunked}
 use Rattle.sv_wire.specs.declared.limits.TheConstants.{MAX_BODY_LEN}
 use Rattle.sv_wire.specs.Chunks.{Body, unfinished, complete, ReadsChunks}
 

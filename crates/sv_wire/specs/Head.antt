@@ -3,8 +3,8 @@ use Rattle.std.specs.Prelude.{ℕ, Bool, true, false, ◌&&◌, ◌||◌, not, L
 use Rattle.std.specs.List.{ends_with, list_any}
 use Rattle.httparse.specs.Ascii.{line_feed, carriage_return}
 use Rattle.httparse.specs.Grammar.{RequestHead}
-use Rattle.sv_wire.specs.declared.framing.Framing.{Framing}
-use Rattle.sv_wire.specs.declared.framing.Framing.TheVariants.{Length, Chunked}
+use Rattle.sv_wire.specs.declared.body_reader.Framing.{Framing}
+use Rattle.sv_wire.specs.declared.body_reader.Framing.TheVariants.{Length, Chunked}
 use Rattle.sv_wire.specs.declared.limits.TheConstants.{MAX_BODY_LEN}
 use Rattle.sv_message.specs.declared.codings.Codings.{Codings}
 use Rattle.sv_message.specs.declared.codings.Codings.TheVariants as codings

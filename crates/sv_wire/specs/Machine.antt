@@ -5,7 +5,7 @@ use Rattle.sv_text.specs.declared.front.Cut.TheVariants.{Whole, Endless, Unended
 use Rattle.sv_wire.specs.declared.text_kind.TextKind.{TextKind}
 use Rattle.sv_wire.specs.declared.text_kind.TextKind.TheVariants as text
 use Rattle.sv_wire.specs.declared.limits.TheConstants.{MAX_BODY_LEN}
-use Rattle.sv_wire.specs.declared.framing.Framing.{Framing}
+use Rattle.sv_wire.specs.declared.body_reader.Framing.{Framing}
 use Rattle.sv_wire.specs.declared.machine.Machine.{Machine}
 use Rattle.sv_wire.specs.declared.machine.Stage.{Stage}
 use Rattle.sv_wire.specs.declared.machine.Stage.TheVariants.{Plain, SizeLine, Data, DataEnd, Trailer}

@@ -1,6 +1,6 @@
 -- Theorems that relate the writing of bodies to their reading (RFC 9112, sections 6.2, 6.3, 7.1 and 8).
 use Rattle.std.specs.Prelude.{◌≡◌, ◌↔◌, ℕ, ◌<◌, ◌≤◌, ◌^◌, Bool, true, false, List, [], ◌++◌, length, All, Some}
-use Rattle.sv_wire.specs.declared.framing.Framing.TheVariants.{Chunked, Length}
+use Rattle.sv_wire.specs.declared.body_reader.Framing.TheVariants.{Chunked, Length}
 use Rattle.sv_wire.specs.declared.limits.TheConstants.{MAX_BODY_LEN}
 use Rattle.sv_wire.specs.Body.{ReadsBody}
 use Rattle.sv_wire.specs.Chunks.{Body, complete, unfinished}

@@ -1,10 +1,9 @@
 //! A reader of one body.
 
-ghost use Rattle.std.specs.Prelude.{◌≡◌, IfOk, OnErr};
+ghost use Rattle.std.specs.Prelude.{IfOk, OnErr, ◌≡◌};
 ghost use Rattle.sv_wire.specs.Body.{nothing_came};
 
 use crate::body_fault::BodyFault;
-use crate::framing::Framing;
 use crate::history::{History, Piece};
 use crate::machine::{Machine, Stop};
 use std::alloc::Global;
@@ -97,4 +96,13 @@ impl BodyReader {
             }
         }
     }
+}
+
+/// How the end of a body is found (RFC 9112, section 6).
+#[derive(Clone, Copy)]
+pub enum Framing {
+    /// The body has this number of bytes. A message without a body has the length 0.
+    Length(usize),
+    /// The body is sent in chunks.
+    Chunked,
 }

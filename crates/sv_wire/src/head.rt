@@ -12,9 +12,10 @@ ghost use Rattle.sv_message.specs.declared.message.Target.TheVariants.{Path};
 ghost use Rattle.sv_wire.specs.Reads.{ReadsHead, has_too_many_lines, lines};
 ghost use Rattle.sv_wire.specs.Spans.{field_at, IsFieldAt, AreHeadSpans, ShowHead};
 
-use crate::limits::{FEW_FIELD_LINES, MAX_FIELD_LINES, MAX_HEAD_LEN};
+use crate::body_reader::Framing;
+use crate::limits::{FEW_FIELD_LINES, MAX_BODY_LEN, MAX_FIELD_LINES, MAX_HEAD_LEN};
 use crate::owed_head::{Judgement, OwedHead, has_body};
-use crate::{Framing, MAX_BODY_LEN, WireFault};
+use crate::wire_fault::WireFault;
 use http::Method;
 use http::method::MethodError;
 use httparse::Status;

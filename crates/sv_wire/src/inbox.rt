@@ -8,10 +8,10 @@ ghost use Rattle.sv_wire.specs.Reads.{Reads, cut_head, item_of};
 ghost use Rattle.sv_wire.specs.State.{held_of, IsSoundState, ReadsAfter, ReadsTo};
 ghost use Rattle.sv_text.specs.declared.front.Cut.TheVariants.{Unended};
 
+use crate::body_reader::{BodyEnd, Progress};
 use crate::item::Item;
 use crate::pending::PendingBox;
 use crate::reading::{Rest, read_items};
-use crate::{BodyEnd, Progress};
 use std::alloc::Global;
 use std::marker::Model;
 use std::mem;

@@ -2,7 +2,7 @@
 
 ghost use Rattle.std.specs.Prelude.{◌≡◌};
 
-use crate::WireFault;
+use crate::wire_fault::WireFault;
 use sv_message::Message;
 
 /// An item of a stream.

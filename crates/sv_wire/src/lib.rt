@@ -3,11 +3,9 @@
 
 mod body_fault;
 mod body_reader;
-mod chunk_size;
 mod cut;
 mod date_text;
 mod empty_lines;
-mod framing;
 mod head;
 mod history;
 mod inbox;
@@ -24,9 +22,8 @@ mod text_kind;
 mod wire_fault;
 
 pub use body_fault::BodyFault;
-pub use body_reader::{BodyEnd, BodyReader, Progress};
+pub use body_reader::{BodyEnd, BodyReader, Framing, Progress};
 pub use date_text::DateText;
-pub use framing::Framing;
 pub use history::{History, Piece};
 pub use inbox::{Awaited, Ended, Inbox};
 pub use item::Item;

@@ -1,15 +1,15 @@
 //! A state machine that reads a body from pieces of its stream.
 
-ghost use Rattle.std.specs.Prelude.{◌≡◌, ◌≤◌, [], length, IfOk};
+ghost use Rattle.std.specs.Prelude.{IfOk, [], length, ◌≡◌, ◌≤◌};
 ghost use Rattle.sv_text.specs.declared.front.Cut.TheVariants.{Unended};
-ghost use Rattle.sv_wire.specs.declared.machine.Stage.TheVariants.{Plain, SizeLine, Data, DataEnd, Trailer};
-ghost use Rattle.sv_wire.specs.Chunks.{cut_text};
+ghost use Rattle.sv_wire.specs.Chunks.{ReadsSize, cut_text};
+ghost use Rattle.sv_wire.specs.declared.machine.Stage.TheVariants.{Data, DataEnd, Plain, SizeLine, Trailer};
 
 use crate::body_fault::BodyFault;
-use crate::chunk_size::read_size;
-use crate::framing::Framing;
+use crate::body_reader::Framing;
 use crate::limits::{MAX_BODY_LEN, MAX_SIZE_LINE_LEN, MAX_TRAILER_LEN};
 use crate::text_kind::TextKind;
+use httparse::{Status, parse_chunk_size};
 use std::alloc::Global;
 use std::mem;
 use sv_text::{Cut, Delimited, NoMemory, cut_front};
@@ -230,5 +230,17 @@ impl Machine {
             Stage::Data(size)
         };
         Step::Moved(at)
+    }
+}
+
+/// Returns the size in a size line, or `None` if the line is not exactly one size line.
+pub(crate) fn read_size(line: &[u8]) -> Option<usize>
+    ensures { ReadsSize line.now result }
+{
+    match parse_chunk_size(line) {
+        Ok(Status::Complete((len, size))) if len == line.len() => Some(size as usize),
+        Ok(Status::Complete(_)) => None,
+        Ok(Status::Partial) => None,
+        Err(_) => None,
     }
 }

@@ -3,8 +3,9 @@
 ghost use Rattle.std.specs.Prelude.{◌≡◌, []};
 ghost use Rattle.sv_wire.specs.Head.{has_body};
 
+use crate::body_reader::Framing;
 use crate::item::Item;
-use crate::{Framing, WireFault};
+use crate::wire_fault::WireFault;
 use std::alloc::Global;
 use sv_message::Message;
 use sv_text::Bytes;

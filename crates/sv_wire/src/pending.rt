@@ -3,9 +3,11 @@
 ghost use Rattle.std.specs.Prelude.{◌≡◌, true, false, [], ◌++◌, IfOk};
 ghost use Rattle.sv_wire.specs.Reads.{item_of};
 
+use crate::body_reader::{BodyEnd, BodyReader, Progress};
+use crate::history::{History, Piece};
 use crate::item::Item;
 use crate::owed_head::OwedHead;
-use crate::{BodyEnd, BodyReader, History, Piece, Progress, WireFault};
+use crate::wire_fault::WireFault;
 use std::alloc::Global;
 use std::marker::Model;
 use sv_text::NoMemory;

@@ -8,6 +8,7 @@ ghost use Rattle.sv_wire.specs.Pending.{AreSound, IsSound};
 ghost use Rattle.sv_wire.specs.Reads.{Reads};
 ghost use Rattle.sv_wire.specs.declared.owed_head.Judgement.TheVariants.{Accepted};
 
+use crate::body_reader::Progress;
 use crate::cut::cut_head;
 use crate::empty_lines::behind_empty_lines;
 use crate::head::read_head;
@@ -15,7 +16,7 @@ use crate::item::Item;
 use crate::limits::MAX_HEAD_LEN;
 use crate::owed_head::{Judgement, OwedHead, has_body};
 use crate::pending::PendingBox;
-use crate::{Progress, WireFault};
+use crate::wire_fault::WireFault;
 use std::alloc::Global;
 use sv_message::Field;
 use sv_text::{Cut, NoMemory};

@@ -3,7 +3,7 @@
 ghost use Rattle.std.specs.Prelude.{◌≡◌, Some};
 ghost use Rattle.sv_wire.specs.WireFault.{fault_name, fault_of, fault_status};
 
-use crate::BodyFault;
+use crate::body_fault::BodyFault;
 use std::error::Error;
 use std::fmt;
 

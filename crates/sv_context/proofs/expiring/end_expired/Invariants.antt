@@ -1,6 +1,6 @@
 use Rattle.std.proofs.Common.{List, length}
 use Rattle.sv_policy.specs.Compiled.{Standing}
-use Rattle.sv_realm.specs.declared.user.User.{User}
+use Rattle.sv_realm.specs.declared.account.User.{User}
 use Rattle.sv_tree.specs.SiteOfDescriptor.{Content}
 use Rattle.sv_context.proofs.Expiries.{SoFar}
 use Rattle.sv_context.specs.State.{AreComponentsOf, context_of}

@@ -1,6 +1,6 @@
 use Rattle.sv_dispatch.specs.Did.{seen}
 use Rattle.sv_tree.specs.Endings.{is_away_for}
-use Rattle.sv_tree.specs.declared.resource.Resource.TheVariants.{Servlet}
+use Rattle.sv_tree.specs.declared.site.Resource.TheVariants.{Servlet}
 use Rattle.sv_dispatch.proofs.Deeds.{did_by}
 use Rattle.sv_dispatch.proofs.DispatchDeeds.{stepped_away, stepped_gone}
 use Rattle.sv_dispatch.proofs.dispatching.unavailable.Goals as goal

@@ -3,7 +3,7 @@ use Rattle.sv_run.proofs.Handling.{noted_and_sent}
 use Rattle.sv_run.proofs.answering.answer_itself.Goals as goal
 use Rattle.sv_run.specs.Output.{reaction_of}
 use Rattle.sv_run.specs.Items.{IsTextAt, closes_behind}
-use Rattle.sv_run.specs.declared.reaction.Reaction.{Reaction}
+use Rattle.sv_run.specs.declared.happening.Reaction.{Reaction}
 
 pub returns : goal.returns
 returns g c =

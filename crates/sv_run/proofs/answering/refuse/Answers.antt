@@ -1,6 +1,6 @@
 use Rattle.std.proofs.Common.{◌++◌, false, refl, sym, ap, ◌∙◌}
 use Rattle.sv_run.specs.Messages.{plain_response}
-use Rattle.sv_run.specs.declared.reaction.Reaction.{Reaction}
+use Rattle.sv_run.specs.declared.happening.Reaction.{Reaction}
 use Rattle.sv_wire.specs.ResponseText.{response_text}
 use Rattle.sv_wire.specs.WireFault.{fault_status}
 use Rattle.sv_run.proofs.Adding.{or-true}

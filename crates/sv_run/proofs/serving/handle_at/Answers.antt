@@ -5,7 +5,7 @@ use Rattle.sv_run.proofs.Contexts.{if_err, moves_next, moves_none}
 use Rattle.sv_run.proofs.Handling.{sent}
 use Rattle.sv_run.specs.Output.{reaction_of}
 use Rattle.sv_run.specs.Items.{IsTextAt, closes_behind}
-use Rattle.sv_run.specs.declared.reaction.Reaction.{Reaction}
+use Rattle.sv_run.specs.declared.happening.Reaction.{Reaction}
 use Rattle.sv_run.proofs.serving.handle_at.Goals as goal
 
 pub returns-in_err-response-clause-moves : goal.returns-in_err-response-clause-moves

@@ -1,7 +1,7 @@
 use Rattle.std.proofs.Common.{ap, is_some, ◌∙◌}
 use Rattle.std.specs.Str.{bytes_eq}
 use Rattle.sv_files.specs.Files.{is_file}
-use Rattle.sv_files.specs.declared.file.File.{File}
+use Rattle.sv_files.specs.declared.files.File.{File}
 use Rattle.sv_text.proofs.FirstPlace.{position_some}
 use Rattle.sv_files.proofs.files.Files.is_file.Goals as goal
 

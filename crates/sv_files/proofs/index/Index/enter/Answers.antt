@@ -6,7 +6,7 @@ use Rattle.std.proofs.lemmas.Bool.{not_from_true, not_from_false}
 use Rattle.std.proofs.lemmas.Map.Text.{hash_map_updates_text}
 use Rattle.sv_files.specs.Below.{lies_below}
 use Rattle.sv_files.specs.Files.{is_file, is_folder}
-use Rattle.sv_files.specs.declared.file.File.{File}
+use Rattle.sv_files.specs.declared.files.File.{File}
 use Rattle.sv_files.proofs.Folders.{folders_closed}
 use Rattle.sv_text.proofs.FirstPlace.{position_some}
 use Rattle.sv_files.proofs.Places.{folder-more, place-more}

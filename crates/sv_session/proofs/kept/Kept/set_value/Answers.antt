@@ -1,5 +1,5 @@
 use Rattle.std.proofs.Common.{◌≡◌, [], ◌∷◌, ◌++◌, Some, ◌∙◌, ap}
-use Rattle.sv_session.specs.declared.attribute.Attribute.{Attribute}
+use Rattle.sv_session.specs.declared.slot.Attribute.{Attribute}
 use Rattle.sv_session.specs.Attributes.{with_named}
 use Rattle.sv_session.specs.Store.{Session}
 use Rattle.sv_session.proofs.AttributeLemmas.{not_valued, one_more, set_at, valued_at}
