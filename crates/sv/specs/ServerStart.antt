@@ -11,7 +11,7 @@ use Rattle.sv_program.specs.FileStore.{Giving}
 use Rattle.sv_program.specs.declared.command_fault.CommandFault.{CommandFault}
 use Rattle.sv_listening.specs.Seeding.{GivesSeed}
 use Rattle.sv_container.specs.SeededStart.{StartsWith}
-use Rattle.sv_listening.specs.declared.seeding.Seeding.{Seeding}
+use Rattle.sv_listening.specs.declared.seed.Seeding.{Seeding}
 use Rattle.sv.specs.declared.server_start.StartedServer.{StartedServer}
 
 module _ (moving : ComponentSteps ProgramServlet ProgramFilter ProgramListener) where

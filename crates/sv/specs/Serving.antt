@@ -7,7 +7,7 @@ use Rattle.sv_deployments.specs.declared.program_servlet.ProgramServlet.{Program
 use Rattle.sv_deployments.specs.Folders.{FolderGiving}
 use Rattle.sv_program.specs.FileStore.{Giving}
 use Rattle.sv_program.specs.declared.command_fault.CommandFault.{CommandFault}
-use Rattle.sv_listening.specs.declared.seeding.Seeding.{Seeding}
+use Rattle.sv_listening.specs.declared.seed.Seeding.{Seeding}
 use Rattle.sv.specs.ServerStart.{StartsServer}
 use Rattle.sv.specs.declared.server_start.StartedServer.{StartedServer}
 

@@ -3,8 +3,8 @@ use Rattle.std.specs.Prelude.{ℕ, ◌*◌, Bool, true, false, Option, None, Som
 use Rattle.std.specs.Option.{unwrap_or}
 use Rattle.sv_connection.specs.declared.limits.Limits.{Limits}
 use Rattle.sv.specs.declared.run_options.RunOptions.{RunOptions}
-use Rattle.sv_listening.specs.declared.seeding.Seeding.{Seeding}
-use Rattle.sv_listening.specs.declared.seeding.Seeding.TheVariants.{Configured, Fresh}
+use Rattle.sv_listening.specs.declared.seed.Seeding.{Seeding}
+use Rattle.sv_listening.specs.declared.seed.Seeding.TheVariants.{Configured, Fresh}
 
 abbrev pub bytes_or : Option ℕ → ℕ → ℕ
 bytes_or (Some mebibytes) usual = mebibytes * 1048576

@@ -2,7 +2,7 @@
 
 ghost use Rattle.sv_component.specs.Steps.{steps_of};
 ghost use Rattle.sv.specs.Serving.{BeginsWith};
-ghost use Rattle.sv_listening.specs.declared.seeding.Seeding.TheVariants.{Configured};
+ghost use Rattle.sv_listening.specs.declared.seed.Seeding.TheVariants.{Configured};
 
 use crate::server_start::{StartedServer, start_server};
 use std::alloc::Global;

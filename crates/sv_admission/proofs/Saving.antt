@@ -6,7 +6,7 @@ use Rattle.std.specs.Prelude.{codes}
 use Rattle.sv_admission.specs.Asked.{Asked}
 use Rattle.sv_admission.specs.Seen.{seen}
 use Rattle.sv_admission.specs.Settled.{Settled, interrupted, opened_with, renewed, saved_in, unchanged}
-use Rattle.sv_admission.specs.declared.settling.Settled as code
+use Rattle.sv_admission.specs.declared.sessions.Settled as code
 use Rattle.sv_session.specs.Calls.{RefusesCall, opened, opening_faults, with_saved}
 use Rattle.sv_session.specs.Runs.{unless}
 use Rattle.sv_session.specs.Store.{Store}

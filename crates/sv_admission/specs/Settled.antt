@@ -2,7 +2,7 @@
 -- 13.6.3).
 use Rattle.std.specs.Prelude.{ℕ, ◌+◌, Bool, true, false, List, Option, None, Some, codes, bytes_eq, if◌then◌else◌}
 use Rattle.std.specs.Option.{option_map}
-use Rattle.sv_exchange.specs.declared.holding.HeldSession.{HeldSession}
+use Rattle.sv_exchange.specs.declared.session_queries.HeldSession.{HeldSession}
 use Rattle.sv_session.specs.declared.event.Event.{Event}
 use Rattle.sv_session.specs.declared.event.Event.TheVariants.{SessionCreated, SessionIdChanged}
 use Rattle.sv_login.specs.declared.outcome.Outcome.{Outcome}

@@ -7,8 +7,8 @@ ghost use Rattle.sv_admission.specs.Held.{accessed, session_held};
 ghost use Rattle.sv_text.specs.Gives.{GivesAnswer};
 
 use crate::answer::{Answer, concluded};
-use crate::judging::judge;
-use crate::settling::{session_of, settle};
+use crate::judgment::judge;
+use crate::sessions::{session_of, settle};
 use std::alloc::Global;
 use sv_exchange::HeldSession;
 use sv_journal::Entry;

@@ -4,9 +4,9 @@
 
 mod admission;
 mod answer;
-mod judging;
+mod judgment;
 mod laws;
-mod settling;
+mod sessions;
 
 pub use admission::{Admission, Request, admit};
 pub use answer::{Answer, FORBIDDEN, SEE_OTHER};

@@ -5,8 +5,8 @@ use Rattle.std.specs.Option.{option_and_then}
 use Rattle.std.specs.Str.{bytes_eq}
 use Rattle.sv_chain.specs.FilterChain.{filter_chain, is_same_kind}
 use Rattle.sv_chain.specs.declared.by_path.ByPath.{ByPath}
-use Rattle.sv_chain.specs.declared.kept.KeptChains.{KeptChains}
-use Rattle.sv_chain.specs.declared.kept.TheConstants.{MAX_KEPT_BYTES, MAX_KEPT_CHAINS}
+use Rattle.sv_chain.specs.declared.chain_cache.KeptChains.{KeptChains}
+use Rattle.sv_chain.specs.declared.chain_cache.TheConstants.{MAX_KEPT_BYTES, MAX_KEPT_CHAINS}
 use Rattle.sv_descriptor.specs.declared.web_app.WebApp.{WebApp}
 use Rattle.sv_mapping.specs.declared.kind.Kind.{Kind}
 use Rattle.sv_mapping.specs.declared.kind.Kind.TheVariants.{Request, Forward, Include, Error}

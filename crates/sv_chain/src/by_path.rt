@@ -6,7 +6,7 @@ ghost use Rattle.std.specs.Option.{option_copied};
 ghost use Rattle.std.specs.Str.{bytes_eq};
 ghost use Rattle.sv_chain.specs.Kept.{found_in};
 
-use crate::shared::Chain;
+use crate::shared_chain::Chain;
 use std::alloc::Global;
 use std::collections::BTreeMap;
 use sv_text::{NoMemory, Text};

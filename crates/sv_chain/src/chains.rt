@@ -5,14 +5,14 @@ ghost use Rattle.std.specs.List.{All};
 ghost use Rattle.std.specs.Str.{bytes_eq};
 ghost use Rattle.sv_chain.specs.FilterChain.{filter_chain, is_same_kind};
 ghost use Rattle.sv_chain.specs.Kept.{IsKeptOf, IsKeptOrThis, count, found};
-ghost use Rattle.sv_chain.specs.declared.kept.TheConstants.{MAX_KEPT_BYTES, MAX_KEPT_CHAINS};
+ghost use Rattle.sv_chain.specs.declared.chain_cache.TheConstants.{MAX_KEPT_BYTES, MAX_KEPT_CHAINS};
 ghost use Rattle.sv_mapping.specs.declared.kind.Kind.{Kind};
 ghost use Rattle.sv_text.specs.Gives.{GivesAnswer};
 
 use crate::chain::chain_plain;
-use crate::compiled::Compiled;
-use crate::kept::{KeptChains, MAX_KEPT_BYTES, MAX_KEPT_CHAINS};
-use crate::shared::Chain;
+use crate::chain_cache::{KeptChains, MAX_KEPT_BYTES, MAX_KEPT_CHAINS};
+use crate::compiled_chains::Compiled;
+use crate::shared_chain::Chain;
 use std::alloc::Global;
 use std::marker::Model;
 use sv_descriptor::{Descriptor, Kind};

@@ -3,14 +3,14 @@
 
 mod by_path;
 mod chain;
+mod chain_cache;
 mod chains;
-mod compiled;
-mod kept;
+mod compiled_chains;
 pub mod laws;
 mod mapping;
-mod shared;
+mod shared_chain;
 
 pub use chain::chain_plain;
+pub use chain_cache::{MAX_KEPT_BYTES, MAX_KEPT_CHAINS};
 pub use chains::Chains;
-pub use kept::{MAX_KEPT_BYTES, MAX_KEPT_CHAINS};
-pub use shared::Chain;
+pub use shared_chain::Chain;

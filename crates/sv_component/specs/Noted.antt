@@ -10,7 +10,7 @@ use Rattle.sv_component.specs.Call.{Call, Inited, Serviced, Entered, Left}
 use Rattle.sv_journal.specs.Entry.{called_filter, called_servlet}
 use Rattle.sv_journal.specs.declared.answer.Answer.{Answer}
 use Rattle.sv_journal.specs.declared.answer.Answer.TheVariants as answers
-use Rattle.sv_journal.specs.declared.called.CallName.TheVariants as names
+use Rattle.sv_journal.specs.declared.calls.CallName.TheVariants as names
 use Rattle.sv_journal.specs.declared.entry.Entry.{Entry}
 
 abbrev pub init_answer : Init → Answer

@@ -1,5 +1,5 @@
-//! Tests of the three readers of configuration files: what is read, which no command prints; the cases of the command `policy` show what is refused.
-//! And of what a descriptor gives: filter chains, error pages, static files and locations. The rows can be checked against the standards.
+//! Tests of the readers of configuration files and of scripts: what is read, which no command prints. The cases of the
+//! commands `policy` and `replay` show what is refused.
 #![tactic(auto)]
 
 #[cfg(test)]

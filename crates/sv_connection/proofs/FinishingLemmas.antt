@@ -12,8 +12,8 @@ use Rattle.sv_connection.specs.Ways.{Ways}
 use Rattle.sv_connection.specs.declared.allowance.Allowance.{Allowance}
 use Rattle.sv_connection.specs.declared.close_reason.CloseReason.{CloseReason}
 use Rattle.sv_connection.specs.declared.close_reason.CloseReason.TheVariants.{GivenUp}
-use Rattle.sv_connection.specs.declared.pending.Sent.{Sent}
-use Rattle.sv_connection.specs.declared.pending.Sent.TheVariants.{Fails, Waits}
+use Rattle.sv_connection.specs.declared.pending_bytes.Sent.{Sent}
+use Rattle.sv_connection.specs.declared.pending_bytes.Sent.TheVariants.{Fails, Waits}
 use Rattle.sv_connection.specs.declared.step.Step.TheVariants.{GoesOn, Rests, IsOver}
 use Rattle.sv_connection.proofs.AloneLemmas.{all_join}
 use Rattle.sv_connection.proofs.Fronting.{other_number, same_number}

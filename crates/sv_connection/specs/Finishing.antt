@@ -6,8 +6,8 @@ use Rattle.sv_connection.specs.Known.{Known, OthersStay, found}
 use Rattle.sv_connection.specs.Slots.{Arms, Causes, Action, Open, Blocks, ConnectionState, Writes}
 use Rattle.sv_connection.specs.Ways.{Ways}
 use Rattle.sv_connection.specs.declared.close_reason.CloseReason.{CloseReason}
-use Rattle.sv_connection.specs.declared.pending.Sent.{Sent}
-use Rattle.sv_connection.specs.declared.pending.Sent.TheVariants.{All, Fails, Waits}
+use Rattle.sv_connection.specs.declared.pending_bytes.Sent.{Sent}
+use Rattle.sv_connection.specs.declared.pending_bytes.Sent.TheVariants.{All, Fails, Waits}
 
 -- A write, or the wait for one.
 abbrev pub IsWriting : Action → Type 0

@@ -14,7 +14,7 @@ use crate::close_reason::CloseReason;
 use crate::limits::Limits;
 use crate::open_connection::Connection;
 use crate::peer::Peer;
-use crate::pending::Sent;
+use crate::pending_bytes::Sent;
 use crate::poller::Poller;
 use crate::queries::Figures;
 use std::alloc::Global;

@@ -9,7 +9,7 @@ use crate::allowance::Allowance;
 use crate::close_reason::{CloseReason, Closing};
 use crate::limits::{FIRST_READ_BYTES, READ_BYTES};
 use crate::peer::{Peer, Tried};
-use crate::pending::{Pending, Sent};
+use crate::pending_bytes::{Pending, Sent};
 use crate::phase::Phase;
 use crate::pieces::piece_len;
 use crate::step::Step;

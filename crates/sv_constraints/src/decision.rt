@@ -4,7 +4,7 @@ ghost use Rattle.std.specs.Prelude.{Some};
 ghost use Rattle.sv_constraints.specs.Decision.{decision_text, seen, seen_why, why_text};
 
 use crate::cause::Cause;
-use crate::printed::{PrintedWhy, text_of};
+use crate::display::{PrintedWhy, text_of};
 use std::fmt;
 use sv_mapping::Pattern;
 

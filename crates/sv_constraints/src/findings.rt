@@ -9,7 +9,7 @@ ghost use Rattle.sv_constraints.specs.Decision.{seen, seen_why};
 
 use crate::cause::Cause;
 use crate::constraint::{Auth, Constraint, Rules, Transport};
-use crate::covering::covers;
+use crate::coverage::covers;
 use crate::decision::{Decision, Why};
 use crate::roles::admits;
 use sv_mapping::Pattern;

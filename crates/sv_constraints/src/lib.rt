@@ -4,18 +4,18 @@
 
 mod cause;
 mod constraint;
-mod covering;
+mod coverage;
 mod decide;
 mod decision;
+mod display;
 mod findings;
 mod laws;
 mod owned_decision;
-mod printed;
 mod roles;
 
 pub use cause::Cause;
 pub use constraint::{Auth, Collection, Constraint, Methods, Rules, Transport};
-pub use covering::{covers, lists};
+pub use coverage::{covers, lists};
 pub use decide::decide_plain;
 pub use decision::{Decision, Why};
 pub use findings::{Findings, lesser};

@@ -7,7 +7,7 @@ ghost use Rattle.sv_constraints.specs.Decision.{seen, seen_why, why_of, why_text
 
 use crate::cause::Cause;
 use crate::decision::{Decision, Why};
-use crate::printed::{PrintedWhy, text_of};
+use crate::display::{PrintedWhy, text_of};
 use std::alloc::Global;
 use std::fmt;
 use sv_text::{NoMemory, Text};

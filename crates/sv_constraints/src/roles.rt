@@ -7,7 +7,7 @@ ghost use Rattle.sv_constraints.specs.Covering.{lists};
 ghost use Rattle.sv_constraints.specs.Roles.{roles_named, admits_holder, admits};
 
 use crate::constraint::Auth;
-use crate::covering::lists;
+use crate::coverage::lists;
 use sv_realm::Caller;
 use sv_text::Text;
 

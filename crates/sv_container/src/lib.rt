@@ -5,7 +5,7 @@
 
 mod container;
 mod events;
-mod explaining;
+mod explanation;
 mod laws;
 mod new_fault;
 mod refusal;
@@ -13,8 +13,8 @@ mod run_fault;
 mod running;
 mod script;
 mod seeded_start;
-mod starting;
-mod stopping;
+mod shutdown;
+mod start;
 
 pub use container::{Container, MAX_CONTEXTS};
 pub use laws::{

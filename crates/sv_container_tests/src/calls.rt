@@ -1,7 +1,7 @@
 //! The calls of components over the events of a container.
 
 use crate::containers::{Does, Ending, TestContainer, live, note, tell_cause};
-use crate::counted::Counts;
+use crate::counted_components::Counts;
 use crate::happenings::step;
 use std::alloc::Global;
 use sv_rows::{Asks, Draft, Strays, cell, hold};

@@ -1,6 +1,6 @@
 //! The container of a row.
 
-use crate::counted::{Counted, Counts};
+use crate::counted_components::{Counted, Counts};
 use crate::deployments::{deployments, shown};
 use std::alloc::Global;
 use sv_container::{Container, NewCode, NewFault};

@@ -1,6 +1,6 @@
 //! The deployments that a row names.
 
-use crate::counted::{Counted, Counts};
+use crate::counted_components::{Counted, Counts};
 use crate::descriptors::descriptor_text;
 use crate::results::{beside, both, made, push};
 use std::alloc::Global;

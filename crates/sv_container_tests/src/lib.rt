@@ -13,7 +13,7 @@ mod configurations;
 #[cfg(test)]
 mod containers;
 #[cfg(test)]
-mod counted;
+mod counted_components;
 #[cfg(test)]
 mod deployments;
 #[cfg(test)]

@@ -9,7 +9,7 @@ use Rattle.sv_component.specs.Runs.{IsRun}
 use Rattle.sv_component.specs.Steps.{ComponentSteps}
 use Rattle.sv_exchange.specs.Beginning.{begun, finished}
 use Rattle.sv_exchange.specs.State as exchanges
-use Rattle.sv_exchange.specs.declared.holding.HeldSession.{HeldSession}
+use Rattle.sv_exchange.specs.declared.session_queries.HeldSession.{HeldSession}
 use Rattle.sv_journal.specs.Journal.{JournalState, Takes, with_entry}
 use Rattle.sv_journal.specs.declared.entry.Entry.{Entry}
 use Rattle.sv_session.specs.declared.event.Event.{Event}

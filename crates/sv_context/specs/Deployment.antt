@@ -16,7 +16,7 @@ use Rattle.sv_tree.specs.SiteOfDescriptor.{Content}
 use Rattle.sv_context.specs.State.{ContextState, context_of, in_service, world_of}
 use Rattle.sv_context.specs.declared.deploy_fault.DeployFault.{DeployFault}
 use Rattle.sv_lifecycle.specs.declared.deployment.Deployment.{Deployment}
-use Rattle.sv_context.specs.declared.deploying.TheConstants.{SECONDS_OF_MINUTE}
+use Rattle.sv_context.specs.declared.deployment.TheConstants.{SECONDS_OF_MINUTE}
 
 abbrev pub content_of : {S F L : Type 0} → Deployment S F L → Content
 content_of deployment = record { context_path = deployment.path; app = deployment.descriptor; files = deployment.files }

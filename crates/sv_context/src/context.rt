@@ -3,7 +3,7 @@
 ghost use Rattle.std.specs.Prelude.{length, ◌≡◌};
 ghost use Rattle.sv_context.specs.Forgetting.{without_sessions};
 
-use crate::deploying::no_sessions;
+use crate::deployment::no_sessions;
 use crate::responder::Responder;
 use std::alloc::Global;
 use std::marker::Model;

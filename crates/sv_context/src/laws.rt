@@ -4,7 +4,7 @@ ghost use Rattle.sv_component.specs.Steps.{steps_of};
 ghost use Rattle.std.specs.Prelude.{◌≡◌};
 ghost use Rattle.sv_context.specs.Laws.{ExpiryLeavesNone, ExpiryOfNoneIsNothing};
 
-use crate::deploying::SECONDS_OF_MINUTE;
+use crate::deployment::SECONDS_OF_MINUTE;
 use sv_component::{Filter, Listener, Servlet};
 use sv_session::expiry_ends_exactly_the_expired_sessions;
 

@@ -4,11 +4,11 @@
 
 mod context;
 mod deploy_fault;
-mod deploying;
-mod expiring;
-mod handling;
+mod deployment;
+mod expiry;
 mod hosted;
 mod laws;
+mod messages;
 mod responder;
 mod room;
 mod several;
@@ -16,7 +16,7 @@ mod shutdown;
 
 pub use context::{Context, let_go};
 pub use deploy_fault::{DeployAllFault, DeployFault};
-pub use deploying::SECONDS_OF_MINUTE;
+pub use deployment::SECONDS_OF_MINUTE;
 pub use laws::{an_expiry_leaves_none_expired, an_expiry_of_none_is_nothing, limits_are_as_stated};
 pub use room::{Room, StopRoom};
 pub use several::{deploy_all, undeploy_all};

@@ -3,7 +3,7 @@
 ghost use Rattle.std.specs.Prelude.{◌≡◌, length, IfOk};
 ghost use Rattle.sv_deployments.specs.Configuration as spec;
 
-use crate::deploying::{ProgramDeployment, deployments_in};
+use crate::deployments::{ProgramDeployment, deployments_in};
 use crate::folders::{FolderStore, read_folders};
 use std::alloc::Global;
 use sv_descriptor::Server;

@@ -1,12 +1,13 @@
-//! The deployments of a server, read from its configuration files and the folders of its static files.
+//! The deployments of a server, read from its configuration files and the folders of its static files, and the component
+//! classes of the program.
 #![tactic(auto)]
 
 mod bad;
 mod bye;
 mod class_fault;
 mod configuration;
-mod declared;
-mod deploying;
+mod declaration;
+mod deployments;
 mod disk_folders;
 mod error;
 mod fail;
@@ -34,7 +35,7 @@ pub use bad::Bad;
 pub use bye::Bye;
 pub use class_fault::ClassFault;
 pub use configuration::{Configuration, read_deployments};
-pub use deploying::{ProgramDeployment, both};
+pub use deployments::{ProgramDeployment, both};
 pub use error::ErrorCode;
 pub use fail::Fail;
 pub use files::files_of;

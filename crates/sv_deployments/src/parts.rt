@@ -7,7 +7,7 @@ ghost use Rattle.sv_deployments.specs.ClassFault.{class_fault};
 ghost use Rattle.sv_deployments.specs.Parts.{components, components_of, seen};
 
 use crate::class_fault::ClassFault;
-use crate::declared::components_of;
+use crate::declaration::components_of;
 use crate::program_filter::ProgramFilter;
 use crate::program_listener::ProgramListener;
 use crate::program_servlet::ProgramServlet;

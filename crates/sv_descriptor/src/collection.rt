@@ -10,7 +10,7 @@ ghost use Rattle.sv_descriptor.specs.Fault.{fault};
 ghost use Rattle.sv_descriptor.specs.ListOf.{is_array};
 
 use crate::fault::{FaultCode, ReadFault, refuse};
-use crate::ignored::{IgnoredText, element_keys};
+use crate::ignored_keys::{IgnoredText, element_keys};
 use crate::limits::{MAX_LIST_ITEMS, MAX_METHOD_BYTES, MAX_PATTERNS_OF_CONSTRAINT};
 use crate::list::{ListOf, list_items};
 use crate::pattern::{UrlPattern, UrlPatterns};

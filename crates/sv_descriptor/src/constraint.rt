@@ -6,7 +6,7 @@ ghost use Rattle.sv_descriptor.specs.ListOf.{is_array};
 
 use crate::collection::Collections;
 use crate::fault::{FaultCode, ReadFault, refuse};
-use crate::ignored::element_keys;
+use crate::ignored_keys::element_keys;
 use crate::limits::MAX_LIST_ITEMS;
 use crate::list::ListOf;
 use crate::schema::{Schema, list_or_empty, optional_or, required};

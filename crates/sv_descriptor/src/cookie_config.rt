@@ -6,7 +6,7 @@ ghost use Rattle.sv_descriptor.specs.CookieConfig as spec;
 
 use crate::collection::is_token_text;
 use crate::fault::{FaultCode, ReadFault, refuse};
-use crate::ignored::element_keys;
+use crate::ignored_keys::element_keys;
 use crate::limits::{MAX_COOKIE_AGE, MAX_COOKIE_PATH_BYTES, MAX_NAME_BYTES};
 use crate::schema::{optional, optional_or};
 use crate::table::TableSchema;

@@ -5,7 +5,7 @@ ghost use Rattle.sv_descriptor.specs.ErrorPage as spec;
 ghost use Rattle.sv_descriptor.specs.Fault.{fault};
 
 use crate::fault::{FaultCode, ReadFault, refuse};
-use crate::ignored::element_keys;
+use crate::ignored_keys::element_keys;
 use crate::limits::{MAX_ERROR_CODE, MIN_ERROR_CODE};
 use crate::location::{Location, PageLocation};
 use crate::schema::{optional, required};

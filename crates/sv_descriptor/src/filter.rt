@@ -6,7 +6,7 @@ ghost use Rattle.sv_descriptor.specs.Filter as spec;
 ghost use Rattle.sv_descriptor.specs.Fault.{fault};
 
 use crate::fault::{FaultCode, ReadFault, refuse};
-use crate::ignored::element_keys;
+use crate::ignored_keys::element_keys;
 use crate::init_param::{InitParam, InitParams};
 use crate::limits::MAX_LIST_ITEMS;
 use crate::list::ListOf;

@@ -1,5 +1,5 @@
-//! The deployment descriptor, read from TOML: the result is a set of well-formed elements, or the first fault in the
-//! format's order (Jakarta Servlet 6.0 chapter 14).
+//! Configuration read from TOML: the deployment descriptor, the server file and the users file. The result is plain
+//! data that is well-formed, or the first fault in the order of the format (Jakarta Servlet 6.0, section 14.4).
 #![tactic(auto)]
 
 mod agreement;
@@ -13,7 +13,7 @@ mod document;
 mod error_page;
 mod fault;
 mod filter;
-mod ignored;
+mod ignored_keys;
 mod init_param;
 mod laws;
 mod limits;

@@ -3,7 +3,7 @@
 ghost use Rattle.sv_descriptor.specs.Listener.{listener};
 
 use crate::fault::ReadFault;
-use crate::ignored::element_keys;
+use crate::ignored_keys::element_keys;
 use crate::schema::required;
 use crate::table::TableSchema;
 use crate::text::{Name, TextOf};

@@ -3,7 +3,7 @@
 ghost use Rattle.sv_descriptor.specs.Login as spec;
 
 use crate::fault::{FaultCode, ReadFault, refuse};
-use crate::ignored::element_keys;
+use crate::ignored_keys::element_keys;
 use crate::location::{Location, PageLocation};
 use crate::schema::required;
 use crate::table::{TableOf, TableSchema};

@@ -4,7 +4,7 @@ ghost use Rattle.std.specs.Prelude.{◌≡◌};
 ghost use Rattle.sv_descriptor.specs.Role as spec;
 
 use crate::fault::{FaultCode, ReadFault, refuse};
-use crate::ignored::element_keys;
+use crate::ignored_keys::element_keys;
 use crate::schema::required;
 use crate::table::TableSchema;
 use crate::text::{Name, TextOf, TextSchema};

@@ -8,7 +8,7 @@ ghost use Rattle.sv_descriptor.specs.Fault.{fault};
 
 use crate::cookie_config::CookieTable;
 use crate::fault::{FaultCode, ReadFault, refuse};
-use crate::ignored::element_keys;
+use crate::ignored_keys::element_keys;
 use crate::limits::{DEFAULT_SESSION_TIMEOUT, MAX_SESSION_TIMEOUT};
 use crate::schema::optional_or;
 use crate::table::{TableOf, TableSchema};

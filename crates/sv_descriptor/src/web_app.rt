@@ -10,7 +10,7 @@ use crate::components::{Components, read_components};
 use crate::error_page::ErrorPage;
 use crate::fault::ReadFault;
 use crate::filter::{FilterEntry, FilterMapping};
-use crate::ignored::element_keys;
+use crate::ignored_keys::element_keys;
 use crate::listener::ListenerEntry;
 use crate::login::FormLogin;
 use crate::pages::{Pages, read_pages};

@@ -4,7 +4,7 @@ ghost use Rattle.std.specs.Prelude.{◌≡◌};
 ghost use Rattle.sv_descriptor.specs.WelcomeFile as spec;
 
 use crate::fault::{FaultCode, ReadFault, refuse};
-use crate::ignored::element_keys;
+use crate::ignored_keys::element_keys;
 use crate::limits::MAX_LIST_ITEMS;
 use crate::list::ListOf;
 use crate::schema::required;

@@ -5,7 +5,7 @@ use Rattle.sv_component.specs.declared.standing.Standing.TheVariants.{Gone}
 use Rattle.sv_dispatch.specs.declared.parts.ErrorField.{ErrorField}
 use Rattle.sv_dispatch.specs.declared.parts.ErrorField.TheVariants as fields
 use Rattle.sv_exchange.specs.Changing.{Write, has_room}
-use Rattle.sv_exchange.specs.declared.kept_error.KeptField.{KeptField}
+use Rattle.sv_exchange.specs.declared.error.KeptField.{KeptField}
 use Rattle.sv_tree.specs.Does.{Does, ◌>>◌, choose, gives, makes, sees}
 use Rattle.sv_tree.specs.State.{State}
 

@@ -2,22 +2,22 @@
 //! dispatch ends in an error, the response is the error's page or a plain text (Jakarta Servlet 6.0, section 10.9).
 #![tactic(auto)]
 
-mod dispatching;
+mod dispatch;
 mod endings;
-mod filing;
+mod file_servlet;
 mod filters;
 mod live_dispatch;
+mod live_machine;
 mod machine;
 mod pages;
 mod parts;
 mod plain_answer;
-mod running;
-mod serving;
+mod response;
+mod session_events;
 mod site_tables;
 mod tables;
-mod telling;
 
 pub use live_dispatch::dispatch;
 pub use pages::show_error;
 pub use parts::made;
-pub use serving::serve;
+pub use response::serve;

@@ -6,8 +6,8 @@ ghost use Rattle.sv_dispatch.specs.Did.{seen};
 ghost use Rattle.sv_dispatch.specs.Dispatched.{Dispatched, Refused};
 ghost use Rattle.sv_tree.specs.SiteOfDescriptor.{site_of};
 
-use crate::dispatching::dispatch_by;
-use crate::running::Running;
+use crate::dispatch::dispatch_by;
+use crate::live_machine::Running;
 use std::alloc::Global;
 use sv_component::{Exchange, Filter, Listener, Servlet};
 use sv_journal::Journal;

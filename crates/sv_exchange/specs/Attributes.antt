@@ -8,7 +8,7 @@ use Rattle.sv_mapping.specs.declared.kind.Kind.TheVariants as kinds
 use Rattle.sv_exchange.specs.declared.attributes.Attribute.{Attribute}
 use Rattle.sv_exchange.specs.declared.dispatch.Dispatch.{Dispatch}
 use Rattle.sv_exchange.specs.Paths.{Paths}
-use Rattle.sv_exchange.specs.declared.kept_error.ToldError.{ToldError}
+use Rattle.sv_exchange.specs.declared.error.ToldError.{ToldError}
 use Rattle.sv_exchange.specs.State.{State}
 
 -- The names that only dispatches set.

@@ -11,7 +11,7 @@ use Rattle.sv_message.specs.declared.cookie_settings.CookieSettings.{CookieSetti
 use Rattle.sv_message.specs.declared.message.Message.{Message}
 use Rattle.sv_message.specs.declared.response.Cookie.{Cookie}
 use Rattle.sv_message.specs.declared.response.Response.{Response}
-use Rattle.sv_exchange.specs.declared.holding.HeldSession.{HeldSession}
+use Rattle.sv_exchange.specs.declared.session_queries.HeldSession.{HeldSession}
 use Rattle.sv_exchange.specs.declared.limits.TheConstants.{OK}
 use Rattle.sv_exchange.specs.Dispatches.{paths_at}
 use Rattle.sv_exchange.specs.Sessions.{cookie_of}

@@ -6,8 +6,8 @@ use Rattle.sv_mapping.specs.declared.kind.Kind.{Kind}
 use Rattle.sv_mapping.specs.declared.kind.Kind.TheVariants as kinds
 use Rattle.sv_exchange.specs.declared.dispatch.Dispatch.{Dispatch}
 use Rattle.sv_exchange.specs.Paths.{Paths}
-use Rattle.sv_exchange.specs.declared.kept_error.KeptError.{KeptError}
-use Rattle.sv_exchange.specs.declared.kept_error.ToldError.{ToldError}
+use Rattle.sv_exchange.specs.declared.error.KeptError.{KeptError}
+use Rattle.sv_exchange.specs.declared.error.ToldError.{ToldError}
 use Rattle.sv_exchange.specs.State.{State}
 
 -- The paths for a path in a context.

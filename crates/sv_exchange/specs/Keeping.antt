@@ -1,6 +1,6 @@
 -- The parts of an exchange that components cannot change (Jakarta Servlet 6.0, chapters 6, 9 and 10).
 use Rattle.std.specs.Prelude.{◌≡◌, suc, true, Some}
-use Rattle.sv_exchange.specs.declared.kept_error.KeptError.{KeptError}
+use Rattle.sv_exchange.specs.declared.error.KeptError.{KeptError}
 use Rattle.sv_exchange.specs.State.{State}
 
 -- The state with the error that the response will report.

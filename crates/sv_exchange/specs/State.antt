@@ -12,7 +12,7 @@ use Rattle.sv_message.specs.declared.response.Cookie.{Cookie}
 use Rattle.sv_exchange.specs.declared.attributes.Attribute.{Attribute}
 use Rattle.sv_exchange.specs.declared.dispatch.Dispatch.{Dispatch}
 use Rattle.sv_exchange.specs.Paths.{Paths}
-use Rattle.sv_exchange.specs.declared.kept_error.KeptError.{KeptError}
+use Rattle.sv_exchange.specs.declared.error.KeptError.{KeptError}
 
 pub record State : Type 0 where
   pub method : List ℕ

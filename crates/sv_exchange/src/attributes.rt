@@ -5,8 +5,8 @@ ghost use Rattle.std.specs.Prelude.{IfSome, OnErr, OnOk, bytes_eq, length, posit
 ghost use Rattle.sv_exchange.specs.Attributes.{attribute_of, behind, is_reserved_attribute, rest_of, set_value, told_by, told_innermost, told_of, told_of_error, value_named};
 
 use crate::dispatch::{Dispatch, Paths, shown};
+use crate::error::ToldError;
 use crate::exchange::Exchange;
-use crate::kept_error::ToldError;
 use std::alloc::Global;
 use sv_mapping::Kind;
 use sv_text::{NoMemory, Text};

@@ -5,8 +5,8 @@ ghost use Rattle.std.specs.Option.{option_copied};
 ghost use Rattle.sv_text.specs.Gives.{GivesAnswer};
 ghost use Rattle.sv_exchange.specs.Dispatches.{is_include, paths_at};
 
-use crate::asked::{no_text, set_text};
-use crate::kept_error::ToldError;
+use crate::error::ToldError;
+use crate::reused_texts::{no_text, set_text};
 use std::alloc::Global;
 use std::marker::Model;
 use sv_mapping::Kind;

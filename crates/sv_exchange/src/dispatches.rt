@@ -5,7 +5,7 @@ ghost use Rattle.std.specs.Option.{option_copied};
 ghost use Rattle.sv_exchange.specs.Dispatches.{paths_at};
 
 use crate::dispatch::{Dispatch, Paths};
-use crate::kept_error::ToldError;
+use crate::error::ToldError;
 use std::alloc::Global;
 use std::marker::Model;
 use sv_mapping::Kind;

@@ -4,14 +4,14 @@ ghost use Rattle.std.specs.Prelude.{◌≡◌, ◌==◌, [], None, OnErr, OnOk, 
 ghost use Rattle.sv_exchange.specs.Dispatches.{paths_at};
 ghost use Rattle.sv_exchange.specs.declared.limits.TheConstants.{OK};
 
-use crate::asked::{no_settings, no_text, set_settings, set_text};
 use crate::attributes::Attribute;
 use crate::dispatch::{Paths, shown};
 use crate::dispatches::Dispatches;
-use crate::flushed::{Flushed, body_of};
-use crate::holding::{HeldSession, held_cookie, parts_of};
-use crate::kept_error::KeptError;
+use crate::error::KeptError;
+use crate::flushed_body::{Flushed, body_of};
 use crate::limits::{MAX_KEPT_BYTES, MAX_KEPT_FIELDS, OK};
+use crate::reused_texts::{no_settings, no_text, set_settings, set_text};
+use crate::session_queries::{HeldSession, held_cookie, parts_of};
 use http::Method;
 use std::alloc::Global;
 use std::collections::VecDeque;

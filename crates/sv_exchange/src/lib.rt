@@ -1,35 +1,35 @@
 //! The exchange: a request and the response that components make.
 #![tactic(auto)]
 
-mod answered;
-mod asked;
 mod attributes;
-mod changing;
+mod changes;
+mod container_calls;
 mod dispatch;
 mod dispatches;
-mod dispatching;
+mod error;
 mod events;
 mod exchange;
 mod exchange_fault;
 mod fields;
-mod flushed;
-mod holding;
-mod kept_error;
+mod flushed_body;
 mod laws;
 mod limits;
-mod listing;
+mod parameter_list;
 mod parameters;
-mod reading;
 mod request;
+mod request_queries;
+mod response_queries;
+mod reused_texts;
+mod session_queries;
 mod sessions;
 
 pub use attributes::Attribute;
 pub use dispatch::{Dispatch, Paths};
+pub use error::{KeptError, KeptField, ToldError};
 pub use exchange::Exchange;
 pub use exchange_fault::ExchangeFault;
-pub use holding::HeldSession;
-pub use kept_error::{KeptError, KeptField, ToldError};
 pub use laws::{
     changes_are_calls, changes_keep_the_request, changes_move_the_sessions, includes_keep_the_head,
 };
 pub use limits::{LEAST_STATUS, MAX_BODY_LEN, MAX_STATUS, NOT_MODIFIED, OK, RESET_CONTENT};
+pub use session_queries::HeldSession;

@@ -7,7 +7,7 @@ ghost use Rattle.sv_exchange.specs.Sessions.{ending_events};
 use crate::events::{ending_events, push};
 use crate::exchange::Exchange;
 use crate::exchange_fault::ExchangeFault;
-use crate::holding::cookie_of;
+use crate::session_queries::cookie_of;
 use sv_message::Rare;
 use sv_session::Event;
 use sv_text::Text;

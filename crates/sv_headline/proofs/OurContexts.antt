@@ -13,7 +13,7 @@ use Rattle.sv_context.specs.Handled.{GivesResponse, admitted, exchange_begun, st
 use Rattle.sv_context.specs.Laws.{ExpiryLeavesNone, ExpiryOfNoneIsNothing}
 use Rattle.sv_context.specs.State.{ContextState, world_of}
 use Rattle.sv_lifecycle.specs.declared.deployment.Deployment.{Deployment}
-use Rattle.sv_context.specs.declared.deploying.TheConstants.{SECONDS_OF_MINUTE}
+use Rattle.sv_context.specs.declared.deployment.TheConstants.{SECONDS_OF_MINUTE}
 use Rattle.sv_descriptor.specs.Version.{max_sessions}
 use Rattle.sv_journal.specs.Journal.{JournalState, new_journal, with_entry}
 use Rattle.sv_live.specs.Standing.{LiveState}

@@ -3,10 +3,10 @@ use Rattle.std.specs.Prelude.{ℕ, List, ◌++◌, codes, Some, None}
 use Rattle.std.specs.Fmt.{decimal}
 use Rattle.sv_journal.specs.declared.answer.Answer.{Answer}
 use Rattle.sv_journal.specs.declared.answer.Answer.TheVariants.{Ready, Pass, Stop, Done, Forward, Include, Error, Failed, Unavailable, NoMemory}
-use Rattle.sv_journal.specs.declared.called.CallName.{CallName}
-use Rattle.sv_journal.specs.declared.called.CallName.TheVariants.{Init, Service, Before, After, Destroy}
-use Rattle.sv_journal.specs.declared.called.Component.{Component}
-use Rattle.sv_journal.specs.declared.called.Component.TheVariants.{Servlet, Filter}
+use Rattle.sv_journal.specs.declared.calls.CallName.{CallName}
+use Rattle.sv_journal.specs.declared.calls.CallName.TheVariants.{Init, Service, Before, After, Destroy}
+use Rattle.sv_journal.specs.declared.calls.Component.{Component}
+use Rattle.sv_journal.specs.declared.calls.Component.TheVariants.{Servlet, Filter}
 
 abbrev pub component_text : Component → List ℕ
 component_text (Servlet name) = codes "servlet " ++ name

@@ -4,8 +4,8 @@ use Rattle.std.specs.Fmt.{decimal}
 use Rattle.sv_constraints.specs.Decision.{why_text}
 use Rattle.sv_uri.specs.ContextPath.{shown_context}
 use Rattle.sv_journal.specs.declared.answer.Answer.{Answer}
-use Rattle.sv_journal.specs.declared.called.CallName.{CallName}
-use Rattle.sv_journal.specs.declared.called.Component.TheVariants.{Servlet, Filter}
+use Rattle.sv_journal.specs.declared.calls.CallName.{CallName}
+use Rattle.sv_journal.specs.declared.calls.Component.TheVariants.{Servlet, Filter}
 use Rattle.sv_journal.specs.declared.entry.Entry.{Entry}
 use Rattle.sv_journal.specs.declared.entry.Entry.TheVariants.{Entered, SentToLogin, Refused, Hidden, Told, Called}
 use Rattle.sv_session.specs.declared.event.Event.{Event}

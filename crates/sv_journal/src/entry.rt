@@ -5,7 +5,7 @@ ghost use Rattle.sv_text.specs.Gives.{GivesAnswer};
 ghost use Rattle.sv_journal.specs.Entry.{called_filter, called_servlet, entry_text, heard};
 
 use crate::answer::Answer;
-use crate::called::{CallName, Component};
+use crate::calls::{CallName, Component};
 use crate::refusal_cause::RefusalCause;
 use std::alloc::Global;
 use std::fmt;

@@ -2,13 +2,13 @@
 #![tactic(auto)]
 
 mod answer;
-mod called;
+mod calls;
 mod entry;
 mod journal;
 mod refusal_cause;
 
 pub use answer::Answer;
-pub use called::{CallName, Component};
+pub use calls::{CallName, Component};
 pub use entry::Entry;
 pub use journal::Journal;
 pub use refusal_cause::RefusalCause;

@@ -8,11 +8,11 @@ mod fit;
 mod laws;
 mod order;
 mod plan;
+mod start;
 mod start_fault;
-mod starting;
 
 pub use deployment::Deployment;
 pub use fit::fits;
 pub use laws::{stops_mirror_starts, undone_starts_mirror};
+pub use start::start;
 pub use start_fault::{StartCode, StartFault};
-pub use starting::start;

@@ -2,9 +2,9 @@
 use Rattle.std.specs.Prelude.{◌≡◌, ℕ, List, length, Result, Ok, Err}
 use Rattle.sv_program.specs.declared.command_fault.CommandFault.{CommandFault}
 use Rattle.sv_program.specs.declared.command_fault.CommandFault.TheVariants.{File, NoMemory}
-use Rattle.sv_listening.specs.declared.seeding.Seeding.{Seeding}
-use Rattle.sv_listening.specs.declared.seeding.Seeding.TheVariants.{Configured, Fresh}
-use Rattle.sv_listening.specs.declared.seeding.TheConstants.{RANDOM_SOURCE}
+use Rattle.sv_listening.specs.declared.seed.Seeding.{Seeding}
+use Rattle.sv_listening.specs.declared.seed.Seeding.TheVariants.{Configured, Fresh}
+use Rattle.sv_listening.specs.declared.seed.TheConstants.{RANDOM_SOURCE}
 
 -- The system's random source failed, or memory ran out.
 abbrev pub IsRandomFault : CommandFault → Type 0

@@ -3,7 +3,7 @@
 ghost use Rattle.std.specs.Prelude.{◌≡◌, [], Ok, Err, Result};
 ghost use Rattle.sv_listening.specs.Parts.{InParts};
 
-use crate::kept::Kept;
+use crate::read_buffer::Kept;
 use std::marker::Model;
 use sv_streams::{ReadFailed, Sink, Source, Stream, WriteFailed};
 

@@ -3,8 +3,8 @@
 ghost use Rattle.std.specs.Prelude.{◌≡◌};
 
 use crate::part_stream::PartStream;
-use crate::parting::part_from;
 use crate::socket_stream::SocketStream;
+use crate::stream_close::part_from;
 use std::io::{ErrorKind, Read, Write};
 use std::net::{OpenListener, OpenStream};
 use std::time::Clock;

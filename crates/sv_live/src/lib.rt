@@ -1,12 +1,12 @@
 //! A started context: calling its components, notifying its listeners, and stopping it.
 #![tactic(auto)]
 
-mod calling;
 mod calls;
+mod indexed_calls;
 mod live;
 mod session_ends;
-mod stopping;
+mod stop;
 
 pub use live::{Live, Parts, Place};
-pub use stopping::end_all;
+pub use stop::end_all;
 pub use sv_component::{Named, Standing};

@@ -11,7 +11,7 @@ ghost use Rattle.sv_login.specs.declared.step.LoginOutcome.TheVariants as outcom
 ghost use Rattle.sv_text.specs.Gives.{GivesAnswer};
 
 use crate::credentials::Credentials;
-use crate::held_session::renewed;
+use crate::login_session::renewed;
 use std::alloc::Global;
 use sv_realm::Realm;
 use sv_session::{SessionFault, Sessions};

@@ -9,8 +9,8 @@ use Rattle.std.proofs.lemmas.Option.{none-some}
 use Rattle.std.proofs.lemmas.Slice.Eq.{ends_is}
 use Rattle.std.specs.List.{ends_with, list_all, starts_with}
 use Rattle.sv_mapping.specs.Pattern.{Form, Root, Default, Extension, Prefix, Exact, form, is_pattern}
-use Rattle.sv_mapping.specs.declared.index.Index.{Index}
-use Rattle.sv_mapping.specs.declared.node.Node.{Node}
+use Rattle.sv_mapping.specs.declared.pattern_index.Index.{Index}
+use Rattle.sv_mapping.specs.declared.trie_node.Node.{Node}
 use Rattle.sv_mapping.specs.Index.{Finds}
 use Rattle.sv_mapping.specs.Places.{exact_place, place_of}
 use Rattle.sv_mapping.specs.Segments.{is_rooted, segments_of}

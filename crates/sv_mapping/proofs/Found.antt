@@ -10,7 +10,7 @@ use Rattle.std.proofs.lemmas.Slice.Eq.{starts_is}
 use Rattle.sv_mapping.specs.BestMatch.{BestStandsFirst, best}
 use Rattle.sv_mapping.specs.MatchOrder.{BestIsFirstTried, BestOfOthers, exact_texts, extension_texts, other_texts, prefix_texts, tried_texts}
 use Rattle.sv_mapping.specs.Pattern.{extension, is_pattern}
-use Rattle.sv_mapping.specs.declared.index.Index.{Index}
+use Rattle.sv_mapping.specs.declared.pattern_index.Index.{Index}
 use Rattle.sv_mapping.specs.Index.{Finds}
 use Rattle.sv_mapping.specs.Places.{BestIsLookedUp, beside_trie, exact_place, first_place, in_trie, place_of}
 use Rattle.sv_mapping.specs.Segments.{is_rooted, is_slashed, segments, segments_of}

@@ -2,7 +2,7 @@
 use Rattle.std.proofs.Common.{◌≡◌, ℕ, ◌<◌, ◌≤◌, cond, List, [], ◌∷◌, ◌++◌, eqb, length, refl, sym, ◌∙◌, ap, arith, append_assoc, Option, Some, None}
 use Rattle.std.specs.Option.{option_and_then}
 use Rattle.std.proofs.lemmas.Option.{slice_get_past}
-use Rattle.sv_mapping.specs.declared.node.Node.{Node}
+use Rattle.sv_mapping.specs.declared.trie_node.Node.{Node}
 use Rattle.sv_mapping.specs.Trie.{Enters, Grows, child, exact, prefix, reached}
 use Rattle.sv_mapping.proofs.Trees.{Joins, here, kept_stays, reached-further, reached_stays, tree_grows}
 

@@ -7,7 +7,7 @@ use Rattle.std.specs.Str.{bytes_eq}
 use Rattle.std.proofs.lemmas.Bool.{cases_Bool, eqb-false, eqb-true, ltb-false, ltb-true}
 use Rattle.std.proofs.lemmas.List.{get_or-set_other, get_or-set_same, length-set}
 use Rattle.std.proofs.lemmas.Option.{slice_get-get_or, slice_get_past, slice_get_read}
-use Rattle.sv_mapping.specs.declared.node.Node.{Node}
+use Rattle.sv_mapping.specs.declared.trie_node.Node.{Node}
 use Rattle.sv_mapping.specs.Trie.{Adds, Enters, Grows, IsTree, along, child, exact, prefix, kept, looked_up}
 use Rattle.sv_mapping.proofs.Trees.{cases_Option, kept_here, kept_others}
 

@@ -2,7 +2,7 @@
 use Rattle.std.specs.Prelude.{◌≡◌, ℕ, ◌<◌, List, length, Option, None, position}
 use Rattle.std.specs.HashMap.{get_by_text}
 use Rattle.std.specs.Str.{bytes_eq}
-use Rattle.sv_mapping.specs.declared.places.Places.{Places}
+use Rattle.sv_mapping.specs.declared.context_places.Places.{Places}
 
 -- The first place of this path.
 abbrev pub place_of : List (List ℕ) → List ℕ → Option ℕ

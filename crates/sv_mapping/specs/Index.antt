@@ -3,7 +3,7 @@ use Rattle.std.specs.Prelude.{◌≡◌, ℕ, List, ◌++◌, codes, IsTrue}
 use Rattle.std.specs.HashMap.{get_by_text}
 use Rattle.std.specs.List.{list_all}
 use Rattle.sv_mapping.specs.Pattern.{is_pattern}
-use Rattle.sv_mapping.specs.declared.index.Index.{Index}
+use Rattle.sv_mapping.specs.declared.pattern_index.Index.{Index}
 use Rattle.sv_mapping.specs.Places.{exact_place, place_of}
 use Rattle.sv_mapping.specs.Segments.{is_rooted, segments_of}
 use Rattle.sv_mapping.specs.Trie.{IsTrie, child, exact, prefix, kept}

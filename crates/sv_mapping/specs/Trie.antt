@@ -3,7 +3,7 @@ use Rattle.std.specs.Prelude.{◌≡◌, ◌≢◌, ℕ, ◌+◌, ◌<◌, ◌==
 use Rattle.std.specs.HashMap.{get_by_text}
 use Rattle.std.specs.Option.{option_and_then, option_map_or, option_or}
 use Rattle.std.specs.Str.{bytes_eq}
-use Rattle.sv_mapping.specs.declared.node.Node.{Node}
+use Rattle.sv_mapping.specs.declared.trie_node.Node.{Node}
 
 -- The node one segment further.
 abbrev pub child : List Node → ℕ → List ℕ → Option ℕ

@@ -5,7 +5,7 @@ ghost use Rattle.sv_mapping.specs.Chosen.{is_chosen};
 ghost use Rattle.sv_mapping.specs.Pattern.{is_at_or_below};
 ghost use Rattle.sv_text.specs.Gives.{GivesAnswer};
 
-use crate::places::Places;
+use crate::context_places::Places;
 use std::alloc::Global;
 use std::marker::Model;
 use sv_text::{Listed, NoMemory, Text};

@@ -6,8 +6,8 @@ ghost use Rattle.sv_mapping.specs.Segments.{segments_of};
 ghost use Rattle.sv_mapping.specs.Trie as spec;
 ghost use Rattle.sv_mapping.specs.Trie.{Adds, IsTrie, Grows, Enters, along, looked_up};
 
-use crate::node::Node;
 use crate::segments::{behind_root, split_segment};
+use crate::trie_node::Node;
 use std::alloc::Global;
 use sv_text::NoMemory;
 

@@ -1,4 +1,5 @@
-//! Messages as values: requests, and responses with their bodies and cookies.
+//! Requests and responses as values, and what a request's head says: its target, host, framing, expectation,
+//! persistence and parameters (RFC 9112, RFC 9110; Jakarta Servlet 6.0, section 3.1).
 #![tactic(auto)]
 
 mod apart;

@@ -1,4 +1,5 @@
-//! Tests of canonical paths and of messages: tables whose rows a reader can check against the standards.
+//! Tests of canonical paths, of messages, and of the items for authors: tables whose rows a reader can check against the
+//! standards.
 #![tactic(auto)]
 
 #[cfg(test)]

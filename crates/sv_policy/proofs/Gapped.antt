@@ -21,7 +21,7 @@ use Rattle.sv_policy.specs.Uncovered.{IsRising, are_others_uncovered, has_method
 use Rattle.sv_policy.specs.declared.table.Table.{Table}
 use Rattle.sv_policy.proofs.Whole.{all_none}
 use Rattle.sv_policy.specs.Gaps.{GapsAreExact, GapsRise, gap_at, holds, is_all}
-use Rattle.sv_policy.specs.declared.uncovered.Gap.{Gap}
+use Rattle.sv_policy.specs.declared.gaps.Gap.{Gap}
 use Rattle.sv_policy.proofs.Steps.{seen_more}
 
 -- A table from a list of correct tables is correct.

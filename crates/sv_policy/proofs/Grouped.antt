@@ -14,7 +14,7 @@ use Rattle.sv_constraints.specs.Covering.{all_patterns, lists}
 use Rattle.sv_constraints.specs.declared.constraint.Constraint.{Constraint}
 use Rattle.sv_policy.proofs.Listed.{different_lists, listed_any, listed_by, some_filtered}
 use Rattle.sv_policy.specs.Groups.{IsGrouped}
-use Rattle.sv_policy.specs.declared.grouping.Groups.{Groups}
+use Rattle.sv_policy.specs.declared.groups.Groups.{Groups}
 use Rattle.sv_policy.specs.declared.table.Table.{Table}
 use Rattle.sv_policy.specs.Patterns.{different, kept_once, listed_in, lists_pattern}
 use Rattle.sv_policy.proofs.Steps.{filter_pass, filter_stop, passing_lists, seen_more}

@@ -8,7 +8,7 @@ use Rattle.sv_constraints.specs.declared.constraint.Methods.{Methods}
 use Rattle.sv_constraints.specs.declared.constraint.Methods.TheVariants as methods
 use Rattle.sv_policy.specs.Covering.{method_names}
 use Rattle.sv_policy.specs.Uncovered.{IsRising, has_methods, is_uncovered, rising, uncovered_methods}
-use Rattle.sv_policy.specs.declared.uncovered.Gap.{Gap}
+use Rattle.sv_policy.specs.declared.gaps.Gap.{Gap}
 
 -- The gap at a pattern.
 abbrev pub gap_at : List Constraint → List ℕ → Gap

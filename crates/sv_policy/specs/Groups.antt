@@ -8,7 +8,7 @@ use Rattle.std.specs.Str.{bytes_eq}
 use Rattle.sv_constraints.specs.Covering.{lists}
 use Rattle.sv_constraints.specs.declared.constraint.Constraint.{Constraint}
 use Rattle.sv_policy.specs.Patterns.{lists_pattern}
-use Rattle.sv_policy.specs.declared.grouping.Groups.{Groups}
+use Rattle.sv_policy.specs.declared.groups.Groups.{Groups}
 
 -- The group of a pattern, empty if it has none.
 abbrev pub items_in : {S : Type 0} → HashMap (Bor (List ℕ)) (Vec (Bor Constraint) Global) S → List ℕ → List (Bor Constraint)

@@ -6,7 +6,7 @@ use Rattle.sv_constraints.specs.declared.constraint.Constraint.{Constraint}
 use Rattle.sv_constraints.specs.declared.constraint.Rules.{Rules}
 use Rattle.sv_policy.specs.Compiled.{AreCompiled}
 use Rattle.sv_policy.specs.Patterns.{different, listed_in, lists_pattern}
-use Rattle.sv_policy.specs.declared.rebuilding.Rebuilt.{Rebuilt}
+use Rattle.sv_policy.specs.declared.rebuild.Rebuilt.{Rebuilt}
 
 -- Both lists have the same constraints on every pattern except these.
 abbrev pub AreSameElsewhere : List Constraint → List Constraint → List (List ℕ) → Type 0

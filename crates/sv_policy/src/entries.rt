@@ -8,7 +8,7 @@ ghost use Rattle.sv_policy.specs.Entries.{AreEntries, HasEntries, entry_in, entr
 ghost use Rattle.sv_policy.specs.Uncovered.{IsRising, differ, is_bare, uncovered_methods};
 ghost use Rattle.sv_text.specs.Gives.{GivesAnswer};
 
-use crate::covering::named_methods;
+use crate::coverage::named_methods;
 use crate::merged::Merged;
 use std::alloc::Global;
 use std::collections::BTreeMap;

@@ -8,9 +8,9 @@ ghost use Rattle.sv_policy.specs.Compiled.{AreCompiled};
 ghost use Rattle.sv_policy.specs.Groups.{IsGrouped};
 ghost use Rattle.sv_policy.specs.Patterns.{lists_pattern};
 
-use crate::grouping::{Groups, grouped};
+use crate::groups::{Groups, grouped};
 use crate::likeness::mark_of;
-use crate::making::Making;
+use crate::shared_tables::Making;
 use crate::table::Table;
 use crate::tables::{merged, table_like};
 use std::alloc::Global;

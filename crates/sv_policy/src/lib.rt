@@ -1,31 +1,30 @@
-//! A compiled policy: security constraints merged by pattern, so that a decision does not iterate over them (Jakarta
-//! Servlet 6.0, section 13.8).
+//! A compiled policy: security constraints merged by pattern, so that a decision does not iterate over them. Its edits,
+//! its gaps, and the explanation of a decision (Jakarta Servlet 6.0, section 13.8).
 #![tactic(auto)]
 
-mod copying;
-mod covering;
+mod copies;
+mod coverage;
 mod edit;
 mod edit_fault;
-mod editing;
 mod entries;
 mod explain;
 mod explain_fault;
 mod explained_context;
 mod explanation;
+mod gaps;
 mod grouped_tables;
-mod grouping;
+mod groups;
 mod laws;
 mod likeness;
 mod listed_tables;
-mod making;
 mod merged;
 mod patterns;
 mod policy;
-mod rebuilding;
+mod rebuild;
 mod role_numbers;
+mod shared_tables;
 mod table;
 mod tables;
-mod uncovered;
 
 pub use edit::{Edit, MAX_CONSTRAINTS, MAX_PATTERNS_OF_CONSTRAINT, NewConstraint};
 pub use edit_fault::EditFault;
@@ -33,10 +32,10 @@ pub use explain::{explain_parts, explain_request};
 pub use explain_fault::ExplainFault;
 pub use explained_context::{ContextPolicy, HasPolicy};
 pub use explanation::{Explanation, HiddenCause};
+pub use gaps::Gap;
 pub use laws::{
     best_is_of_texts, gaps_are_exact, gaps_rise, limits_are_as_stated, rising_is_in_order,
     uncovered_methods_are_exact,
 };
 pub use policy::{Decided, Policy};
 pub use table::Table;
-pub use uncovered::Gap;

@@ -6,8 +6,8 @@ ghost use Rattle.sv_policy.specs.Table.{IsTable};
 ghost use Rattle.sv_policy.specs.Patterns.{lists_pattern};
 
 use crate::likeness::mark_of;
-use crate::making::Making;
 use crate::patterns::is_listed;
+use crate::shared_tables::Making;
 use crate::table::Table;
 use crate::tables::{merged, table_like};
 use std::alloc::Global;

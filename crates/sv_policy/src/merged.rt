@@ -7,7 +7,7 @@ ghost use Rattle.sv_policy.specs.Covering.{covers_at};
 ghost use Rattle.sv_policy.specs.Merged.{IsMerged, admitting, names_everyone};
 ghost use Rattle.sv_policy.specs.Uncovered.{is_bare};
 
-use crate::covering::covers_at;
+use crate::coverage::covers_at;
 use crate::role_numbers::RoleNumbers;
 use std::alloc::Global;
 use sv_constraints::{

@@ -11,12 +11,12 @@ ghost use Rattle.sv_policy.specs.Compiled.{compiled, greatest_number};
 ghost use Rattle.sv_policy.specs.Gaps.{gaps};
 ghost use Rattle.sv_text.specs.Gives.{GivesAnswer};
 
+use crate::gaps::{Gap, gaps_of};
 use crate::grouped_tables::tables_of;
 use crate::laws::best_is_of_texts;
-use crate::making::table_at;
+use crate::shared_tables::table_at;
 use crate::table::Table;
 use crate::tables::index_of;
-use crate::uncovered::{Gap, gaps_of};
 use std::alloc::Global;
 use std::marker::Model;
 use std::rc::Rc;

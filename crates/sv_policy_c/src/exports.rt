@@ -5,7 +5,7 @@ ghost use Rattle.sv_policy_c.specs.Deciding as spec;
 ghost use Rattle.sv_policy_c.specs.Engine.{engine_of, explained};
 ghost use Rattle.sv_policy_c.specs.Uncovered.{uncovered_in, Lists};
 
-use crate::deciding::{add_role, decide, list_uncovered, open, set_caller};
+use crate::effects::{add_role, decide, list_uncovered, open, set_caller};
 use crate::handle::PolicyHandle;
 use crate::status::Status;
 use std::alloc::Global;

@@ -3,7 +3,7 @@
 #![tactic(auto)]
 
 mod answer;
-mod deciding;
+mod effects;
 mod engine;
 mod exports;
 mod gaps;

@@ -1,4 +1,4 @@
-//! Tests of patterns, users and constraints: tables whose rows a reader can check against the specification.
+//! Tests of patterns, users, constraints and logins: tables whose rows a reader can check against the specification.
 #![tactic(auto)]
 
 #[cfg(test)]

@@ -6,7 +6,7 @@ use Rattle.sv_constraints.specs.declared.constraint.Methods.{Methods}
 use Rattle.sv_constraints.specs.declared.constraint.Methods.TheVariants.{All, Only, Except}
 use Rattle.sv_uri.specs.ContextPath.{shown_context}
 use Rattle.sv_policy.specs.Gaps.{gaps}
-use Rattle.sv_policy.specs.declared.uncovered.Gap.{Gap}
+use Rattle.sv_policy.specs.declared.gaps.Gap.{Gap}
 use Rattle.sv_descriptor.specs.declared.server.ContextEntry.{ContextEntry}
 use Rattle.sv_program.specs.Configuration.{Step, descriptor_in, each, server_in}
 use Rattle.sv_program.specs.ConfigurationFiles.{contexts_in, readings}

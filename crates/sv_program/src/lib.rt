@@ -1,4 +1,5 @@
-//! The commands of the program, with generic readers and writers.
+//! The commands of the program, with generic readers and writers, and the second line of a fault: the file, the place
+//! and the offending text.
 #![tactic(auto)]
 
 mod command_fault;
@@ -12,11 +13,11 @@ mod limits;
 mod line;
 mod lists;
 mod names;
-mod offending;
+mod offending_text;
 mod output;
 mod place;
 mod sentence;
-mod shown;
+mod toml_value;
 mod tree;
 mod uncovered_command;
 

@@ -7,7 +7,7 @@ ghost use Rattle.toml.specs.Parse.{parse_document};
 ghost use Rattle.sv_program.specs.Detail as spec;
 ghost use Rattle.sv_program.specs.Offending.{offending as offending_text};
 
-use crate::offending::offending;
+use crate::offending_text::offending;
 use crate::place::{column_behind, line_behind};
 use crate::sentence::{back, front};
 use std::alloc::Global;

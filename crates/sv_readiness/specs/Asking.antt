@@ -4,9 +4,9 @@ use Rattle.std.specs.Fmt.{decimal}
 use Rattle.std.specs.Option.{option_and_then, option_map}
 use Rattle.sv_connection.specs.Asking.{Explaining, Saying}
 use Rattle.sv_connection.specs.declared.queries.Figures.{Figures}
-use Rattle.sv_readiness.specs.declared.asking.Ask.{Ask}
-use Rattle.sv_readiness.specs.declared.asking.Ask.TheVariants.{Explain, Status, Uncovered, Unknown}
-use Rattle.sv_readiness.specs.declared.asking.Ask.TheVariants as ask
+use Rattle.sv_readiness.specs.declared.control_commands.Ask.{Ask}
+use Rattle.sv_readiness.specs.declared.control_commands.Ask.TheVariants.{Explain, Status, Uncovered, Unknown}
+use Rattle.sv_readiness.specs.declared.control_commands.Ask.TheVariants as ask
 use Rattle.sv_readiness.specs.declared.limits.TheConstants.{MAX_LINE_BYTES}
 use Rattle.sv_policy.specs.declared.edit.Edit.{Edit}
 use Rattle.sv_run.specs.Events.{Edited}

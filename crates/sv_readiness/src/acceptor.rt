@@ -1,7 +1,7 @@
 //! A nonblocking listener that accepts connections.
 
 use crate::crowd::{Crowd, lacks_room};
-use crate::listening::LISTENER;
+use crate::listener::LISTENER;
 use mio::net::{TcpListener, TcpStream};
 use mio::{Interest, Registry, Token};
 use std::io::ErrorKind;

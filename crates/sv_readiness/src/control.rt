@@ -3,11 +3,11 @@
 ghost use Rattle.std.specs.Prelude.{◌≡◌, ◌≤◌, drop, length};
 ghost use Rattle.sv_connection.specs.Asking.{EditsOnce};
 
-use crate::asking::{asks_to_stop, line_end};
 use crate::calls::{try_read, try_write};
+use crate::control_commands::{asks_to_stop, line_end};
+use crate::control_replies::{last_text, reply};
 use crate::crowd::lacks_room;
 use crate::limits::{ASKED_AT_ONCE, MAX_ASKING_SECONDS, MAX_LINE_BYTES};
-use crate::replying::{last_text, reply};
 use mio::net::{UnixListener, UnixStream};
 use mio::{Interest, Registry, Token};
 use std::alloc::Global;

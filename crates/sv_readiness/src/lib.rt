@@ -3,17 +3,17 @@
 #![tactic(auto)]
 
 mod acceptor;
-mod asking;
 mod calls;
 mod control;
+mod control_commands;
+mod control_replies;
 mod crowd;
-mod dropping;
+mod drain;
 mod laws;
 mod limits;
-mod lingering;
-mod listening;
+mod lingering_close;
+mod listener;
 mod ready;
-mod replying;
 mod round_clock;
 mod sockets;
 mod stream_peer;
@@ -24,7 +24,7 @@ pub use limits::{
     MAX_DROPPED_READS, MAX_LINE_BYTES, MAX_LINGERING, MAX_READY_BEFORE_ACCEPT,
     MAX_READY_BEFORE_READING, MAX_SENT_AT_ONCE,
 };
-pub use listening::Listening;
+pub use listener::Listening;
 pub use round_clock::RoundClock;
 pub use sockets::Sockets;
 pub use stream_peer::StreamPeer;

@@ -3,8 +3,8 @@
 use crate::acceptor::Acceptor;
 use crate::control::{ASKER, CONTROL, Control};
 use crate::limits::{EVENTS_AT_ONCE, MAX_READY_BEFORE_ACCEPT, MAX_READY_BEFORE_READING};
-use crate::lingering::Lingering;
-use crate::listening::{LISTENER, Listening};
+use crate::lingering_close::Lingering;
+use crate::listener::{LISTENER, Listening};
 use crate::ready::Ready;
 use crate::stream_peer::StreamPeer;
 use mio::event::Source;

@@ -16,11 +16,11 @@ ghost use Rattle.sv_run.specs.State.{settled_at};
 
 use crate::connections::Connections;
 use crate::context::{Context, Words};
-use crate::editing::told_of;
+use crate::edits::told_of;
 use crate::faults::{fault_of, moment_after};
 use crate::handler::EventHandler;
 use crate::happening::{Happening, Reaction};
-use crate::indexed::Indexed;
+use crate::indexed_contexts::Indexed;
 use crate::items::take_items;
 use crate::output::Output;
 use crate::spare::Spare;

@@ -9,9 +9,9 @@ ghost use Rattle.sv_run.specs.Events.{MovesAll};
 ghost use Rattle.sv_run.specs.Items.{Takes, TakesItem};
 ghost use Rattle.sv_run.specs.State.{world_of};
 
-use crate::answering::{refuse, send_continue};
+use crate::answers::{refuse, send_continue};
 use crate::context::{Context, Words};
-use crate::indexed::Indexed;
+use crate::indexed_contexts::Indexed;
 use crate::messages::take_message;
 use crate::output::Output;
 use std::alloc::Global;

@@ -1,17 +1,17 @@
-//! The run of a container: the effects of each event, over contexts that are known only by their conduct, and the laws
-//! of every list of events. The crate also has the sources of random words that a container uses.
+//! The run of a container: the effects of each event, over contexts that are known only by their conduct, the laws of
+//! runs, and the code that handles events over any such contexts.
 #![tactic(auto)]
 
-mod answering;
+mod answers;
 mod connections;
 mod context;
 mod counted_words;
-mod editing;
+mod edits;
 mod faults;
 mod handler;
 mod happening;
 mod host;
-mod indexed;
+mod indexed_contexts;
 mod items;
 mod laws;
 mod limits;

@@ -11,9 +11,9 @@ ghost use Rattle.sv_run.specs.Messages.{destination, destination_in, place_for};
 ghost use Rattle.sv_run.specs.State.{world_of};
 ghost use Rattle.sv_wire.specs.declared.item.Item.TheVariants as item;
 
-use crate::answering::{answer_bad_path, answer_hidden, answer_star};
+use crate::answers::{answer_bad_path, answer_hidden, answer_star};
 use crate::context::{Context, Words};
-use crate::indexed::Indexed;
+use crate::indexed_contexts::Indexed;
 use crate::output::Output;
 use std::alloc::Global;
 use sv_message::{Message, Target};

@@ -10,7 +10,7 @@ ghost use Rattle.sv_run.specs.Events.{MovesAll};
 ghost use Rattle.sv_run.specs.Items.{Responds};
 ghost use Rattle.sv_run.specs.Messages.{Within};
 
-use crate::answering::{is_head, send};
+use crate::answers::{is_head, send};
 use crate::context::{Context, Words};
 use crate::output::Output;
 use std::alloc::Global;

@@ -6,7 +6,7 @@ ghost use Rattle.sv_script.specs.Laws.{ReadsBack};
 ghost use Rattle.sv_script.specs.ReplayLaws.{AFailedWriteCutsTheText, LinesAreApart, LinesAreTheText, NextLinesAreFirst};
 ghost use Rattle.sv_script.specs.WholeLaws.{ACutTextBeginsTheWhole, ARefusedRunIsCut, ARunWritesOneText, AScriptIsALawfulRun};
 
-use crate::editing::{MAX_METHOD_BYTES, MAX_ROLE_BYTES};
+use crate::edit_lines::{MAX_METHOD_BYTES, MAX_ROLE_BYTES};
 use crate::whole::Stops;
 use sv_run::{Context, EventHandler, Words};
 use sv_streams::{Sink, Source};

@@ -1,7 +1,7 @@
 //! The text of replays: reading the lines of a script, and printing the reactions to their events.
 #![tactic(auto)]
 
-mod editing;
+mod edit_lines;
 mod escape;
 mod events;
 mod fields;
@@ -9,13 +9,13 @@ mod laws;
 mod line;
 mod names;
 mod play;
-mod printed;
-mod printing;
+mod print;
+mod printed_texts;
+mod replay;
 mod replay_fault;
-mod replaying;
 mod whole;
 
-pub use editing::{MAX_METHOD_BYTES, MAX_ROLE_BYTES};
+pub use edit_lines::{MAX_METHOD_BYTES, MAX_ROLE_BYTES};
 pub use escape::{escaped, unescaped};
 pub use fields::{at_blank, text_of};
 pub use laws::{
@@ -25,8 +25,8 @@ pub use laws::{
 };
 pub use line::{LineFault, ScriptLine, read_line};
 pub use names::NameKind;
-pub use printed::{event_text, shutdown_text, start_text};
-pub use printing::print_start;
+pub use print::print_start;
+pub use printed_texts::{event_text, shutdown_text, start_text};
+pub use replay::replay;
 pub use replay_fault::ReplayFault;
-pub use replaying::replay;
 pub use whole::{Stops, run_started};

@@ -5,7 +5,7 @@ ghost use Rattle.sv_script.specs.Line as spec;
 ghost use Rattle.sv_script.specs.declared.line.LineFault.TheVariants as fault;
 ghost use Rattle.sv_text.specs.Gives.{Gives, GivesAnswer};
 
-use crate::editing::{appending, withdrawing};
+use crate::edit_lines::{appending, withdrawing};
 use crate::escape::unescaped;
 use crate::fields::{at_blank, number};
 use std::alloc::{AllocError, AllocFailed, Global};

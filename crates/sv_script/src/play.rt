@@ -7,7 +7,7 @@ ghost use Rattle.sv_script.specs.PlaySteps.{PlaysLine, Prints, Reads, TakesEvent
 
 use crate::events::{event_of, moment_behind};
 use crate::line::{LineFault, ScriptLine, read_line};
-use crate::printed::event_text;
+use crate::printed_texts::event_text;
 use crate::replay_fault::{ReplayFault, fault_of};
 use std::alloc::Global;
 use sv_run::{EventHandler, Happening, Reaction};

@@ -2,9 +2,9 @@
 
 ghost use Rattle.sv_script.specs.Whole.{PlaysOnce, RunsWhole};
 
-use crate::printing::{print_start, print_stop};
+use crate::print::{print_start, print_stop};
+use crate::replay::replay;
 use crate::replay_fault::ReplayFault;
-use crate::replaying::replay;
 use std::alloc::Global;
 use sv_journal::Journal;
 use sv_run::EventHandler;

@@ -3,10 +3,10 @@
 #![tactic(auto)]
 
 mod options;
-mod running;
+mod run_application;
 
 pub use options::Options;
-pub use running::run_application;
+pub use run_application::run_application;
 pub use sv_program::CommandFault;
 pub use sv_web::{
     Attribute, Caller, Config, Deployment, Event, Exchange, ExchangeFault, Fault, Field, Filter,

@@ -5,13 +5,13 @@ ghost use Rattle.std.specs.Option.{option_copied};
 
 use crate::due::Due;
 use crate::ended_sessions::{Counted, EndedSession, EndedSessions};
+use crate::expiry_queue::Queue;
 use crate::id::{ID_BYTES, id_of};
 use crate::ids::Ids;
-use crate::kept::Kept;
 use crate::limits::{GREATEST_SERIAL, MAX_ATTRIBUTES, MAX_NAME_BYTES, MAX_VALUE_BYTES};
-use crate::queue::Queue;
 use crate::session_fault::SessionFault;
 use crate::slot::{Attribute, Slot, first_living, gathered, place_of, push};
+use crate::stored_session::Kept;
 use std::alloc::Global;
 use std::marker::Model;
 use std::mem;

@@ -8,8 +8,8 @@ ghost use Rattle.sv_session.specs.Store.{is_numbered};
 
 use crate::due::Due;
 use crate::ended_sessions::EndedSession;
-use crate::kept::Kept;
-use crate::queue::Queue;
+use crate::expiry_queue::Queue;
+use crate::stored_session::Kept;
 use std::alloc::Global;
 use sv_text::{NoMemory, Text};
 

@@ -3,8 +3,8 @@
 use Rattle.std.specs.Prelude.{ℕ, ◌+◌, Bool, min, nat_le, List, slice_index_or, slice_set}
 use Rattle.sv_exchange.specs.Keeping as keeping
 use Rattle.sv_exchange.specs.State as exchanges
-pub use Rattle.sv_exchange.specs.declared.kept_error.KeptError.{KeptError}
-pub use Rattle.sv_exchange.specs.declared.kept_error.KeptField.{KeptField}
+pub use Rattle.sv_exchange.specs.declared.error.KeptError.{KeptError}
+pub use Rattle.sv_exchange.specs.declared.error.KeptField.{KeptField}
 use Rattle.sv_component.specs.Standing.{standing_now}
 pub use Rattle.sv_component.specs.declared.standing.Standing.{Standing}
 pub use Rattle.sv_component.specs.declared.standing.Standing.TheVariants.{Serving, Gone, Away}

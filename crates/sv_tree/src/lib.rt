@@ -1,4 +1,5 @@
-//! The definition of a dispatch, with its laws. The code that makes dispatches is verified against it.
+//! The definition of a dispatch, with its laws, and the site of a context: its path, descriptor and files, as a
+//! dispatch uses them. The code that makes dispatches is verified against it (Jakarta Servlet 6.0, chapters 6 and 9).
 #![tactic(auto)]
 
 mod dispatch_fault;

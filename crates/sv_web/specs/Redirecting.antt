@@ -7,8 +7,8 @@ use Rattle.sv_exchange.specs.State.{State}
 use Rattle.sv_web.specs.Answering.{told}
 use Rattle.sv_web.specs.declared.fault.Fault.{Fault}
 use Rattle.sv_web.specs.declared.fault.Fault.TheVariants.{BadLocation}
-use Rattle.sv_web.specs.declared.redirecting.RedirectKind.{RedirectKind}
-use Rattle.sv_web.specs.declared.redirecting.RedirectKind.TheVariants.{MovedPermanently, Found, SeeOther, Temporary, Permanent}
+use Rattle.sv_web.specs.declared.redirects.RedirectKind.{RedirectKind}
+use Rattle.sv_web.specs.declared.redirects.RedirectKind.TheVariants.{MovedPermanently, Found, SeeOther, Temporary, Permanent}
 
 -- the status code
 abbrev pub status_of : RedirectKind → ℕ

@@ -1,29 +1,29 @@
 //! The items for authors of web applications: responses that combine calls of an exchange, and the deployment of an
-//! application.
+//! application from its files.
 #![tactic(auto)]
 
 mod cookies;
 mod deployment;
 mod deployments;
 mod elements;
-mod escaping;
+mod escape;
 mod fault;
-mod linking;
+mod links;
 mod methods;
-mod redirecting;
-mod sending;
-mod sent_cookies;
+mod redirects;
+mod request_cookies;
+mod send;
 
 pub use cookies::{NewCookie, SameSite, set_cookie};
 pub use deployment::{Content, Deployment};
 pub use deployments::deployments_of;
-pub use escaping::escape_html;
+pub use escape::escape_html;
 pub use fault::{Fault, gate_of, step_of};
-pub use linking::link_to;
+pub use links::link_to;
 pub use methods::{Verb, asked_verb};
-pub use redirecting::{RedirectKind, redirect, redirect_elsewhere};
-pub use sending::{send, send_html, send_text};
-pub use sent_cookies::cookie;
+pub use redirects::{RedirectKind, redirect, redirect_elsewhere};
+pub use request_cookies::cookie;
+pub use send::{send, send_html, send_text};
 pub use sv_component::{
     Config, Event, Exchange, ExchangeFault, Filter, Gate, Init, Listener, Named, Param, Servlet,
     Step,

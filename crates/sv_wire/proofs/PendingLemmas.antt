@@ -21,9 +21,9 @@ use Rattle.sv_wire.specs.declared.limits.TheConstants.{MAX_HEAD_LEN}
 use Rattle.sv_wire.specs.declared.owed_head.OwedHead.{OwedHead}
 use Rattle.sv_wire.specs.declared.owed_head.Judgement.{Judgement}
 use Rattle.sv_wire.specs.declared.owed_head.Judgement.TheVariants.{Refused, Expecting, Accepted}
-use Rattle.sv_wire.specs.declared.pending.Pending.{Pending}
-use Rattle.sv_wire.specs.declared.reading.Next.{Next}
-use Rattle.sv_wire.specs.declared.reading.Next.TheVariants.{Found, AwaitsHead, AwaitsBody}
+use Rattle.sv_wire.specs.declared.pending_message.Pending.{Pending}
+use Rattle.sv_wire.specs.declared.read_items.Next.{Next}
+use Rattle.sv_wire.specs.declared.read_items.Next.TheVariants.{Found, AwaitsHead, AwaitsBody}
 use Rattle.sv_wire.specs.declared.wire_fault.WireFault.{WireFault}
 use Rattle.sv_wire.specs.declared.wire_fault.WireFault.TheVariants.{HeadTooLarge}
 use Rattle.sv_wire.specs.EmptyLines.{drop_empty_lines}

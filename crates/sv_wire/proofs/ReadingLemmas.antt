@@ -11,8 +11,8 @@ use Rattle.sv_wire.specs.declared.inbox.State.TheVariants as state
 use Rattle.sv_wire.specs.declared.item.Item.{Item}
 use Rattle.sv_wire.specs.declared.limits.TheConstants.{MAX_HEAD_LEN}
 use Rattle.sv_wire.specs.declared.owed_head.OwedHead.{OwedHead}
-use Rattle.sv_wire.specs.declared.pending.Pending.{Pending}
-use Rattle.sv_wire.specs.declared.reading.Next.TheVariants.{Found, AwaitsHead, AwaitsBody}
+use Rattle.sv_wire.specs.declared.pending_message.Pending.{Pending}
+use Rattle.sv_wire.specs.declared.read_items.Next.TheVariants.{Found, AwaitsHead, AwaitsBody}
 use Rattle.sv_wire.specs.Head.{ends_head}
 use Rattle.sv_wire.specs.Items.{is_last, are_ended}
 use Rattle.sv_wire.specs.Next.{StartsNext, ComesNext}

@@ -5,11 +5,11 @@ use Rattle.sv_text.specs.declared.front.Cut.TheVariants.{Whole, Endless, Unended
 use Rattle.sv_wire.specs.declared.limits.TheConstants.{MAX_HEAD_LEN}
 use Rattle.sv_wire.specs.declared.owed_head.OwedHead.{OwedHead}
 use Rattle.sv_wire.specs.declared.owed_head.Judgement.{Judgement}
-use Rattle.sv_wire.specs.declared.pending.Pending.{Pending}
-use Rattle.sv_wire.specs.declared.reading.Next.{Next}
-use Rattle.sv_wire.specs.declared.reading.Next.TheVariants.{Found, AwaitsHead, AwaitsBody}
-use Rattle.sv_wire.specs.declared.reading.Rest.{Rest}
-use Rattle.sv_wire.specs.declared.reading.Rest.TheVariants.{Ended, Head, Body}
+use Rattle.sv_wire.specs.declared.pending_message.Pending.{Pending}
+use Rattle.sv_wire.specs.declared.read_items.Next.{Next}
+use Rattle.sv_wire.specs.declared.read_items.Next.TheVariants.{Found, AwaitsHead, AwaitsBody}
+use Rattle.sv_wire.specs.declared.read_items.Rest.{Rest}
+use Rattle.sv_wire.specs.declared.read_items.Rest.TheVariants.{Ended, Head, Body}
 use Rattle.sv_wire.specs.EmptyLines.{drop_empty_lines}
 use Rattle.sv_wire.specs.Pending.{owed_by, rest_of, AreSound, IsSound}
 use Rattle.sv_wire.specs.Reads.{Start, gives, awaits, cut_head, ReadsHead, text_of, Starts}

@@ -7,7 +7,7 @@ use Rattle.sv_wire.specs.Body.{nothing_came}
 use Rattle.sv_wire.specs.Progress.{ReadsOn}
 use Rattle.sv_wire.specs.declared.owed_head.OwedHead.{OwedHead}
 use Rattle.sv_wire.specs.declared.owed_head.Judgement.TheVariants.{Accepted}
-use Rattle.sv_wire.specs.declared.pending.Pending.{Pending}
+use Rattle.sv_wire.specs.declared.pending_message.Pending.{Pending}
 use Rattle.sv_wire.specs.EmptyLines.{drop_empty_lines}
 use Rattle.sv_wire.specs.Reads.{ReadsHead, cut_head}
 

@@ -10,8 +10,8 @@ ghost use Rattle.sv_text.specs.declared.front.Cut.TheVariants.{Unended};
 
 use crate::body_reader::{BodyEnd, Progress};
 use crate::item::Item;
-use crate::pending::PendingBox;
-use crate::reading::{Rest, read_items};
+use crate::pending_message::PendingBox;
+use crate::read_items::{Rest, read_items};
 use std::alloc::Global;
 use std::marker::Model;
 use std::mem;

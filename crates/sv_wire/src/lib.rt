@@ -1,4 +1,4 @@
-//! HTTP/1.x messages read from a stream of bytes.
+//! HTTP/1.x messages read from a stream of bytes, with their bodies, and the text of responses (RFC 9112).
 #![tactic(auto)]
 
 mod body_fault;
@@ -14,8 +14,8 @@ mod laws;
 mod limits;
 mod machine;
 mod owed_head;
-mod pending;
-mod reading;
+mod pending_message;
+mod read_items;
 mod response_text;
 mod round_trip;
 mod text_kind;

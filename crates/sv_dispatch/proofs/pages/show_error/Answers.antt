@@ -1,7 +1,7 @@
 use Rattle.std.proofs.Common.{ℕ, List, None, refl, ap}
 use Rattle.std.specs.Option.{option_copied}
 use Rattle.sv_dispatch.specs.Did.{seen}
-use Rattle.sv_exchange.specs.declared.kept_error.KeptError.{KeptError}
+use Rattle.sv_exchange.specs.declared.error.KeptError.{KeptError}
 use Rattle.sv_tree.specs.SiteOfDescriptor.{site_of}
 use Rattle.sv_message.specs.Phrases.{phrase_of}
 use Rattle.sv_dispatch.proofs.ContextDeeds.{error_broken, error_not, error_so}

@@ -1,7 +1,7 @@
 use Rattle.std.proofs.Common.{subst, ap, arith}
 use Rattle.std.proofs.lemmas.List.{take_rest}
 use Rattle.sv_wire.specs.declared.body_reader.Progress.TheVariants.{Awaits, Ended}
-use Rattle.sv_wire.specs.declared.pending.Pending.{Pending}
+use Rattle.sv_wire.specs.declared.pending_message.Pending.{Pending}
 use Rattle.sv_wire.specs.Pending.{ReadsPiece}
 use Rattle.sv_wire.specs.Reads.{item_of}
 use Rattle.sv_wire.specs.State.{ReadsAfter}

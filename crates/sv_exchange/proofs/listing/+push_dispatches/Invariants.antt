@@ -1,5 +1,0 @@
-use Rattle.std.proofs.Common.{length}
-use Rattle.sv_exchange.proofs.listing.+push_dispatches.Given as goal
-
-abbrev pub decreases-push_dispatches : goal.decreases-push_dispatches
-decreases-push_dispatches l = length l.dispatches.now

@@ -1,0 +1,16 @@
+use Rattle.std.proofs.Common.{◌||◌, refl}
+use Rattle.sv_wire.specs.ResponseText.{response_text}
+use Rattle.sv_run.proofs.answers.send.Goals as goal
+
+pub returns : goal.returns
+returns c =
+    let wrote = c.in_ok-write_response.ensures.text in (
+      response_text c.args.response.now c.args.head_only c.args.keep wrote.0,
+      (wrote.0, wrote.1, refl),
+      λ i. record {
+        sends = wrote.2 i;
+        closes = c.args.output.now.closes || c.closes_behind.ensures i;
+        journal = c.args.output.now.journal;
+        edited = c.args.output.now.edited;
+      },
+    )
