@@ -1,4 +1,4 @@
-//! A guestbook with logins and roles, whose entries stand in a SQLite file, behind `./guestbook PORT [FILE]`.
+//! A guestbook with logins and roles, which keeps its entries in a SQLite file. Runs as `./guestbook PORT [FILE]`.
 #![tactic(auto)]
 
 use anyhow::bail;
@@ -12,10 +12,10 @@ use std::rt::Env;
 use std::time::Clock;
 use sv_servlet::{Options, run_application};
 
-/// The file of the entries, unless another is named.
+/// The default file of the entries.
 const FILE: &str = "guestbook.db";
 
-/// Serves the book of this database until the process is ended.
+/// Serves the guestbook of this database until the process ends.
 fn run<R: Net + Clock + RandomSource + Print + AllocGlobal, S: Alter + Drop>(
     rt: &R,
     options: Options,
@@ -28,7 +28,7 @@ fn run<R: Net + Clock + RandomSource + Print + AllocGlobal, S: Alter + Drop>(
     Ok(())
 }
 
-// Serves the book of this file: no part of `main`, so that few steps see the type of its database.
+// Serves the guestbook of this file. Separate from `main`, so that few steps see the type of its database.
 fn serve(rt: &HostRuntime, options: Options, file: &str) -> anyhow::Result<()> {
     match Connection::open(rt, file) {
         Ok(connection) => run(rt, options, connection),

@@ -1,4 +1,4 @@
-//! An application of its own: a servlet, a filter and a listener in one context, behind `./hello PORT`.
+//! A complete application: a servlet, a filter and a listener in one context. Runs as `./hello PORT`.
 #![tactic(auto)]
 
 ghost use Rattle.sv_servlet.specs.Changing.{Reaches};
@@ -10,7 +10,7 @@ use sv_servlet::{
     Servlet, Step, Text, gate_of, run_application, send_text, step_of,
 };
 
-/// Greets each caller by the parameter `name`, and tells how many it has greeted.
+/// Greets each caller by the parameter `name`, and reports how many callers it has greeted.
 #[derive(Drop)]
 struct Greet {
     greeted: u64,
@@ -33,7 +33,7 @@ impl Servlet for Greet {
     fn destroy(&mut self) {}
 }
 
-// The answer to the caller of this number.
+// Sends the greeting for the caller of this number.
 fn greeting(alloc: Global, exchange: &mut Exchange, number: u64) -> Result<Step, Fault>
     ensures { Reaches exchange.old exchange.new }
 {
@@ -44,7 +44,7 @@ fn greeting(alloc: Global, exchange: &mut Exchange, number: u64) -> Result<Step,
     Ok(Step::Done)
 }
 
-/// Tells browsers to take an answer for what its type says.
+/// Prevents browsers from guessing the content type of a response.
 #[derive(Drop)]
 struct NoSniff {}
 

@@ -1,4 +1,4 @@
-//! A journal and the answers of calls that may be refused memory, with memory at hand.
+//! A journal, and the answers of calls that allocate, with enough memory.
 
 use std::alloc::Global;
 use sv_journal::{Answer, CallName, Entry, Journal};
@@ -6,7 +6,7 @@ use sv_rows::{Asks, Draft, Strays, cell, hold};
 use sv_session::Event;
 use sv_text::NoMemory;
 
-/// Whether the entry between two others could not be made, and the lines of the journal.
+/// The columns: `broken` if the entry between two others could not be made; lines of the journal.
 const ROWS: &str = r#"
 -- formats of entries; an entry that could not be made breaks the journal, which keeps those before it and takes no more
 whole  | told / 1 SessionCreated 3. called / servlet who init Ready. whole
@@ -18,7 +18,7 @@ fn a_journal_keeps_its_entries_until_it_breaks(rt: HostRuntime) -> Result<(), St
     hold(&rt, &[ROWS], &Journals)
 }
 
-/// The lines of a journal, each with a full stop behind it.
+/// Answers with the lines of a journal, each followed by a full stop, and whether the journal is whole.
 struct Journals;
 
 impl Asks for Journals {

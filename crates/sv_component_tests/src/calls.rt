@@ -1,4 +1,4 @@
-//! Calls on an exchange, as the rows of tables spell them.
+//! Calls on an exchange, as the rows of tables write them.
 
 ghost use Rattle.std.specs.Prelude.{◌<◌, length, OnOk};
 
@@ -6,7 +6,7 @@ use std::alloc::Global;
 use sv_exchange::{Exchange, ExchangeFault};
 use sv_mapping::Kind;
 
-/// Makes calls on the exchange, which stand between semicolons, and tells what the last one answered.
+/// Makes calls on the exchange, separated by semicolons, and returns the answer to the last one.
 pub fn call_all(alloc: Global, exchange: &mut Exchange, calls: &str) -> &'static str {
     answered(make_all(alloc, exchange, calls))
 }
@@ -21,7 +21,7 @@ fn make_all(alloc: Global, exchange: &mut Exchange, calls: &str) -> Result<bool,
     done
 }
 
-/// Makes a call of that name.
+/// Makes the call of this name.
 fn make(
     alloc: Global,
     exchange: &mut Exchange,
@@ -39,7 +39,7 @@ fn make(
     }
 }
 
-/// Makes a changing call that takes a name and a value.
+/// Makes a call that sets a name to a value.
 fn change_named(exchange: &mut Exchange, call: &str, rest: &str) -> Result<bool, ExchangeFault> {
     let (name, value) = rest.split_once('=').unwrap_or((rest, ""));
     match call {
@@ -49,7 +49,7 @@ fn change_named(exchange: &mut Exchange, call: &str, rest: &str) -> Result<bool,
     }
 }
 
-/// Makes another changing call.
+/// Sets the status, writes, or flushes.
 fn change(exchange: &mut Exchange, call: &str, rest: &str) -> Result<bool, ExchangeFault> {
     match call {
         "status" => exchange.set_status(rest.trim_end().parse::<u16>().unwrap_or(0)),
@@ -58,7 +58,7 @@ fn change(exchange: &mut Exchange, call: &str, rest: &str) -> Result<bool, Excha
     }
 }
 
-/// Writes so many bytes.
+/// Writes this number of bytes.
 fn fill(alloc: Global, exchange: &mut Exchange, count: usize) -> Result<bool, ExchangeFault> {
     let bytes = Vec::from_elem(alloc, b'x', count)?;
     exchange.write(bytes.as_slice())
@@ -85,7 +85,7 @@ fn answered(done: Result<bool, ExchangeFault>) -> &'static str {
     }
 }
 
-/// Begins the dispatch of a name: each kind has a path of its own, includes have two.
+/// Begins the dispatch of this name. Each kind has its own path, and includes have two.
 fn enter(exchange: &mut Exchange, name: &str) -> Result<bool, ExchangeFault>
     ensures { OnOk result (0 < length exchange.new.dispatches) }
 {
@@ -119,7 +119,7 @@ fn enter(exchange: &mut Exchange, name: &str) -> Result<bool, ExchangeFault>
     }
 }
 
-/// Begins a dispatch to a path, which is that of the servlet and what stands behind it.
+/// Begins a dispatch to a path, which is split into a servlet path and a path info.
 fn begin(
     exchange: &mut Exchange,
     kind: Kind,

@@ -1,4 +1,4 @@
-//! What changing calls do to an exchange.
+//! The effect of calls that change an exchange.
 
 use crate::runs::{Sees, add_seen};
 use std::alloc::Global;
@@ -8,7 +8,7 @@ use sv_rows::{Asks, Draft, Strays, cell, hold};
 use sv_text::NoMemory;
 use sv_wire::{DateText, write_response};
 
-/// Calls, the answer to the last one, and the response: its status, its fields, its body.
+/// The columns: calls; answer to the last one; status, fields and body of the response.
 const STATUSES: &str = r#"
 -- Jakarta Servlet 6.0, section 5.1: a status is set until the response is committed, and not within an include
 status 404                     | done      | 404 | ""                | ""
@@ -36,7 +36,7 @@ status 303                     | done      | 303 | ""                | ""
 status 305                     | done      | 305 | ""                | ""
 "#;
 
-/// The same of fields.
+/// The same columns for fields.
 const FIELDS: &str = r#"
 -- Jakarta Servlet 6.0, section 5.2: set replaces the first of its name in place and removes the others, add adds
 set X-A=1                      | done      | 200 | x-a: 1            | ""
@@ -90,7 +90,7 @@ flush; set a b=1               | ignored   | 200 | ""                | 0\r\n\r\n
 enter INCLUDE; add a=1\n2      | ignored   | 200 | ""                | ""
 "#;
 
-/// The same of bodies. One of more than a hundred bytes is told by its length.
+/// The same columns for bodies. A body of more than 100 bytes is shown by its length.
 const BODIES: &str = r#"
 -- a body is written whatever else is under way, and emptied for dispatches; behind a flush it leaves in chunks (RFC 9112, section 7.1)
 write x                        | done      | 200 | ""                | x
@@ -129,7 +129,7 @@ fn an_exchange_is_changed_by_its_calls(rt: HostRuntime) -> Result<(), Strays> {
     hold(&rt, &[STATUSES, FIELDS, BODIES], &Changes)
 }
 
-/// The answer to the last call of a row, and the response.
+/// Answers with the answer to the last call of a row, and the response.
 struct Changes;
 
 impl Asks for Changes {
@@ -170,7 +170,7 @@ pub fn add_fields_and_body(alloc: Global, text: &mut Draft, response: &Response)
     }
 }
 
-/// Adds what is sent behind the head of a response.
+/// Adds the bytes that are sent after the head of a response.
 fn add_sent(alloc: Global, text: &mut Draft, response: &Response) {
     let room = Vec::new(alloc);
     let mut sent = Vec::new(alloc);
@@ -185,7 +185,7 @@ fn add_sent(alloc: Global, text: &mut Draft, response: &Response) {
     add_body(text, body.as_bytes());
 }
 
-/// Adds fields with commas between them.
+/// Adds fields, separated by commas.
 fn add_fields(text: &mut Draft, fields: &[Field]) {
     let mut front = "";
     for field in fields {
@@ -197,7 +197,7 @@ fn add_fields(text: &mut Draft, fields: &[Field]) {
     }
 }
 
-/// Adds a body, or its length where that is more than a hundred bytes.
+/// Adds a body, or its length if it has more than 100 bytes.
 fn add_body(text: &mut Draft, body: &[u8]) {
     if body.len() <= 100 {
         text.add_bytes(body);

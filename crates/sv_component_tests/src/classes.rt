@@ -1,4 +1,4 @@
-//! The program's component classes, one servlet and one filter in boxes.
+//! The program's component classes. One servlet and one filter are boxed.
 
 use crate::changes::add_fields_and_body;
 use crate::runs::{Sees, add_seen};
@@ -15,8 +15,8 @@ use sv_message::Response;
 use sv_rows::{Asks, Draft, Strays, cell, hold, unescaped_text};
 use sv_text::{Listed, NoMemory, Text};
 
-/// A class, a component's name with its parameters, calls made before its own, and then: the answers to `init` and to `service` or
-/// `before`, the fields and the body of the response.
+/// The columns: class; name of the component and its parameters; calls made before its own; answers to `init` and to
+/// `service` or `before`; fields and body of the response.
 const CLASSES: &str = r#"
 -- the component classes of the program
 Who  | who  | flush                 | Ready  | Done | ""                       | 9\r\ncaller -\n\r\n0\r\n\r\n
@@ -82,7 +82,7 @@ fn a_class_answers_as_its_description_says(rt: HostRuntime) -> Result<(), Strays
     hold(&rt, &[CLASSES], &Classes)
 }
 
-/// What a component answers to its calls, and its response.
+/// Answers with the results of a component's calls, and its response.
 struct Classes;
 
 impl Asks for Classes {
@@ -113,7 +113,7 @@ impl Sees for Classes {
     }
 }
 
-/// Makes the calls of a component of that class, and adds their answers.
+/// Makes the calls of a component of this class, and adds their answers.
 fn add_calls(
     alloc: Global,
     class: &str,
@@ -163,7 +163,7 @@ fn add_calls_of_other(
     }
 }
 
-/// Makes the calls of a filter in a box.
+/// Makes the calls of a boxed filter.
 fn halted(alloc: Global, config: &Config, exchange: &mut Exchange, told: &mut Draft) {
     match Box::new(alloc, Halt::new()) {
         Ok(halt) => {
@@ -174,7 +174,7 @@ fn halted(alloc: Global, config: &Config, exchange: &mut Exchange, told: &mut Dr
     }
 }
 
-/// Makes the calls of a servlet in a box.
+/// Makes the calls of a boxed servlet.
 fn asked_who(alloc: Global, config: &Config, exchange: &mut Exchange, told: &mut Draft) {
     match Box::new(alloc, Who::new()) {
         Ok(who) => {
@@ -226,7 +226,7 @@ fn add_both(told: &mut Draft, ready: Init, called: Result<Answer, NoMemory>) {
     told.add(" | ");
 }
 
-/// The configuration of a component of that name, with the parameters behind it.
+/// Returns the configuration of a component: its name, followed by its parameters.
 fn config(alloc: Global, words: &str) -> Result<Config, NoMemory> {
     let (name, rest) = words.split_once(' ').unwrap_or((words, ""));
     let name = unescaped_text(alloc, name)?;
@@ -251,7 +251,7 @@ fn param(alloc: Global, word: &str) -> Result<Param, NoMemory> {
     Ok(Param { name, value })
 }
 
-/// The name of a parameter, and its value: `-` for none.
+/// The columns: name of a parameter; its value, or `-` for none.
 const PARAMETERS: &str = r#"
 -- Jakarta Servlet 6.0, section 2.3.2: a parameter is found by its name with case, and is the first of its name
 path  | /p
@@ -265,7 +265,7 @@ fn a_parameter_is_the_first_of_its_name(rt: HostRuntime) -> Result<(), Strays> {
     hold(&rt, &[PARAMETERS], &Parameters)
 }
 
-/// The value of a parameter.
+/// Answers with the value of a parameter.
 struct Parameters;
 
 impl Asks for Parameters {

@@ -1,4 +1,4 @@
-//! Entries, as the rows of tables spell them.
+//! Entries, as the rows of tables write them.
 
 use std::alloc::Global;
 use sv_constraints::{Cause, OwnedWhy};
@@ -9,7 +9,7 @@ use sv_text::{NoMemory, Text};
 use sv_uri::fault::PathFault;
 use sv_wire::WireFault;
 
-/// The entry of a row: what happened, the context path, and what the entry is made of.
+/// Returns the entry of a row: what happened, the context path, and the content of the entry.
 pub fn entry(alloc: Global, row: &str) -> Result<Entry, NoMemory> {
     let (context, what) = (cell(row, 1), cell(row, 2));
     match cell(row, 0) {
@@ -102,7 +102,7 @@ fn plain_event(name: &str, number: u64) -> Event {
     }
 }
 
-/// The cause of that name.
+/// Returns the cause of this name.
 pub fn cause(alloc: Global, name: &str) -> Result<RefusalCause, NoMemory> {
     match name {
         "Denied" => Ok(RefusalCause::Denied(why(alloc)?)),

@@ -6,7 +6,7 @@ use sv_journal::Journal;
 use sv_rows::{Asks, Draft, Strays, cell, hold};
 use sv_text::NoMemory;
 
-/// What happened, the context path, what the entry is made of, its line with a full stop behind it.
+/// The columns: what happened; context path; content of the entry in two columns; its line, followed by a full stop.
 const LINES: &str = r#"
 entered         | ""   | /who               | ""         | entered / /who.
 entered         | /two | /                  | ""         | entered /two /.
@@ -58,7 +58,7 @@ fn an_entry_has_its_line(rt: HostRuntime) -> Result<(), Strays> {
     hold(&rt, &[LINES], &Lines)
 }
 
-/// The line of an entry.
+/// Answers with the line of an entry.
 struct Lines;
 
 impl Asks for Lines {
@@ -80,7 +80,7 @@ fn add_line(alloc: Global, row: &str, line: &mut Draft) {
     line.add(".");
 }
 
-/// A cause, its number.
+/// The columns: cause; its number.
 const NUMBERS: &str = r#"
 BadHead     | 1
 BadTarget   | 8
@@ -101,7 +101,7 @@ fn a_cause_has_its_number(rt: HostRuntime) -> Result<(), Strays> {
     hold(&rt, &[NUMBERS], &Numbers)
 }
 
-/// The number of a cause.
+/// Answers with the number of a cause.
 struct Numbers;
 
 impl Asks for Numbers {

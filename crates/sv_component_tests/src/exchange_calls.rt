@@ -1,4 +1,4 @@
-//! Calls on an exchange, as the rows of tables spell them.
+//! Calls on an exchange, as the rows of tables write them.
 
 use crate::exchange_requests::{Request, exchange};
 use std::alloc::Global;
@@ -8,8 +8,8 @@ use sv_rows::Draft;
 use sv_session::Sessions;
 use sv_text::NoMemory;
 
-/// Writes the answers to calls that are made one after another, with semicolons between them, and behind a bar the cookie of the
-/// response, if it has one.
+/// Writes the answers to a row's calls, separated by semicolons. The cookie of the response follows after a bar, if
+/// there is one.
 pub fn answer_all(
     alloc: Global,
     request: Request<'_>,
@@ -52,7 +52,7 @@ fn tell_age(max_age: Option<u32>, told: &mut Draft) {
     }
 }
 
-/// Makes a call, and tells its answer.
+/// Makes a call and adds its answer.
 fn tell_call(exchange: &mut Exchange, call: &str, told: &mut Draft) {
     if !told.is_empty() {
         told.add("; ");
@@ -101,7 +101,7 @@ fn tell_parameter(exchange: &Exchange, name: &str, told: &mut Draft) {
     }
 }
 
-/// Tells all parameters, each in brackets.
+/// Adds all parameters, each in parentheses.
 fn tell_parameters(exchange: &Exchange, told: &mut Draft) {
     let Ok(parameters) = exchange.parameters() else {
         told.fail();
@@ -123,7 +123,7 @@ fn tell_event(exchange: &mut Exchange, told: &mut Draft) {
     }
 }
 
-/// Counts a call, and tells how many there were.
+/// Counts a call, up to the greatest number, and adds the number of calls.
 fn tell_count(exchange: &mut Exchange, told: &mut Draft) {
     if exchange.calls() < u32::MAX {
         exchange.count_call();
@@ -164,7 +164,7 @@ fn set(exchange: &mut Exchange, rest: &str) -> Result<bool, ExchangeFault> {
     exchange.session_set(name, value)
 }
 
-/// Keeps an error, or begins a dispatch.
+/// Keeps an error or begins a dispatch.
 fn tell_dispatch(exchange: &mut Exchange, name: &str, rest: &str, told: &mut Draft) {
     let done = match name {
         "keep" => keep(exchange, rest),

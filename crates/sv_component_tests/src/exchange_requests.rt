@@ -1,4 +1,4 @@
-//! The requests on which calls are made.
+//! The requests of rows, and their exchanges.
 
 use crate::requests::field;
 use http::Method;
@@ -10,20 +10,20 @@ use sv_session::Sessions;
 use sv_text::{Bytes, Listed, NoMemory, Text};
 use sv_uri::path::Canon;
 
-/// What a client asks of `/app/a`.
+/// A request for `/app/a`.
 #[derive(Clone, Copy)]
 pub struct Request<'a> {
     pub method: &'a str,
     pub content_type: &'a str,
     pub query: &'a str,
     pub body: &'a str,
-    /// The session with which it comes: see [`held`].
+    /// The session of the request; see [`held`].
     pub session: &'a str,
-    /// How the session cookie of its context is set.
+    /// The settings of its context's session cookie.
     pub cookie: Cookie<'a>,
 }
 
-/// How a session cookie is set, where `-` stands for no path and no age.
+/// The settings of a session cookie. A path or an age of `-` means none.
 #[derive(Clone, Copy)]
 pub struct Cookie<'a> {
     pub name: &'a str,
@@ -32,7 +32,7 @@ pub struct Cookie<'a> {
     pub max_age: &'a str,
 }
 
-/// As where a descriptor says nothing of it.
+/// The settings if a descriptor has none.
 pub const STANDARD: Cookie<'static> = Cookie {
     name: "JSESSIONID",
     path: "-",
@@ -40,7 +40,7 @@ pub const STANDARD: Cookie<'static> = Cookie {
     max_age: "-",
 };
 
-/// Its exchange in the context `/app`, at the moment 7.
+/// Returns the exchange of a request in the context `/app`, at the time 7.
 pub fn exchange(alloc: Global, request: Request<'_>) -> Result<Exchange, NoMemory> {
     let message = message(alloc, request)?;
     let canon = canon(alloc, request.query)?;
@@ -117,7 +117,8 @@ fn fields(alloc: Global, content_type: &str) -> Result<Vec<Field>, NoMemory> {
     Ok(fields)
 }
 
-/// The sessions of a context that has one, with the attributes n and m. Where memory runs out, it has less.
+/// Returns the sessions of a context with one session, which has the attributes n and m. Parts are missing if memory
+/// runs out.
 fn sessions(alloc: Global, limit: usize) -> Sessions {
     let mut sessions = Sessions::new(alloc, limit, 0);
     let _opened = sessions.open((0, 0), 0);
@@ -126,7 +127,7 @@ fn sessions(alloc: Global, limit: usize) -> Sessions {
     sessions
 }
 
-/// The session of a request: `held`, `renewed` where its message opened or renamed it, none for other words.
+/// Returns the session of a request: `held`, or `renewed` if the message opened or renamed it. Other words mean none.
 fn held(alloc: Global, session: &str) -> Result<Option<HeldSession>, NoMemory> {
     if session == "held" || session == "renewed" {
         Ok(Some(HeldSession {
@@ -139,7 +140,7 @@ fn held(alloc: Global, session: &str) -> Result<Option<HeldSession>, NoMemory> {
     }
 }
 
-/// The caller ann with the role a.
+/// Returns the caller ann with the role a.
 fn ann(alloc: Global) -> Result<Caller, NoMemory> {
     Ok(Caller {
         number: 0,

@@ -1,4 +1,4 @@
-//! What an exchange answers of its session, of the error that it keeps, and of the parameters of its request.
+//! The session of an exchange, the error that it keeps, and the parameters of its request.
 
 use crate::exchange_calls::answer_all;
 use crate::exchange_requests::{Cookie, Request, STANDARD};
@@ -6,8 +6,9 @@ use std::alloc::Global;
 use sv_rows::{Asks, Strays, cell, hold};
 use sv_text::NoMemory;
 
-/// The session with which the request comes: `none`, `held`, or `renewed` where its message opened or renamed it. The last two have the
-/// caller ann with the role a, and the attributes n and m. Then calls, their answers, and the cookie of the response, if it has one.
+/// The columns: session of the request, which is `none`, `held`, or `renewed` if the message opened or renamed it;
+/// calls; their answers; cookie of the response, if there is one. A session has the caller ann with the role a, and the
+/// attributes n and m.
 const SESSIONS: &str = r#"
 -- a session that is held, and its caller (Jakarta Servlet 6.0, sections 7.4, 7.5, 12.3 and 13.3)
 held    | caller; logout; caller; session         | ann; true; -; 1
@@ -38,8 +39,8 @@ full    | open                                    | TooManySessions
 held    | set xxxxxxxxxxxxxxxxxxxxxxxxxxxxxxxxxxxxxxxxxxxxxxxxxxxxxxxxxxxxxxxxx=1; set xxxxxxxxxxxxxxxxxxxxxxxxxxxxxxxxxxxxxxxxxxxxxxxxxxxxxxxxxxxxxxxx=1 | TooLarge; true
 "#;
 
-/// How the session cookie is set: its name, its path, whether it is kept from scripts, and for how many seconds it is kept. Then the
-/// same.
+/// The columns: name and path of the session cookie; whether scripts are kept from reading it; its maximum age in
+/// seconds. The columns for sessions follow.
 const COOKIES: &str = r#"
 -- Jakarta Servlet 6.0, section 7.1.1: each setting, for a session that is opened and for one that was renamed
 SID        | -    | yes | -          | none    | open       | true       | SID=000000000000000000000000000000010000000000000002 /app HttpOnly
@@ -53,7 +54,8 @@ SID        | /x   | no  | 60         | held    | session    | 1
 SID        | /x   | no  | 60         | none    | open; end  | true; true
 "#;
 
-/// As with sessions, and with errors: an error is kept with its status, its servlet (`-` for none) and its text. Then attributes of the error page.
+/// The columns for sessions. `keep` keeps an error with its status, its servlet (`-` for none) and its text.
+/// `attribute` reads an attribute of the error page.
 const ERRORS: &str = r#"
 -- Jakarta Servlet 6.0, section 10.9.1; an error that is kept later changes nothing
 none | keep 404 who Not Found; error; keep 500 other later; attribute jakarta.servlet.error.status_code  | done; done; done; 404
@@ -81,7 +83,7 @@ fn a_session_cookie_is_set_as_its_context_has_it(rt: HostRuntime) -> Result<(), 
     hold(&rt, &[COOKIES], &Cookies)
 }
 
-/// The answers to calls on a GET that comes with that session, where the cookie is set so.
+/// Answers with the results of calls on a GET with this session and this cookie.
 struct Cookies;
 
 impl Asks for Cookies {
@@ -105,7 +107,7 @@ impl Asks for Cookies {
     }
 }
 
-/// The answers to calls on a GET that comes with that session.
+/// Answers with the results of calls on a GET with this session.
 struct Sessions;
 
 impl Asks for Sessions {
@@ -124,7 +126,7 @@ impl Asks for Sessions {
     }
 }
 
-/// The method, the Content-Type, the client's query, the body; calls with their answers.
+/// The columns: method; Content-Type; query of the client; body; calls; their answers.
 const PARAMETERS: &str = r#"
 -- Jakarta Servlet 6.0, section 3.1: the query comes before the form
 POST | application/x-www-form-urlencoded | n=1 | n=2 | parameter n | 1
@@ -153,7 +155,7 @@ fn a_parameter_is_that_of_the_innermost_query(rt: HostRuntime) -> Result<(), Str
     hold(&rt, &[PARAMETERS], &Parameters)
 }
 
-/// The answers to calls on a request without a session.
+/// Answers with the results of calls on a request without a session.
 struct Parameters;
 
 impl Asks for Parameters {

@@ -1,5 +1,5 @@
-//! Tests of the exchange and what it keeps of its request, of entries and of the component classes: tables whose rows a reader can check against the
-//! standards.
+//! Tests of the exchange and the parts of its request, of entries and of the component classes: tables whose rows a
+//! reader can check against the standards.
 #![tactic(auto)]
 
 #[cfg(test)]

@@ -1,4 +1,4 @@
-//! What reading calls tell of an exchange.
+//! The values that calls read from an exchange.
 
 use crate::runs::{Sees, add_seen};
 use std::alloc::Global;
@@ -8,7 +8,7 @@ use sv_message::Response;
 use sv_rows::{Asks, Draft, Strays, cell, hold};
 use sv_text::NoMemory;
 
-/// Calls, what is read behind them, and what it tells: `-` for nothing.
+/// The columns: calls; the value to read after them; the value, or `-` if it is missing.
 const REQUESTS: &str = r#"
 -- Jakarta Servlet 6.0, sections 3.4 and 3.5: what the client sent
 flush                 | method         | GET
@@ -50,7 +50,7 @@ attribute jakarta.servlet=v     | attribute jakarta.servlet   | v
 attribute Jakarta.servlet.k=v   | attribute Jakarta.servlet.k | v
 "#;
 
-/// The same of dispatches.
+/// The same columns for dispatches.
 const DISPATCHES: &str = r#"
 -- Jakarta Servlet 6.0, section 9.4.2: a forward shows its own paths, and tells those of the client
 enter FORWARD                            | path         | /f/x
@@ -98,7 +98,7 @@ enter ERROR                              | attribute jakarta.servlet.error.reque
 visit ERROR                              | attribute jakarta.servlet.error.request_uri | -
 "#;
 
-/// Calls, and what the last one answers.
+/// The columns: calls; `answer`; the answer to the last call.
 const ANSWERS: &str = r#"
 attribute k=v                 | answer | done
 attribute k=                  | answer | done
@@ -115,7 +115,7 @@ fn an_exchange_tells_what_was_asked(rt: HostRuntime) -> Result<(), Strays> {
     hold(&rt, &[REQUESTS, DISPATCHES, ANSWERS], &Readings)
 }
 
-/// What is read behind the calls of a row.
+/// Answers with the value that is read after the calls of a row.
 struct Readings;
 
 impl Asks for Readings {

@@ -1,4 +1,4 @@
-//! The request on which calls are made.
+//! The request of a row's calls.
 
 use http::Method;
 use http_header::{HeaderName, HeaderValue};
@@ -7,10 +7,10 @@ use sv_message::{CookieSettings, Field, Message, Target};
 use sv_text::{Bytes, Listed, NoMemory, Text};
 use sv_uri::path::Canon;
 
-/// The fields of the request: a Host, two of one name and one without a value.
+/// The fields of the request: a Host, two of the same name, and one without a value.
 const FIELDS: &str = "host:h,x-two:1,x-two:2,x-none:";
 
-/// What a client asks for.
+/// A client's request.
 #[derive(Drop)]
 pub struct Request {
     pub message: Message,
@@ -18,7 +18,7 @@ pub struct Request {
     pub cookie_settings: CookieSettings,
 }
 
-/// A GET of `/app/a/b?q=1`, where `/app` is the context.
+/// Returns a GET of `/app/a/b?q=1`, with the context `/app`.
 pub fn app_request(alloc: Global) -> Result<Request, NoMemory> {
     let message = message(alloc)?;
     let canon = canon(alloc)?;
@@ -57,7 +57,7 @@ fn fields(alloc: Global) -> Result<Vec<Field>, NoMemory> {
     Ok(fields)
 }
 
-/// A field of a name and a value that are valid.
+/// Returns a field. The name and the value must be valid.
 pub fn field(alloc: Global, name: &[u8], value: &[u8]) -> Result<Field, NoMemory> {
     let Ok(name) = HeaderName::from_bytes(alloc, name) else {
         return Err(NoMemory);

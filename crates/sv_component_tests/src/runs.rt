@@ -1,4 +1,4 @@
-//! Calls on an exchange, and what a table sees behind them.
+//! Calls on an exchange, and the results that a table checks after them.
 
 use crate::calls::call_all;
 use crate::requests::{Request, app_request};
@@ -9,9 +9,9 @@ use sv_rows::{Draft, unescaped_text};
 use sv_session::Sessions;
 use sv_text::NoMemory;
 
-/// What a table looks at behind the calls of a row.
+/// The part of an exchange that a table checks after the calls of a row.
 pub trait Sees {
-    /// Adds what is seen of the exchange. `said` is what the last call answered.
+    /// Adds the part of the exchange. `said` is the answer to the last call.
     fn add_exchange(
         &self,
         alloc: Global,
@@ -21,11 +21,11 @@ pub trait Sees {
         seen: &mut Draft,
     );
 
-    /// Adds what is seen of its response.
+    /// Adds the part of the response.
     fn add_response(&self, alloc: Global, response: &Response, seen: &mut Draft);
 }
 
-/// Makes calls on an exchange, which stand between semicolons, and adds what is seen behind them.
+/// Makes calls on an exchange, separated by semicolons, and adds the results after them.
 pub fn add_seen<S: Sees>(
     alloc: Global,
     row: &str,

@@ -1,4 +1,4 @@
-//! The filters that a dispatch passes.
+//! The filter chains of dispatches.
 
 ghost use Rattle.sv_text.specs.Gives.{GivesAnswer};
 
@@ -8,7 +8,7 @@ use sv_descriptor::{Descriptor, Kind, read_descriptor};
 use sv_rows::{Asks, Strays, cell, hold};
 use sv_text::NoMemory;
 
-/// The chain of a path, a servlet and a kind of dispatches, by the places of its filters.
+/// Answers with the chain for a path, a servlet and a kind of dispatch, as the places of its filters.
 #[derive(Drop)]
 struct PlainChains(Descriptor);
 
@@ -25,7 +25,7 @@ impl Asks for PlainChains {
     }
 }
 
-/// The kind of this name.
+/// Returns the kind of this name.
 pub fn kind_of(name: &str) -> Kind {
     match name {
         "FORWARD" => Kind::Forward,
@@ -35,7 +35,7 @@ pub fn kind_of(name: &str) -> Kind {
     }
 }
 
-/// Whether the rows hold of the descriptor.
+/// Compares the rows with the chains of the descriptor.
 fn hold_of<R: Eprint + AllocGlobal>(rt: &R, descriptor: &str, rows: &str) -> Result<(), Strays> {
     match read_descriptor(rt.alloc(), descriptor) {
         Ok(descriptor) => hold(rt, &[rows], &PlainChains(descriptor)),
@@ -66,7 +66,7 @@ filter-mapping = [
 ]
 "#;
 
-/// Path, servlet, kind, chain.
+/// The columns: path; servlet; kind; chain.
 const MIXED_ROWS: &str = r#"
 -- Servlet, section 6.2.4: the patterns that match first, then the names, each in the order of the descriptor
 /x/1      | s       | REQUEST | 012
@@ -101,7 +101,7 @@ fn patterns_stand_before_names_in_the_order_of_the_descriptor(
     hold_of(&rt, MIXED, MIXED_ROWS)
 }
 
-/// A filter for all servlets, which a later pattern sets before it, and filters of a failing servlet.
+/// A filter for all servlets by name, and a filter by pattern that precedes it although its mapping is later.
 const ALL: &str = r#"
 filter = [
     { filter-name = "f", filter-class = "F" },
@@ -114,7 +114,7 @@ filter-mapping = [
 ]
 "#;
 
-/// Path, servlet, kind, chain.
+/// The columns: path; servlet; kind; chain.
 const ALL_ROWS: &str = r#"
 /x        | default | REQUEST | 01
 /x        | s       | REQUEST | 01
@@ -128,7 +128,7 @@ fn a_star_names_every_servlet(rt: HostRuntime) -> Result<(), Strays> {
     hold_of(&rt, ALL, ALL_ROWS)
 }
 
-/// Filters 0 to 2, each mapped by patterns and by names, before and behind one another, for all kinds.
+/// Filters 0 to 2, each mapped by patterns and by names, for all kinds and in different orders.
 const ORDERS: &str = r#"
 servlet = [
     { servlet-name = "s", servlet-class = "S" },
@@ -149,7 +149,7 @@ filter-mapping = [
 ]
 "#;
 
-/// Path, servlet, kind, chain.
+/// The columns: path; servlet; kind; chain.
 const ORDERS_ROWS: &str = r#"
 -- Servlet, section 6.2.4: names stand behind patterns, also where their mappings stand in front
 /q        | s       | REQUEST | 012
@@ -178,8 +178,8 @@ fn each_kind_has_its_chain_in_the_order_of_the_mappings(rt: HostRuntime) -> Resu
     hold_of(&rt, ORDERS, ORDERS_ROWS)
 }
 
-/// The chain of a path, a servlet and a kind, asked for twice of chains that were asked for as many others as they keep and one more; and
-/// how many they keep then. A path `#N` has N bytes.
+/// Answers with the chain for a path, a servlet and a kind, looked up twice, and the number of chains kept after that.
+/// Before, one chain more than can be kept was looked up. A path `#N` has N bytes.
 #[derive(Drop)]
 struct KeptChains(Descriptor);
 
@@ -200,7 +200,7 @@ impl Asks for KeptChains {
     }
 }
 
-/// Chains that were asked for as many paths as they keep, and one more.
+/// Returns chains after look-ups of one path more than can be kept.
 fn filled(alloc: Global, descriptor: &Descriptor) -> Result<Chains, NoMemory>
     ensures { GivesAnswer result descriptor.now }
 {
@@ -212,7 +212,7 @@ fn filled(alloc: Global, descriptor: &Descriptor) -> Result<Chains, NoMemory>
     Ok(chains)
 }
 
-/// The path, or one of so many bytes.
+/// Returns the path of a cell, or a path of the given number of slashes.
 fn path_of(alloc: Global, cell: &str) -> Result<String, NoMemory> {
     let mut path = String::new(alloc);
     match cell.strip_prefix('#') {
@@ -235,7 +235,7 @@ fn write_places(alloc: Global, chain: &Chain, answer: &mut Vec<u8>) -> Result<()
     Ok(())
 }
 
-/// Path, servlet, kind, the chain twice and how many are kept.
+/// The columns: path; servlet; kind; the chain twice, and the number of kept chains.
 const KEPT_ROWS: &str = r#"
 -- the last of the paths before let all others go, and a hit lets nothing go
 /x        | default | REQUEST | 01.01.2

@@ -3,10 +3,10 @@
 use std::test::Fail;
 use sv_streams::{Clock, SystemClock};
 
-/// The first second of 2020.
+/// The first second of 2020, in seconds since 1970.
 const OF_2020: u64 = 1_577_836_800;
 
-/// The first second of 2126.
+/// The first second of 2126, in seconds since 1970.
 const OF_2126: u64 = 4_922_899_200;
 
 #[test]

@@ -7,7 +7,7 @@ use sv_rows::{Asks, Draft, Strays, cell, hold, unescaped};
 use sv_streams::{Clock, MemoryStream};
 use sv_text::NoMemory;
 
-/// A clock that tells a second more at each question, from 0 on.
+/// A clock that starts at 0 and advances by one second with each call.
 #[derive(Drop)]
 struct Counter {
     next: u64,
@@ -21,7 +21,7 @@ impl Clock for Counter {
     }
 }
 
-/// How a connection was over, what was written, what was told, and how many reads and writes were made.
+/// Answers with the end of a connection, the bytes written, the events, and the number of reads and writes.
 struct Connections;
 
 impl Asks for Connections {
@@ -52,7 +52,7 @@ impl Asks for Connections {
     }
 }
 
-/// Input, bytes a call, the call that fails, connection; how it was over, what was written, the events, calls made.
+/// The columns: input; bytes per call; failing call; connection; its end; bytes written; events; number of calls.
 const ROWS: &str = r#"
 ab    | 100 | 0 | 1   | closed | <ab@0>      | open1 piece1 end1        | 3
 ab    | 1   | 0 | 1   | closed | <a@0><b@1>  | open1 piece1 piece1 end1 | 13
@@ -97,7 +97,7 @@ fn a_connection_is_served_to_its_end(rt: HostRuntime) -> Result<(), Strays> {
     hold(&rt, &[ROWS], &Connections)
 }
 
-/// The same at the most reads that may be made.
+/// The same columns, at the maximum number of reads.
 const MANY: &str = r#"
 \{1000000*.} | 1 | 0 | 1 | lost   | "" | open1 lost1 | 1000000
 \{1000001*.} | 1 | 0 | 1 | lost   | "" | open1 lost1 | 1000000

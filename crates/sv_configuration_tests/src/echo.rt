@@ -1,4 +1,4 @@
-//! What takes events in place of a container.
+//! An event handler in place of a container.
 
 use std::alloc::Global;
 use sv_journal::{Entry, Journal, RefusalCause};
@@ -8,11 +8,12 @@ use sv_run::{EventHandler, Happening, Reaction, StepFault};
 use sv_text::Bytes;
 use sv_wire::Awaited;
 
-/// Sends the bytes of each piece, with the moment behind them, in angle brackets, and notes each event. A piece of full stops alone is taken in
-/// silence and not noted. A piece that holds a star brings an entry, one that ends in an exclamation mark closes, and one that begins with a
-/// question mark is refused with the fault of the number behind it. The opening of connection 900 and such a number, the end of connection
-/// 910 and such a number, and the loss of connection 920 and such a number are refused so too. What is appended is number 7, and a withdrawal of
-/// constraint 901 and on is refused with the faults of edits.
+/// Sends the bytes of each piece and its time, in angle brackets, and notes each event except edits. A piece of full
+/// stops is neither answered nor noted. A piece with a star gives an entry, and one that ends in an exclamation mark
+/// closes the connection. A piece that begins with a question mark is refused with the fault of the digit after it. So
+/// are the opening of a connection, its end and its loss, if its number is 900, 910 or 920 plus that of a fault. An
+/// appended constraint gets the number 7. Withdrawals of the constraints 901 to 903 are refused, each with a different
+/// fault.
 #[derive(Drop)]
 pub(crate) struct Echo {
     alloc: Global,
@@ -56,7 +57,7 @@ impl Echo {
         reaction
     }
 
-    // An event without bytes, which is refused where its number has a fault.
+    // Handles an event without bytes, which is refused if its number has a fault.
     fn told(
         &mut self,
         event: &str,
@@ -136,7 +137,7 @@ impl EventHandler for Echo {
     }
 }
 
-// The fault of a number.
+// Returns the fault of a number.
 fn fault_of(number: u64) -> Option<StepFault> {
     match number {
         1 => Some(StepFault::Stopped),
@@ -147,7 +148,7 @@ fn fault_of(number: u64) -> Option<StepFault> {
     }
 }
 
-// The fault that a piece asks for.
+// Returns the fault that a piece asks for.
 fn fault_in(bytes: &[u8]) -> Option<StepFault> {
     let (mark, rest) = bytes.split_first()?;
     let (digit, _) = rest.split_first()?;

@@ -1,4 +1,4 @@
-//! The elements of a descriptor, written out.
+//! The elements of a descriptor as text.
 
 use crate::security::{add_constraint, add_rules};
 use crate::summary::begin;
@@ -33,7 +33,7 @@ pub fn add_web_app(draft: &mut Draft, app: &WebApp) {
     add_rules(draft, app);
 }
 
-/// Adds what a descriptor of version 2 says of sessions beside their time.
+/// Adds the session settings of a descriptor of version 2, except the timeout.
 fn add_sessions(draft: &mut Draft, app: &WebApp) {
     begin(draft, "sessions ");
     draft.add_shown(&app.version.max_sessions());
@@ -144,7 +144,7 @@ fn add_error_page(draft: &mut Draft, page: &ErrorPage) {
     draft.add(page.location.text());
 }
 
-/// Adds patterns in quotes, a blank before each.
+/// Adds patterns in quotes, each after a blank.
 pub fn add_patterns(draft: &mut Draft, patterns: &Listed<Pattern>) {
     for pattern in patterns.as_slice() {
         draft.add(" \"");
@@ -153,7 +153,7 @@ pub fn add_patterns(draft: &mut Draft, patterns: &Listed<Pattern>) {
     }
 }
 
-/// Adds texts, a blank before each.
+/// Adds texts, each after a blank.
 pub fn add_texts(draft: &mut Draft, texts: &Listed<Text>) {
     for text in texts.as_slice() {
         draft.add(" ");

@@ -1,11 +1,11 @@
-//! How bytes are printed.
+//! The printed form of bytes.
 
 use std::alloc::Global;
 use sv_rows::{Asks, Strays, cell, hold, unescaped};
 use sv_script::escaped;
 use sv_text::NoMemory;
 
-/// The text of bytes.
+/// Answers with the text of bytes.
 struct Escapes;
 
 impl Asks for Escapes {
@@ -19,7 +19,7 @@ impl Asks for Escapes {
     }
 }
 
-/// Bytes, their text.
+/// The columns: bytes; their text.
 const ROWS: &str = r#"
 ""               | ""
 a b              | a b

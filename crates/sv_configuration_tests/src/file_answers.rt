@@ -1,4 +1,4 @@
-//! What the file servlet answers.
+//! The answers of the file servlet.
 
 use crate::chains::kind_of;
 use crate::file_lists::files_of;
@@ -8,7 +8,8 @@ use sv_mapping::{Pattern, PatternFault};
 use sv_rows::{Asks, Strays, cell, hold};
 use sv_text::{NoMemory, Text};
 
-/// The answer from the files of these paths, with these welcome names and these patterns of servlets. Each file holds its path.
+/// Answers with the file servlet's answer for these files, welcome names and servlet patterns. Each file contains its
+/// path.
 struct Served;
 
 impl Asks for Served {
@@ -55,7 +56,7 @@ fn push_answer(answer: &mut Vec<u8>, found: &FileAnswer<'_>) -> Result<(), NoMem
     Ok(())
 }
 
-/// The names of a cell, which blanks part.
+/// Returns the names of a cell, separated by blanks.
 fn names_of(alloc: Global, names: &str) -> Result<Vec<Text>, NoMemory> {
     let mut listed = Vec::new(alloc);
     for name in names.split(' ') {
@@ -64,7 +65,7 @@ fn names_of(alloc: Global, names: &str) -> Result<Vec<Text>, NoMemory> {
     Ok(listed)
 }
 
-/// The patterns of a cell, which blanks part, `-` for none.
+/// Returns the patterns of a cell, separated by blanks, or none for `-`.
 fn patterns_of(alloc: Global, texts: &str) -> Result<Vec<Pattern>, NoMemory> {
     let mut patterns = Vec::new(alloc);
     for text in texts.split(' ') {
@@ -77,7 +78,7 @@ fn patterns_of(alloc: Global, texts: &str) -> Result<Vec<Pattern>, NoMemory> {
     Ok(patterns)
 }
 
-/// Paths of files, welcome names, patterns of servlets, path, method, kind, answer.
+/// The columns: paths of files; welcome names; patterns of servlets; path; method; kind; answer.
 const ROWS: &str = r#"
 /a/index.html            | index.html | -    | /a             | GET  | REQUEST | Slash
 /a/index.html            | index.html | -    | /a/            | GET  | REQUEST | Welcome /a/index.html

@@ -1,11 +1,11 @@
-//! Which lists of files are taken.
+//! The lists of files that are accepted.
 
 use std::alloc::Global;
 use sv_files::{File, Files, FilesFault};
 use sv_rows::{Asks, Strays, cell, hold, unescaped};
 use sv_text::{Bytes, NoMemory, Text};
 
-/// A file that holds its own path.
+/// Returns a file that contains its own path.
 pub fn file_of(alloc: Global, path: &str) -> Result<File, NoMemory> {
     Ok(File {
         path: Text::copy_of(alloc, path)?,
@@ -13,7 +13,7 @@ pub fn file_of(alloc: Global, path: &str) -> Result<File, NoMemory> {
     })
 }
 
-/// The files of these paths, which blanks part.
+/// Returns the files of these paths, separated by blanks.
 pub fn files_of(alloc: Global, paths: &str) -> Result<Vec<File>, NoMemory> {
     let mut files = Vec::new(alloc);
     for path in paths.split(' ') {
@@ -22,7 +22,7 @@ pub fn files_of(alloc: Global, paths: &str) -> Result<Vec<File>, NoMemory> {
     Ok(files)
 }
 
-/// The fault of a list of paths, `-` for none.
+/// Answers with the fault of a list of paths, or `-` for none.
 struct Lists;
 
 impl Asks for Lists {
@@ -44,7 +44,7 @@ impl Asks for Lists {
     }
 }
 
-/// Paths, fault.
+/// The columns: paths; fault.
 const ROWS: &str = r#"
 /a                      | -
 /a /b /a/b              | -

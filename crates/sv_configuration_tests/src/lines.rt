@@ -1,4 +1,4 @@
-//! What lines ask for.
+//! The meaning of script lines.
 
 use std::alloc::Global;
 use sv_constraints::{Auth, Collection, Methods};
@@ -7,7 +7,7 @@ use sv_rows::{Asks, Draft, Strays, cell, hold, unescaped};
 use sv_script::{LineFault, ScriptLine, read_line};
 use sv_text::{NoMemory, Text};
 
-/// What a line asks for; the bytes of a piece stand in angle brackets.
+/// Answers with the meaning of a line. The bytes of a piece are in angle brackets.
 struct Lines;
 
 impl Asks for Lines {
@@ -92,7 +92,7 @@ fn tell_number(told: &mut Draft, word: &str, number: u64) {
     told.add_shown(&number);
 }
 
-/// Line, what it asks for.
+/// The columns: line; its meaning.
 const NUMBERED: &str = r#"
 open 1                       | open 1
 open 0                       | open 0
@@ -139,7 +139,7 @@ fn a_number_is_decimal_and_fits(rt: HostRuntime) -> Result<(), Strays> {
     hold(&rt, &[NUMBERED], &Lines)
 }
 
-/// Line, what it asks for.
+/// The columns: line; its meaning.
 const WORDS: &str = r##"
 ""               | nothing
 #                | nothing
@@ -166,7 +166,7 @@ fn a_line_is_empty_a_comment_or_begins_with_its_word(rt: HostRuntime) -> Result<
     hold(&rt, &[WORDS], &Lines)
 }
 
-/// Line, what it asks for.
+/// The columns: line; its meaning.
 const PIECES: &str = r#"
 send 1 a              | send 1 <a>
 -- the text is the rest of the line, blanks and a carriage return included
@@ -214,7 +214,7 @@ fn a_piece_is_the_rest_of_its_line(rt: HostRuntime) -> Result<(), Strays> {
     hold(&rt, &[PIECES], &Lines)
 }
 
-/// Line, what it asks for: the context, and what is appended or withdrawn.
+/// The columns: line; its meaning, which is the context and the constraint to append or withdraw.
 const EDITS: &str = r#"
 append / /q * open            | edit <> append </q> all open
 append  /q * open             | edit <> append </q> all open

@@ -6,7 +6,7 @@ use sv_rows::{Asks, Strays, cell, hold, unescaped};
 use sv_text::NoMemory;
 use sv_uri::location;
 
-/// The location of a path.
+/// Answers with the location of a path.
 struct Locations;
 
 impl Asks for Locations {
@@ -20,7 +20,7 @@ impl Asks for Locations {
     }
 }
 
-/// Path, location.
+/// The columns: path; location.
 const LOCATIONS: &str = r#"
 -- RFC 3986, section 3.3: unreserved bytes, sub-delimiters but the one of parameters, colons and commercial ats stay in a path
 /                               | /
@@ -45,7 +45,7 @@ fn a_path_is_written_for_a_location_field(rt: HostRuntime) -> Result<(), Strays>
     hold(&rt, &[LOCATIONS], &Locations)
 }
 
-/// The content type of a file.
+/// Answers with the content type of a file.
 struct Types;
 
 impl Asks for Types {
@@ -57,7 +57,7 @@ impl Asks for Types {
     }
 }
 
-/// Path, content type.
+/// The columns: path; content type.
 const TYPES: &str = r#"
 /a.html                         | text/html
 /a.htm                          | text/html

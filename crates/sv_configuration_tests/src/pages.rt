@@ -6,7 +6,7 @@ use sv_error_pages::page_for;
 use sv_rows::{Asks, Strays, cell, hold};
 use sv_text::NoMemory;
 
-/// The page for a status and a kind, `-` for none.
+/// Answers with the page for a status and a kind, or `-` for none.
 #[derive(Drop)]
 struct Pages(Descriptor);
 
@@ -21,12 +21,12 @@ impl Asks for Pages {
     }
 }
 
-/// The kind of a cell, where it has one.
+/// Returns the kind of a cell, if it has one.
 fn kind_of(cell: &str) -> Option<&str> {
     if cell == "-" { None } else { Some(cell) }
 }
 
-/// Whether the rows hold of the descriptor.
+/// Compares the rows with the pages of the descriptor.
 fn hold_of<R: Eprint + AllocGlobal>(rt: &R, descriptor: &str, rows: &str) -> Result<(), Strays> {
     match read_descriptor(rt.alloc(), descriptor) {
         Ok(descriptor) => hold(rt, &[rows], &Pages(descriptor)),
@@ -46,7 +46,7 @@ error-page = [
 ]
 "#;
 
-/// Status, kind, page.
+/// The columns: status; kind; page.
 const SEVERAL_ROWS: &str = r#"
 -- Servlet, section 10.9.2: by the type of the exception, else by the status, else the page with neither; of several the first
 404 | -     | /missing?x=1
@@ -74,7 +74,7 @@ error-page = [
 ]
 "#;
 
-/// Status, kind, page.
+/// The columns: status; kind; page.
 const TWO_ROWS: &str = r#"
 404 | -     | /missing
 404 | L     | /missing

@@ -13,7 +13,7 @@ digest = "ba7816bf8f01cfea414140de5dae2223b00361a396177a9cb410ff61f20015ad"
 roles = ["a"]
 "#;
 
-/// Name, password, the caller's name and roles, `-` for none.
+/// The columns: name; password; name and roles of the caller, or `-` for none.
 const PASSWORDS: &str = r#"
 ann | bc  | ann a
 ann | x   | -
@@ -27,7 +27,7 @@ fn the_user_of_the_demonstration_has_her_password_alone(rt: HostRuntime) -> Resu
     hold(&rt, &[PASSWORDS], &Passwords)
 }
 
-/// The caller whom a name and a password give.
+/// Answers with the caller of a name and a password.
 struct Passwords;
 
 impl Asks for Passwords {
@@ -44,7 +44,7 @@ impl Asks for Passwords {
     }
 }
 
-/// The realm of the demonstration.
+/// Returns the realm of the demonstration.
 fn realm(alloc: Global) -> Result<Realm, NoMemory> {
     match read_users(alloc, USERS) {
         Ok(users) => Realm::from_users(alloc, users),

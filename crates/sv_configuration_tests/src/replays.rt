@@ -7,7 +7,7 @@ use sv_script::replay;
 use sv_streams::MemoryStream;
 use sv_text::NoMemory;
 
-/// How the replay of a script ended, what was written, and how many reads and writes were made.
+/// Answers with the end of a script's replay, the bytes written, and the number of reads and writes.
 struct Replays;
 
 impl Asks for Replays {
@@ -46,7 +46,8 @@ fn number(row: &str, place: usize) -> u64 {
     cell(row, place).parse::<u64>().unwrap_or(0)
 }
 
-/// Script, bytes a read, the read that fails, bytes a write, the write that fails; the end, what was written, reads and writes made.
+/// The columns: script; bytes per read; failing read; bytes per write; failing write; end; bytes written; number of
+/// reads; number of writes.
 const ROWS: &str = r#"
 ""                                  | 100 | 0 | 100 | 0 | end         | ""                                  | 1 | 0
 # a comment\n\nopen 1\n             | 100 | 0 | 100 | 0 | end         | event 1\n                           | 2 | 1
@@ -96,7 +97,7 @@ fn a_script_is_replayed_up_to_what_ends_it(rt: HostRuntime) -> Result<(), Strays
     hold(&rt, &[ROWS], &Replays)
 }
 
-/// The same at the most reads that may be made.
+/// The same columns, at the maximum number of reads.
 const MANY: &str = r#"
 open 1\n#\{999992*a}   | 1 | 0 | 100 | 0 | script 2 | event 1\n | 1000000 | 1
 open 1\n#\{999991*a}   | 1 | 0 | 100 | 0 | end      | event 1\n | 1000000 | 1

@@ -1,4 +1,4 @@
-//! The elements of a descriptor that say who may do what, written out.
+//! The access rules of a descriptor as text.
 
 use crate::elements::{add_patterns, add_texts};
 use crate::summary::begin;
@@ -49,7 +49,7 @@ fn add_collection(draft: &mut Draft, collection: &Collection) {
     }
 }
 
-/// Adds the roles and the login of a descriptor.
+/// Adds the declared roles and the login of a descriptor.
 pub fn add_rules(draft: &mut Draft, app: &WebApp) {
     for role in app.rules.declared.as_slice() {
         begin(draft, "role ");

@@ -1,4 +1,4 @@
-//! Servers and users, written out.
+//! Servers and users as text.
 
 use crate::elements::add_texts;
 use crate::summary::begin;
@@ -54,7 +54,7 @@ fn add_hex(draft: &mut Draft, bytes: &[u8]) {
     }
 }
 
-/// The hexadecimal digit of the low half of a number.
+/// Returns the hexadecimal digit of a number's lower four bits.
 fn digit(number: u8) -> u8 {
     match number & 15 {
         low @ 0..=9 => b'0' + low,

@@ -1,4 +1,4 @@
-//! The texts of a run: one servlet, one listener, one request.
+//! The texts of a run with one servlet, one listener and one request.
 
 use std::alloc::Global;
 use sv_journal::{Answer, CallName, Component, Entry};
@@ -8,18 +8,18 @@ use sv_script::{event_text, shutdown_text, start_text};
 use sv_session::Event;
 use sv_text::{Bytes, NoMemory, Text};
 
-/// The listener of the root context hears an event.
+/// Returns the entry of an event for the listener of the root context.
 fn told(alloc: Global, event: Event) -> Result<Entry, NoMemory> {
     Ok(Entry::Told(Text::copy_of(alloc, "")?, 1, event))
 }
 
-/// The servlet of the root context is called.
+/// Returns the entry of a call of the root context's servlet.
 fn called(alloc: Global, call: CallName, answer: Option<Answer>) -> Result<Entry, NoMemory> {
     let servlet = Component::Servlet(Text::copy_of(alloc, "who")?);
     Ok(Entry::Called(Text::copy_of(alloc, "")?, servlet, call, answer))
 }
 
-/// Whether the text is the wanted one.
+/// Fails if the text differs from the expected one.
 fn expect(text: &Bytes, wanted: &str) -> Result<(), Strays> {
     if text.as_slice() == wanted.as_bytes() {
         Ok(())
@@ -77,7 +77,7 @@ fn an_event_is_printed(rt: HostRuntime) -> Result<(), Strays> {
     expect(&text, ANSWERED)
 }
 
-/// A message enters the root context.
+/// Returns the entry of a message that enters the root context.
 fn entered(alloc: Global) -> Result<Entry, NoMemory> {
     Ok(Entry::Entered(Text::copy_of(alloc, "")?, Text::copy_of(alloc, "/who")?))
 }
@@ -97,7 +97,7 @@ fn the_answer_to_an_edit_is_printed(rt: HostRuntime) -> Result<(), Strays> {
     expect(&greatest, "event 4\nedit refused 3\n")
 }
 
-/// Entries that are added. Whether memory ran out is told at their end.
+/// A growing list of entries, which reports at its end if memory ran out.
 #[derive(Drop)]
 struct Draft {
     entries: Vec<Entry>,

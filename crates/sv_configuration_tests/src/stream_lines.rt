@@ -5,7 +5,7 @@ use sv_rows::{Asks, Draft, Strays, cell, hold, unescaped};
 use sv_streams::{LineReader, LinesFault, MemoryStream};
 use sv_text::NoMemory;
 
-/// The lines of a stream, each in angle brackets, with what ended them and how many reads were made.
+/// Answers with the lines of a stream in angle brackets, the reason for their end, and the number of reads.
 struct Lines;
 
 impl Asks for Lines {
@@ -53,7 +53,7 @@ fn tell_lines(alloc: Global, stream: &mut MemoryStream, told: &mut Draft) {
     }
 }
 
-/// Text, bytes a read, the read that fails; lines and end, reads made.
+/// The columns: text; bytes per read; failing read; lines and end; number of reads.
 const ROWS: &str = r#"
 a\nb\n        | 100 | 0 | <a><b> end     | 2
 a\nb          | 100 | 0 | <a><b> end     | 2
@@ -82,7 +82,7 @@ fn lines_are_the_split_of_what_is_read(rt: HostRuntime) -> Result<(), Strays> {
     hold(&rt, &[ROWS], &Lines)
 }
 
-/// Text, bytes a read, the read that fails; lines and end, reads made.
+/// The columns: text; bytes per read; failing read; lines and end; number of reads.
 const MANY: &str = r#"
 \{999998*a}\n     | 1 | 0 | <\{999998*a}> end | 1000000
 \{999999*a}\n     | 1 | 0 | <\{999999*a}> too many | 1000000

@@ -1,4 +1,4 @@
-//! What was read of a configuration file: its elements, with ` ; ` between them.
+//! The content of a configuration file: its elements, separated by ` ; `.
 
 use crate::elements::add_web_app;
 use crate::settings::{add_server, add_user};
@@ -51,7 +51,7 @@ fn add_numbered(draft: &mut Draft, fault: &DescriptorFault) {
     draft.add("\"");
 }
 
-/// Adds the first word of an element, with ` ; ` before it where another stands before.
+/// Adds the first word of an element, after ` ; ` if another element precedes it.
 pub fn begin(draft: &mut Draft, word: &str) {
     if !draft.is_empty() {
         draft.add(" ; ");

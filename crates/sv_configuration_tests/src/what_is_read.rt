@@ -1,11 +1,12 @@
-//! What is read of configuration files: names, patterns, numbers, what stands for what is missing, and the number, the name and the key of a fault.
+//! The results of reading configuration files: names, patterns, numbers, and defaults for missing elements; or the
+//! number, the name and the key of a fault.
 
 use crate::summary::{add_descriptor, add_server_file, add_users_file};
 use std::alloc::Global;
 use sv_rows::{Asks, Draft, Strays, cell, hold, unescaped_text};
 use sv_text::NoMemory;
 
-/// Format, file, what is read of it.
+/// The columns: format; file; result of reading it.
 const ROWS: &str = r#"
 -- what stands for what is missing
 descriptor | "" | timeout 30
@@ -124,7 +125,7 @@ fn a_file_is_read_as_it_is_written(rt: HostRuntime) -> Result<(), Strays> {
     hold(&rt, &[ROWS], &Summaries)
 }
 
-/// What is read of a file.
+/// Answers with the result of reading a file.
 struct Summaries;
 
 impl Asks for Summaries {

@@ -1,11 +1,11 @@
-//! What is written of a text.
+//! Writing a text to a stream.
 
 use std::alloc::Global;
 use sv_rows::{Asks, Draft, Strays, cell, hold, unescaped};
 use sv_streams::{MemoryStream, write_all};
 use sv_text::NoMemory;
 
-/// What a stream took of a text, whether all was written, and how many writes were made.
+/// Answers with the bytes that a stream took of a text, whether the text was written, and the number of writes.
 struct Writes;
 
 impl Asks for Writes {
@@ -29,7 +29,7 @@ impl Asks for Writes {
     }
 }
 
-/// Text, bytes a write, the write that fails; what was taken, whether all was, writes made.
+/// The columns: text; bytes per write; failing write; bytes taken; whether the text was written; number of writes.
 const ROWS: &str = r#"
 abc | 100 | 0 | abc | written | 1
 abc | 3   | 0 | abc | written | 1

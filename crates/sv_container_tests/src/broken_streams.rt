@@ -1,4 +1,4 @@
-//! A command whose input or output breaks.
+//! A command whose input or output fails.
 
 use std::io;
 use std::io::{ErrorKind, Read, Write};
@@ -33,7 +33,7 @@ fn a_broken_output_is_told(rt: HostRuntime) {
     }
 }
 
-/// A reader that gives some bytes, one a call, and then fails.
+/// A reader that gives some bytes, one per call, and then fails.
 #[derive(Drop)]
 struct Breaking<'a> {
     front: &'a [u8],
@@ -52,7 +52,7 @@ impl Read for Breaking<'_> {
     }
 }
 
-/// A writer that has room for some bytes, and then fails.
+/// A writer that takes a number of bytes and then fails.
 #[derive(Drop)]
 struct Filling {
     room: usize,

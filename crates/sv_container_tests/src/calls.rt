@@ -1,4 +1,4 @@
-//! The calls of components over the events of a container.
+//! The number of calls of each component over the events of a container.
 
 use crate::containers::{Does, Ending, TestContainer, live, note, tell_cause};
 use crate::counted_components::Counts;
@@ -8,7 +8,8 @@ use sv_rows::{Asks, Draft, Strays, cell, hold};
 use sv_run::{Reaction, StepFault};
 use sv_text::NoMemory;
 
-/// The refusals of events, how a container ended, and how often each component was called or told of an event: as often as the entries say.
+/// Answers with the refusals of events, the end of the container, and the number of calls of each component, which must
+/// equal the number of its entries.
 struct Calls;
 
 impl Does for Calls {
@@ -42,7 +43,7 @@ impl Asks for Calls {
     }
 }
 
-/// Notes the entries of an event, or tells why it is refused.
+/// Notes the entries of an event, or adds the reason for its refusal.
 fn keep(taken: Result<Reaction, StepFault>, told: &mut Draft, entries: &mut Draft) {
     match taken {
         Ok(reaction) => note(&reaction.journal, entries),
@@ -63,7 +64,7 @@ fn tell_ending(ending: &Ending, told: &mut Draft) {
     }
 }
 
-/// The deployments, the events; how the container ended, and the calls of each component.
+/// The columns: deployments; events; end of the container, and the calls of each component.
 const CALLS: &str = r#"
 -- Jakarta Servlet 6.0, section 7.5: of two sessions that expire each listener hears the end and the attribute's, behind what their requests told
 demo@ two@/two | open 1, send 1 GET /keep HTTP/1.1\r\nHost: h\r\n\r\n, send 1 GET /keep HTTP/1.1\r\nHost: h\r\n\r\n, send 1 GET /two/keep HTTP/1.1\r\nHost: h\r\n\r\n, tick 59, tick 60, send 1 GET /two/keep HTTP/1.1\r\nHost: h\r\nCookie: JSESSIONID=000000000000000000000000000000030000000000000001\r\n\r\n | end | called / servlet who 2, called / servlet nest 2, called / servlet go 2, called / servlet keep 4, called / filter mark 2, told / 1 14, told / 2 14, called /two servlet keep 4

@@ -1,4 +1,4 @@
-//! What a server deploys, by a store in memory.
+//! The deployments of a server, read from a store in memory.
 
 use crate::stores::Store;
 use std::alloc::Global;
@@ -7,8 +7,8 @@ use sv_program::CommandFault;
 use sv_rows::{Asks, Draft, Strays, cell, hold};
 use sv_text::NoMemory;
 
-/// The line of the fault, or what is deployed: the port, and of each context its path, and how many files and servlets it has. Where the
-/// row has a further cell, the names that are asked for follow.
+/// Answers with the line of the fault, or with the deployments: the port, and for each context its path and its numbers
+/// of files and servlets. If the row has a fourth cell, the requested names follow.
 struct Deployed;
 
 impl Asks for Deployed {
@@ -33,13 +33,14 @@ impl Asks for Deployed {
     }
 }
 
-/// What can be told.
+/// A value that can be shown.
 trait Tells {
-    /// Tells it.
+    /// Adds the value.
     fn tell(&self, draft: &mut Draft);
 }
 
-/// Shows a value or its fault, and lets it go. It is general, so that what calls it proves nothing of how a configuration is let go.
+/// Adds a value or its fault, and drops it. The function is generic, so that its callers need no proof about dropping a
+/// configuration.
 fn show<T: Tells + Drop>(value: Result<T, CommandFault>, draft: &mut Draft) {
     match value {
         Ok(value) => value.tell(draft),
@@ -61,7 +62,7 @@ impl Tells for Configuration {
     }
 }
 
-/// What is missing; the static files of the first context; what is deployed, or the fault; what is asked for.
+/// The columns: missing file; static files of the first context; deployments or fault; requested names.
 const DEPLOYED: &str = r#"
 -              | /a.txt /b/c.txt | 7 :2:1 /two:0:1
 -- names are taken from the folder of the server file, each is asked for once, and an empty name of a folder is not asked for

@@ -10,7 +10,7 @@ use sv_rows::{Draft, cell};
 use sv_run::CountedWords;
 use sv_text::{NoMemory, Text};
 
-/// A container of the program's own classes, whose calls are counted.
+/// A container of the program's own classes that counts their calls.
 pub type TestContainer = Container<
     Counted<ProgramServlet>,
     Counted<ProgramFilter>,
@@ -24,9 +24,9 @@ type TestFault = NewFault<
     Counted<ProgramListener>,
 >;
 
-/// What is done with the container of a row.
+/// An action on the container of a row.
 pub trait Does {
-    /// Does it, and tells what came of it. It may note entries, a line each.
+    /// Acts on the container and adds the result. May note entries, one per line.
     fn act(
         &self,
         alloc: Global,
@@ -37,17 +37,18 @@ pub trait Does {
     );
 }
 
-/// How the container of a row ended.
+/// The end of a row's container.
 #[derive(Drop)]
 pub enum Ending {
-    /// It was shut down: so many contexts have their components handed back.
+    /// It was shut down. The components of this number of contexts were returned.
     Stopped(usize),
-    /// It did not start: why, the context path that goes with the code, and how many deployments are handed back.
+    /// It did not start: the code, the context path that goes with it, and the number of returned deployments.
     Unstarted(NewCode, Text, usize),
 }
 
-/// Starts a container with the deployments of the first cell, does something with it, and shuts it down: how many contexts have their components
-/// handed back is told last. Or tells why it does not start, how many deployments are handed back, and the entries of the start.
+/// Starts a container with the deployments of the first cell, acts on it and shuts it down. Adds the number of contexts
+/// whose components were returned. If the start fails, adds the reason, the number of returned deployments, and the
+/// entries of the start.
 pub fn answer_with<D: Does>(
     alloc: Global,
     row: &str,
@@ -64,8 +65,8 @@ pub fn answer_with<D: Does>(
     told.add_to(answer)
 }
 
-/// Starts a container with the deployments of the first cell, does something with it, and shuts it down. The entries of the start and of the
-/// shutdown are noted, a line each.
+/// Starts a container with the deployments of the first cell, acts on it and shuts it down. Notes the entries of the
+/// start and of the shutdown, one per line.
 pub fn live<D: Does>(
     alloc: Global,
     row: &str,
@@ -106,7 +107,7 @@ fn unstarted(fault: TestFault) -> Ending {
     Ending::Unstarted(code, context, deployments)
 }
 
-/// Notes the entries of a journal, a line each.
+/// Notes the entries of a journal, one per line.
 pub fn note(journal: &Journal, entries: &mut Draft) {
     if !journal.whole() {
         entries.fail();
@@ -134,14 +135,14 @@ fn tell_ending(ending: &Ending, entries: &str, told: &mut Draft) {
     }
 }
 
-/// Tells the number of a code, and the context path that goes with it.
+/// Adds the number of a code, and the context path that goes with it.
 pub fn tell_cause(code: NewCode, context: &str, told: &mut Draft) {
     told.add_shown(&code.number());
     told.add(" ");
     told.add(shown(context));
 }
 
-/// Tells entries, which are a line each, with `, ` between.
+/// Adds entries, given one per line, separated by `, `.
 fn tell_entries(entries: &str, told: &mut Draft) {
     told.add(" | ");
     for (place, entry) in entries.lines().enumerate() {

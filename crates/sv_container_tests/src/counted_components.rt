@@ -1,4 +1,4 @@
-//! Components whose calls are counted.
+//! Components that count their calls.
 
 use std::alloc::Global;
 use std::cell::Cell;
@@ -7,14 +7,14 @@ use sv_component::{Config, Event, Exchange, Filter, Gate, Init, Listener, Servle
 use sv_rows::Draft;
 use sv_text::NoMemory;
 
-/// A component in another one that counts each of its calls, in a cell that it shares with the test.
+/// A component that counts the calls of another one, in a cell that it shares with the test.
 #[derive(Drop)]
 pub struct Counted<C> {
     calls: Rc<Cell<u64>>,
     component: C,
 }
 
-/// The calls of the components, each by what the entries of its calls begin with.
+/// The number of calls of each component, with the text that its entries begin with.
 #[derive(Drop)]
 pub struct Counts {
     alloc: Global,
@@ -28,7 +28,7 @@ struct Count {
 }
 
 impl Counts {
-    /// Of no component.
+    /// Creates an empty list.
     pub fn new(alloc: Global) -> Counts {
         Counts {
             alloc,
@@ -36,7 +36,7 @@ impl Counts {
         }
     }
 
-    /// The component, whose calls are counted: its entries begin with `front`.
+    /// Returns the component, with its calls counted. Its entries begin with `front`.
     pub fn counted<C: Drop>(
         &mut self,
         front: String,
@@ -53,7 +53,7 @@ impl Counts {
         Ok(shared)
     }
 
-    /// Tells the calls of each component, and where its entries are not as many, how many they are.
+    /// Adds the number of calls of each component, and the number of its entries if they differ.
     pub fn tell(&self, journal: &str, told: &mut Draft) {
         let mut front = "";
         for count in self.counts.as_slice() {
@@ -77,7 +77,7 @@ impl Count {
     }
 }
 
-/// How many lines begin with `front`.
+/// Returns the number of lines that begin with `front`.
 fn entries_of(journal: &str, front: &str) -> u64 {
     let mut entries = 0u64;
     for line in journal.lines() {

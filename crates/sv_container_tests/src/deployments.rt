@@ -1,4 +1,4 @@
-//! The deployments that a row names.
+//! The deployments of a row.
 
 use crate::counted_components::{Counted, Counts};
 use crate::descriptors::descriptor_text;
@@ -13,7 +13,7 @@ use sv_live::Parts;
 use sv_realm::{MAX_USERS, Realm};
 use sv_text::{NoMemory, Text};
 
-/// What a context is deployed with, whose components are of the program's own classes, and counted.
+/// The deployment of a context with counted components of the program's own classes.
 pub type TestDeployment = Deployment<
     Counted<ProgramServlet>,
     Counted<ProgramFilter>,
@@ -33,8 +33,8 @@ roles = ["a"]
 digest = "ba7816bf8f01cfea414140de5dae2223b00361a396177a9cb410ff61f20015ad"
 "#;
 
-/// The deployments of a cell, with a blank between them: `NAME@PATH` is the descriptor of that name at that path, and `*COUNT` so many contexts
-/// without components, at `/1` and on.
+/// Returns the deployments of a cell, separated by blanks. `NAME@PATH` is the descriptor of that name at that path.
+/// `*COUNT` is that number of contexts without components, at `/1`, `/2` and so on.
 pub fn deployments(
     alloc: Global,
     words: &str,
@@ -103,7 +103,7 @@ fn deployment_of(values: ((Text, (Files, Realm)), (Descriptor, TestParts))) -> T
     }
 }
 
-/// The descriptor of that name, and its components.
+/// Returns the descriptor of this name, and its components.
 fn described(
     alloc: Global,
     name: &str,
@@ -205,7 +205,7 @@ fn counted_listeners<C: Drop>(
     Ok(counted)
 }
 
-/// A context path as it is shown.
+/// Returns a context path as it is shown.
 pub fn shown(path: &str) -> &str {
     if path.is_empty() { "/" } else { path }
 }

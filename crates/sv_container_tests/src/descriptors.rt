@@ -1,8 +1,8 @@
-//! The descriptors of the contexts that a row names.
+//! The descriptors of a row's contexts.
 
 use sv_rows::{BAD, DEMO, TWO};
 
-/// The descriptor of that name; that of a context without components for any other name.
+/// Returns the descriptor of this name. For an unknown name, this is the descriptor of a context without components.
 pub fn descriptor_text(name: &str) -> &'static str {
     match name {
         "demo" => DEMO,
@@ -14,7 +14,7 @@ pub fn descriptor_text(name: &str) -> &'static str {
     }
 }
 
-/// A context of one servlet and one listener.
+/// A context with one servlet and one listener.
 const WHO: &str = r#"
 [[servlet]]
 servlet-name = "who"

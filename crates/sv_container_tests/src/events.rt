@@ -1,4 +1,4 @@
-//! The events of connections, edits, and explanations.
+//! Events of connections, edits, and explanations.
 
 use crate::containers::{Does, TestContainer, answer_with};
 use crate::happenings::step;
@@ -12,7 +12,7 @@ use sv_rows::{Asks, Draft, Strays, cell, hold};
 use sv_run::{Happening, Reaction};
 use sv_text::{Listed, NoMemory};
 
-/// What events bring, with `, ` between.
+/// Answers with the results of events, separated by `, `.
 struct Events;
 
 impl Does for Events {
@@ -41,8 +41,8 @@ impl Asks for Events {
     }
 }
 
-/// An event that [`step`] knows; `withdraw` with a number; `many` with how many connections are opened, from 1 on, where the last answer is told;
-/// `append`; or `explain`: what would become of a request for `/admin/x` from the user who has the role a.
+/// Handles an event of a row: `withdraw` with a number, `many` with the number of connections to open, `append`, or
+/// `explain` for a request for `/admin/x` from the user with the role a. All others are handled by [`step`].
 fn take(alloc: Global, event: &str, container: &mut TestContainer, told: &mut Draft) {
     let (name, number) = event.split_once(' ').unwrap_or((event, ""));
     let number = number.parse::<u64>().unwrap_or(0);
@@ -66,7 +66,7 @@ fn edit_root(edit: &Edit, container: &mut TestContainer, told: &mut Draft) {
     tell_either(container.step(Happening::Edit { context: "", edit }), told);
 }
 
-/// A constraint of two collections, which wants a confidential connection.
+/// Returns a constraint on two collections that requires a confidential connection.
 fn addition(alloc: Global) -> Result<NewConstraint, NoMemory> {
     let mut collections = Vec::new(alloc);
     collections.push(collection(alloc, "/other")?)?;
@@ -87,7 +87,7 @@ fn collection(alloc: Global, pattern: &str) -> Result<Collection, NoMemory> {
     })
 }
 
-/// Opens so many connections, and tells of the last one.
+/// Opens connections from 1 to this number, and adds the result of the last one.
 fn open_many(number: u64, container: &mut TestContainer, told: &mut Draft) {
     for connection in 1..number {
         let_go(container.step(Happening::Opened { connection }));
@@ -98,13 +98,13 @@ fn open_many(number: u64, container: &mut TestContainer, told: &mut Draft) {
 
 fn let_go<T: Drop>(_value: T) {}
 
-/// What can be told.
+/// A value that can be shown.
 trait Tells {
-    /// Tells it.
+    /// Adds the value.
     fn tell(&self, told: &mut Draft);
 }
 
-/// Tells a value, or why there is none, and lets it go.
+/// Adds a value, or the reason why there is none, and drops it.
 fn tell_either<T: Tells + Drop, E: Display + Drop>(value: Result<T, E>, told: &mut Draft) {
     match value {
         Ok(value) => value.tell(told),
@@ -128,7 +128,7 @@ impl Tells for Explanation {
     }
 }
 
-/// The deployments, the events; what each brings, and how many contexts have their components handed back.
+/// The columns: deployments; events; result of each, and the number of contexts whose components were returned.
 const ROWS: &str = r#"
 -- a connection is known from when it is opened until it has ended or is lost
 who@ | open 1, send 1 x, end 1, end 1            | goes on, goes on, closes, BadConnection        | 1

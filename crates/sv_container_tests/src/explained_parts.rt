@@ -1,4 +1,4 @@
-//! What the parts of a configuration say of a request, where memory is ample.
+//! The explanation of a request from the parts of a configuration, with enough memory.
 
 use std::alloc::Global;
 use std::fmt::Display;
@@ -27,7 +27,7 @@ fn line_of(alloc: Global, contexts: &[ContextPolicy]) -> Result<String, NoMemory
     shown(alloc, explained)
 }
 
-/// The root context of the constraint, without users.
+/// Returns the root context with the constraint and without users.
 fn context_of(
     alloc: Global,
     parts: Result<(Policy, Realm), NoMemory>,
@@ -72,14 +72,14 @@ fn constraint(alloc: Global) -> Result<Constraint, NoMemory> {
     })
 }
 
-/// The list of a value, where there was memory for it.
+/// Returns a list of this value, if there was memory for it.
 fn listed<T: Drop>(alloc: Global, value: Result<T, NoMemory>) -> Result<Vec<T>, NoMemory> {
     let mut list = Vec::new(alloc);
     list.push(value?)?;
     Ok(list)
 }
 
-/// The value of what may fail otherwise than for want of memory, which it does not here.
+/// Returns a value. In this test, running out of memory is the only way to fail.
 fn made<T: Drop, E: Drop>(value: Result<T, E>) -> Result<T, NoMemory> {
     match value {
         Ok(value) => Ok(value),

@@ -1,4 +1,4 @@
-//! The events that rows write.
+//! The events of rows.
 
 use crate::containers::TestContainer;
 use std::alloc::Global;
@@ -6,8 +6,9 @@ use sv_rows::unescaped;
 use sv_run::{Happening, Reaction, StepFault};
 use sv_text::NoMemory;
 
-/// Lets a container take an event: `open`, `end` or `lost` with the number of a connection, `tick` with a moment, or `send` with the number of a
-/// connection and bytes as escapes, which come at the greatest moment so far.
+/// Passes an event to a container: `open`, `end` or `lost` with the number of a connection, `tick` with a time, or
+/// `send` with the number of a connection and bytes with escapes. A `send` has the time 0, which never advances the
+/// container's time.
 pub fn step(
     alloc: Global,
     event: &str,

@@ -1,7 +1,7 @@
-//! Tests of containers: what refuses a start, the events of connections, explanations behind edits, and the counts of calls. Memory is ample
-//! in them, so that a body which always wants memory (`always_no_memory`, the one wrong body that no contract refuses) fails at every row.
-//! And of random words, of what servers deploy, and of what no run of the program shows: commands over streams that break, and the parts of a
-//! configuration.
+//! Tests of containers: failed starts, events of connections, explanations after edits, and counts of calls. They have
+//! enough memory, so that a body that always returns `NoMemory` (`always_no_memory`, the only wrong body that no contract
+//! rejects) fails in every row. Further tests cover parts that no run of the program exercises: random words, deployments, commands on failing streams, and
+//! the parts of a configuration.
 #![tactic(auto)]
 
 #[cfg(test)]

@@ -1,11 +1,11 @@
-//! What refuses a start.
+//! Starts that succeed or fail.
 
 use crate::containers::{Does, TestContainer, answer_with};
 use std::alloc::Global;
 use sv_rows::{Asks, Draft, Strays, hold};
 use sv_text::NoMemory;
 
-/// That a container started, or why it did not.
+/// Answers with the success of a start, or the reason for its failure.
 struct Starts;
 
 impl Does for Starts {
@@ -29,8 +29,8 @@ impl Asks for Starts {
     }
 }
 
-/// The deployments; that they started, and how many contexts have their components handed back; or the code, its number and the context, how many
-/// deployments are handed back, and the entries.
+/// The columns: deployments; then `started` and the number of contexts whose components were returned, or the code with
+/// its number and context, the number of returned deployments, and the entries.
 const ROWS: &str = r#"
 ""                 | started                   | 0
 *1                 | started                   | 1

@@ -9,11 +9,11 @@ use sv_text::{Bytes, Listed, NoMemory, Text};
 /// The store of a server with a root context and the context `/two`.
 #[derive(Drop)]
 pub struct Store<'a> {
-    /// The name of a file or a folder that is not there.
+    /// The name of a missing file or folder.
     pub missing: &'a str,
-    /// The paths of the root context's static files, a blank between them.
+    /// The paths of the root context's static files, separated by blanks.
     pub files: &'a str,
-    /// The names that were asked for, each with a blank behind it.
+    /// The requested names, each followed by a blank.
     pub asked: String,
 }
 
@@ -41,7 +41,7 @@ roles = ["a"]
 "#;
 
 impl Store<'_> {
-    // Notes a name, and whether it is there.
+    // Notes a name, and returns whether it exists.
     fn note(&mut self, name: &str) -> Result<bool, NoMemory> {
         self.asked.push_str(name)?;
         self.asked.push_str(" ")?;

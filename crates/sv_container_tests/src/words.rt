@@ -4,7 +4,7 @@ use sv_run::{CountedWords, SeededWords, Words};
 
 #[test]
 fn the_words_of_a_seed_are_its_key_stream(rt: HostRuntime) {
-    // The key stream of the key of zeros and the nonce of zeros (RFC 8439, appendix A.1, test vectors 1 and 2).
+    // The key stream for a key and a nonce of zeros (RFC 8439, appendix A.1, test vectors 1 and 2).
     let pairs: [(u64, u64); 6] = [
         (0xade0b876_903df1a0, 0xe56a5d40_28bd8653),
         (0xb819d2bd_1aed8da0, 0xccef36a8_c70d778b),

@@ -1,4 +1,4 @@
-//! What a context answers to the requests of a row.
+//! The answers of a context to the requests of a row.
 
 use crate::components::TestLive;
 use crate::contexts::{TestContext, context, declared};
@@ -16,19 +16,19 @@ use sv_tree::{Finished, Site};
 use sv_uri::path::Canon;
 use sv_wire::{DateText, write_response};
 
-/// What is asked of a context.
+/// The kind of answer that a request asks for.
 #[derive(Clone, Copy)]
 pub enum Asking {
-    /// A dispatch alone.
+    /// Only the dispatch.
     Dispatched,
-    /// A dispatch, and the answer to the error in which it ends.
+    /// The dispatch, and the response to the error if it ends in one.
     Answered,
-    /// The answer to an error of this status, without a dispatch.
+    /// The response to an error of this status, without a dispatch.
     Refused(u16),
 }
 
-/// Writes the answers of a context to requests: for each the entries of its dispatches, the result of a dispatch alone with the error that
-/// is kept, the status with the fields and the cookie, and the body.
+/// Writes the answers of a context to requests. Each consists of the entries; the result and the kept error, if only a
+/// dispatch was asked for; the status with the fields and the cookie; and the body.
 pub fn answer_all(
     alloc: Global,
     declared: &str,
@@ -83,7 +83,7 @@ fn ask_each(
     }
 }
 
-/// A request's path, and its exchange; none where the sessions are gone, or memory is.
+/// Returns the path and the exchange of a request, or none if the sessions are gone or memory has run out.
 fn asked(
     alloc: Global,
     row: &str,
@@ -111,7 +111,7 @@ fn asked_with(
     }
 }
 
-/// Makes a request, and gives the sessions back; none where the request could not be made.
+/// Makes a request and returns the sessions, or none if the request could not be made.
 fn ask_one(
     alloc: Global,
     request: Request<'_>,
@@ -153,7 +153,7 @@ fn ask(
     finish(alloc, exchange, told)
 }
 
-/// Tells the response of an exchange, and gives its sessions back.
+/// Adds the response of an exchange and returns its sessions.
 fn finish(alloc: Global, mut exchange: Exchange, told: &mut Draft) -> Sessions {
     let mut sessions = Sessions::new(alloc, 0, 0);
     let response = exchange.finish(&mut sessions);
@@ -161,7 +161,7 @@ fn finish(alloc: Global, mut exchange: Exchange, told: &mut Draft) -> Sessions {
     sessions
 }
 
-/// Makes a request, and tells its entries, and the result of a dispatch alone.
+/// Makes a request, and adds its entries and, if only a dispatch was asked for, the result.
 fn make(
     alloc: Global,
     request: Request<'_>,
@@ -191,8 +191,8 @@ fn make(
     }
 }
 
-/// Dispatches a request, or answers it, where the context has the components of its descriptor, as it has since its start. The result is that
-/// of a dispatch alone.
+/// Dispatches a request or answers it. Returns the result if only a dispatch was asked for. Fails if the numbers of
+/// components differ from those of the descriptor, which a started context rules out.
 fn answered(
     alloc: Global,
     live: &mut TestLive,
@@ -225,8 +225,8 @@ fn answered(
     Ok(None)
 }
 
-/// Adds the entries of a journal, each without its first two words, which are the same for all of a kind; more than forty are told by
-/// their number.
+/// Adds the entries of a journal without their first two words, which are the same for all entries of a kind. Of more
+/// than 40 entries it adds only the number.
 fn add_entries(told: &mut Draft, alloc: Global, journal: &Journal) {
     let entries = journal.entries();
     if entries.len() > 40 {
@@ -246,7 +246,7 @@ fn add_entries(told: &mut Draft, alloc: Global, journal: &Journal) {
     told.add(" | ");
 }
 
-/// Adds the result of a dispatch alone, with the error that is kept.
+/// Adds the result of a dispatch, if there is one, and the kept error.
 fn add_result(told: &mut Draft, finished: Option<&Finished>, exchange: &Exchange) {
     if let Some(finished) = finished {
         add_finished(told, finished);
@@ -273,7 +273,7 @@ fn add_finished(told: &mut Draft, finished: &Finished) {
     }
 }
 
-/// Adds the servlet in which a kept error arose, and the field that goes with it.
+/// Adds the servlet that caused a kept error, and the field of the error, if any.
 fn add_kept(told: &mut Draft, kept: Option<&KeptError>) {
     if let Some(kept) = kept {
         told.add(" in ");
@@ -315,7 +315,7 @@ fn add_response(alloc: Global, told: &mut Draft, response: &Response) {
     }
 }
 
-/// Adds what is sent behind the head of a response.
+/// Adds the bytes that are sent after the head of a response.
 fn add_sent(alloc: Global, told: &mut Draft, response: &Response) {
     let room = Vec::new(alloc);
     let mut sent = Vec::new(alloc);
@@ -330,7 +330,7 @@ fn add_sent(alloc: Global, told: &mut Draft, response: &Response) {
     add_body(told, body.as_bytes());
 }
 
-/// Adds a body, or its length where that is more than two hundred bytes.
+/// Adds a body, or its length if it has more than 200 bytes.
 fn add_body(told: &mut Draft, body: &[u8]) {
     if body.len() <= 200 {
         told.add_bytes(body);

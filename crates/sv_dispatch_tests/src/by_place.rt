@@ -1,4 +1,4 @@
-//! Calls by place, and stops with sessions.
+//! Calls of components by index, and stops with sessions.
 
 use crate::lifecycle_components::TestLive;
 use crate::lives::{Life, add_life};
@@ -12,8 +12,8 @@ use sv_session::Sessions;
 use sv_text::{Bytes, Listed, NoMemory, Text};
 use sv_uri::path::Canon;
 
-/// The calls that are made of a context with a servlet, a filter and two listeners, and the attributes of the second of its two sessions; then
-/// the answers with the standing behind them, and the entries, those of the start before them and those of the stop behind them.
+/// The calls on a context with a servlet, a filter and two listeners; the attributes of the second of its two sessions;
+/// then the answers, the state of the servlet after them, and the entries of the start, the calls and the stop.
 const ROWS: &str = r#"
 -- Jakarta Servlet 6.0, sections 2.3.3 and 6.2.1: each call is made once
 before service after | - | Pass Done done Serving | 1 ContextInitialized, 2 ContextInitialized, filter f init Ready, servlet a init Ready, filter f before Pass, servlet a service 0 Done, filter f after, servlet a destroy, filter f destroy, 2 ContextDestroyed, 1 ContextDestroyed
@@ -29,7 +29,7 @@ fn calls_by_place_are_made_and_noted(rt: HostRuntime) -> Result<(), Strays> {
     hold(&rt, &[ROWS], &Calls)
 }
 
-/// What the calls of a row answer, and the journal behind the stop.
+/// Answers with the results of a row's calls, and the journal after the stop.
 struct Calls;
 
 impl Asks for Calls {
@@ -50,7 +50,7 @@ impl Asks for Calls {
     }
 }
 
-/// Makes the calls of those names on an exchange of their own, and adds their answers.
+/// Makes the calls of these names on a new exchange, and adds their answers.
 pub fn make_all(
     alloc: Global,
     calls: &str,
@@ -156,7 +156,7 @@ fn change(alloc: Global, live: &mut TestLive, journal: &mut Journal, call: &str)
     }
 }
 
-/// What a client asks for.
+/// A client's request.
 #[derive(Drop)]
 struct Request {
     message: Message,
@@ -164,7 +164,7 @@ struct Request {
     cookie_settings: CookieSettings,
 }
 
-/// A GET of the root of a context.
+/// Returns a GET request for the root of a context.
 fn request_of_root(alloc: Global) -> Result<Request, NoMemory> {
     let path = Text::copy_of(alloc, "/")?;
     let cookie_settings = CookieSettings::standard(alloc)?;

@@ -3,11 +3,11 @@
 use crate::rows::Dispatches;
 use sv_rows::{Strays, hold};
 
-// In each table: the servlets with their classes, parameters and patterns; the filters with theirs, and their mappings; error pages,
-// welcome files, files and the rest of the context; requests. Then for each request the entries, the result with the servlet of the
-// error that is kept, the status with the fields, and the body.
+// The columns of each table: servlets with class, parameters and patterns; filters with class and parameters, and their
+// mappings; error pages, welcome files, files and other settings; requests. Then for each request: the entries, the
+// result with the servlet of the kept error, the status with the fields, and the body.
 
-/// Which filters stand in front, and in which order.
+/// The filters of a request, and their order.
 const ORDERS: &str = r#"
 -- Jakarta Servlet 6.0, section 6.2.4: the mappings by patterns first, then those by names, each in the order of the descriptor
 - | f Mark; g Mark; g: *; f: /*; g: /x     | - | GET /x | filter f before Pass, filter g before Pass, filter g after, filter f after | Error 404 Not Found in default | 200, x-mark: f, x-mark: g | ""
@@ -18,7 +18,7 @@ r Who ""  | f Mark; f: ""                  | - | GET /; GET /x | filter f before
 - | f Mark; f: default                     | file /x t | GET /x | filter f before Pass, filter f after | Done | 200, x-mark: f, content-type: application/octet-stream | t
 "#;
 
-/// Which kinds of dispatches a mapping is for.
+/// The kinds of dispatches that a mapping applies to.
 const KINDS: &str = r#"
 -- Jakarta Servlet 6.0, section 6.2.5: a mapping is for the kinds that it names, and for requests alone where it names none
 a Script does=write:x /a | f Mark; g Mark; h Mark; i Mark; f: /* FORWARD; g: /* INCLUDE; h: /* ERROR; i: /* | - | GET /a; GET /a FORWARD | filter i before Pass, servlet a service 0 Done, filter i after | Done | 200, x-mark: i | x | filter f before Pass, servlet a service 0 Done, filter f after | Done | 200, x-mark: f | x

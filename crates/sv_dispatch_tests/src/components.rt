@@ -1,4 +1,4 @@
-//! The components of a context: the program's own classes and scripts, in boxes.
+//! The components of a context: boxed classes of the program, and boxed scripts.
 
 use crate::results::both;
 use crate::scripts::Script;
@@ -22,7 +22,7 @@ type TestFilters = Vec<Named<Box<dyn Filter>>>;
 /// A started context.
 pub type TestLive = Live<Box<dyn Servlet>, Box<dyn Filter>, Log>;
 
-/// The components that a row declares.
+/// Returns the components that a row declares.
 pub fn parts(alloc: Global, row: &str) -> Result<TestParts, NoMemory> {
     let named = both(servlets(alloc, row), filters(alloc, row));
     match both(named, listeners(alloc, row)) {
@@ -74,14 +74,14 @@ fn listeners(alloc: Global, row: &str) -> Result<Vec<Log>, NoMemory> {
     Ok(listeners)
 }
 
-/// The name of a component, and its class.
+/// Returns the name and the class of a component.
 fn declared(part: &str) -> (&str, &str) {
     let (name, rest) = first_word(part);
     let (class, _) = first_word(rest);
     (name, class)
 }
 
-/// Adds a component by its name.
+/// Adds a component with its name.
 fn add<C: Drop>(
     alloc: Global,
     name: &str,

@@ -22,7 +22,7 @@ pub struct TestContext {
     pub sessions: Sessions,
 }
 
-/// The context that a row declares; none where it does not start.
+/// Returns the context that a row declares, or none if it does not start.
 pub fn context(alloc: Global, row: &str) -> Option<TestContext> {
     match live(alloc, row) {
         Some(begun) => sited(alloc, row, begun),
@@ -30,7 +30,7 @@ pub fn context(alloc: Global, row: &str) -> Option<TestContext> {
     }
 }
 
-/// The descriptor of a row, and its components, started.
+/// Returns the descriptor of a row, and its components after their start.
 fn live(alloc: Global, row: &str) -> Option<(Descriptor, TestLive)> {
     let Some(descriptor) = descriptor(alloc, row) else {
         return None;
@@ -47,7 +47,7 @@ fn started(alloc: Global, row: &str, descriptor: &Descriptor) -> Option<TestLive
     sv_lifecycle::start(alloc, path, parts, descriptor, &mut Journal::new(alloc)).ok()
 }
 
-/// The context, with the site of its descriptor.
+/// Returns the context with the site of its descriptor.
 fn sited(alloc: Global, row: &str, begun: (Descriptor, TestLive)) -> Option<TestContext> {
     let (descriptor, live) = begun;
     match beside(live, site(alloc, row, descriptor)) {
@@ -86,7 +86,7 @@ fn files(alloc: Global, row: &str) -> Result<Files, NoMemory> {
     made(Files::from_list(alloc, file_list(alloc, row)?))
 }
 
-/// The files of a row: each a path, and what the file holds.
+/// Returns the files of a row, each with its path and its content.
 fn file_list(alloc: Global, row: &str) -> Result<Vec<File>, NoMemory> {
     let mut list = Vec::new(alloc);
     for part in cell(row, 2).split(';') {
@@ -105,7 +105,7 @@ fn file(alloc: Global, words: &str) -> Result<File, NoMemory> {
     Ok(File { path, bytes })
 }
 
-/// What a row declares behind a word, empty where it does not.
+/// Returns what a row declares after a word, or an empty text if the word is missing.
 pub fn declared<'a>(row: &'a str, word: &str) -> &'a str {
     for part in cell(row, 2).split(';') {
         let (first, rest) = first_word(part.trim());
@@ -116,7 +116,7 @@ pub fn declared<'a>(row: &'a str, word: &str) -> &'a str {
     ""
 }
 
-/// Sessions of which so many stand, of a thousand that may.
+/// Returns sessions with this number open. At most 1,000 can be open.
 fn sessions(alloc: Global, count: u64) -> Sessions {
     let mut sessions = Sessions::new(alloc, 1000, 0);
     for _ in 0..count {

@@ -1,11 +1,11 @@
-//! Descriptors that declare what a row says.
+//! Descriptors that declare the components and settings of a row.
 
 use crate::words::{Words, first_word, is_nothing};
 use std::alloc::Global;
 use sv_descriptor::{Descriptor, read_descriptor};
 use sv_rows::{Draft, cell};
 
-/// The descriptor of a row's first three cells; none where it is not read.
+/// Returns the descriptor of a row's first three cells, or none if it cannot be read.
 pub fn descriptor(alloc: Global, row: &str) -> Option<Descriptor> {
     let mut text = Draft::new(alloc);
     for part in cell(row, 0).split(';') {
@@ -28,7 +28,7 @@ fn read(alloc: Global, text: Draft) -> Option<Descriptor> {
     read_descriptor(alloc, text).ok()
 }
 
-/// Declares a servlet by its name and its class, its parameters and its patterns.
+/// Declares a servlet with its name, class, parameters and patterns.
 fn add_servlet(text: &mut Draft, part: &str) {
     if is_nothing(part) {
         return;
@@ -42,7 +42,7 @@ fn add_servlet(text: &mut Draft, part: &str) {
     }
 }
 
-/// Declares a filter by its name and its class with its parameters, or maps it: `f: /x/* s FORWARD`.
+/// Declares a filter with its name, class and parameters, or maps one: `f: /x/* s FORWARD`.
 fn add_filter(text: &mut Draft, part: &str) {
     if is_nothing(part) {
         return;
@@ -66,7 +66,7 @@ fn add_filter_mapping(text: &mut Draft, name: &str, rest: &str) {
     add_texts(text, "dispatcher", rest, Words::Kinds);
 }
 
-/// Declares an error page by a status, by the kind of a failure, or by `-` for all errors; welcome files; or listeners.
+/// Declares an error page (for a status, a kind of failure, or `-` for all errors), welcome files, or a listener.
 fn add_other(text: &mut Draft, part: &str) {
     let (word, rest) = first_word(part);
     match word {
@@ -119,7 +119,7 @@ fn add_pair(text: &mut Draft, key: &str, value: &str) {
     text.add("\"\n");
 }
 
-/// Adds the parameters among words, each with `=` behind its name.
+/// Adds the parameters among these words: all words but patterns, each `NAME=VALUE`.
 fn add_params(text: &mut Draft, words: &str) {
     let mut is_first = true;
     for word in words.split_ascii_whitespace() {
@@ -142,7 +142,7 @@ fn add_param(text: &mut Draft, word: &str) {
     text.add("\"");
 }
 
-/// Adds a list of the words that pass.
+/// Adds a list of the words that are of this kind.
 fn add_texts(text: &mut Draft, key: &str, words: &str, kept: Words) {
     text.add(key);
     text.add(" = [");

@@ -3,7 +3,7 @@
 use sv_journal::Journal;
 use sv_rows::Draft;
 
-/// Adds the entries of a journal, each without its first two words, which are the same for all of a kind.
+/// Adds the entries of a journal without their first two words, which are the same for all entries of a kind.
 pub fn add_entries(text: &mut Draft, alloc: std::alloc::Global, journal: &Journal) {
     let mut separator = "";
     for entry in journal.entries() {

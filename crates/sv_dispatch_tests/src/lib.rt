@@ -1,4 +1,5 @@
-//! Tests of starts, calls by place, stops and dispatches: tables whose rows a reader can check against the specification.
+//! Tests of starts, calls by index, stops and dispatches: tables whose rows a reader can check against the
+//! specification.
 #![tactic(auto)]
 
 #[cfg(test)]

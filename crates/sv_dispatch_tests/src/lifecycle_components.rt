@@ -1,4 +1,4 @@
-//! Components that answer to an `init` as a row says.
+//! Components that answer `init` as a row says.
 
 use std::alloc::Global;
 use sv_component::{Config, Event, Exchange, Filter, Gate, Init, Listener, Servlet, Step};
@@ -6,7 +6,7 @@ use sv_lifecycle::StartFault;
 use sv_live::{Live, Named, Parts};
 use sv_text::{NoMemory, Text};
 
-/// A servlet or a filter with its answer to `init`.
+/// A servlet or a filter with a fixed answer to `init`.
 #[derive(Drop)]
 pub struct Probe {
     answer: Init,
@@ -54,7 +54,7 @@ impl Listener for Quiet {
     fn hear(&mut self, _event: &Event) {}
 }
 
-/// Components by their words, and so many listeners.
+/// Returns the components that these words name, and this number of listeners.
 pub fn parts(
     alloc: Global,
     servlets: &str,
@@ -80,7 +80,7 @@ fn named(alloc: Global, words: &str) -> Result<Vec<Named<Probe>>, NoMemory> {
     Ok(all)
 }
 
-/// A component whose word is a name, with its number behind `=` and another answer than `Ready` behind `!`.
+/// Returns the component of a word, `NAME[=NUMBER][!ANSWER]`. ANSWER is its answer to `init`, by default `Ready`.
 fn named_probe(alloc: Global, word: &str) -> Result<Named<Probe>, NoMemory> {
     let (word, answer) = word.split_once('!').unwrap_or((word, "Ready"));
     let (name, _) = word.split_once('=').unwrap_or((word, ""));

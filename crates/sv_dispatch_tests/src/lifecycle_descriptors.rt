@@ -4,7 +4,7 @@ use std::alloc::Global;
 use sv_descriptor::{Descriptor, read_descriptor};
 use sv_rows::Draft;
 
-/// The descriptor of components by their words, and of so many listeners; none where it is not read.
+/// Returns the descriptor of these components and this number of listeners, or none if it cannot be read.
 pub fn descriptor(
     alloc: Global,
     servlets: &str,
@@ -28,7 +28,7 @@ fn read(alloc: Global, text: Draft) -> Option<Descriptor> {
     read_descriptor(alloc, text).ok()
 }
 
-/// Declares the components of a kind by their words: a name, with the number of load-on-startup behind `=`.
+/// Declares the components that these words name, `NAME[=NUMBER]`. NUMBER is the value of load-on-startup.
 fn add_all(text: &mut Draft, kind: &str, words: &str) {
     for word in words.split_ascii_whitespace() {
         let (word, _) = word.split_once('!').unwrap_or((word, ""));

@@ -1,4 +1,4 @@
-//! Contexts that are started, called by place and stopped.
+//! Contexts that are started, called and stopped.
 
 use crate::by_place::make_all;
 use crate::entries::add_entries;
@@ -11,25 +11,25 @@ use sv_journal::Journal;
 use sv_rows::Draft;
 use sv_session::{SessionFault, Sessions};
 
-/// What a context is started with, what is called of it, and the sessions with which it is stopped.
+/// The components of a context, the calls on them, and the sessions at its stop.
 #[derive(Clone, Copy)]
 pub struct Life<'a> {
-    /// The words of the servlets.
+    /// Names of the servlets, with their numbers and answers.
     pub servlets: &'a str,
-    /// The words of the filters.
+    /// Names of the filters, with their answers.
     pub filters: &'a str,
-    /// How many listeners the descriptor declares.
+    /// Number of listeners that the descriptor declares.
     pub declared: usize,
-    /// How many listeners are handed in.
+    /// Number of listeners that the context is started with.
     pub handed: usize,
-    /// The calls by place.
+    /// Names of the calls.
     pub calls: &'a str,
-    /// The names of the attributes of the second of two sessions; `-` for no session.
+    /// Names of the attributes of the second of two sessions, or `-` for no sessions.
     pub attributes: &'a str,
 }
 
-/// Adds what the calls answer and how the servlets stand behind them, or why the context does not start; then the entries, those of the stop
-/// behind the others.
+/// Adds the answers to the calls and the states of the servlets after them, or the reason why the context does not
+/// start. Then adds all entries; those of the stop come last.
 pub fn add_life(alloc: Global, life: &Life<'_>, told: &mut Draft) {
     let mut journal = Journal::new(alloc);
     live_by(alloc, life, &mut journal, told);
@@ -90,7 +90,7 @@ fn add_standings(told: &mut Draft, live: &TestLive) {
     }
 }
 
-/// A standing as the rows write it.
+/// Returns the state of a servlet as the rows write it.
 fn word_of(standing: Standing) -> &'static str {
     match standing {
         Standing::Serving => "Serving",
@@ -107,7 +107,7 @@ fn stop(alloc: Global, attributes: &str, live: TestLive, journal: &mut Journal, 
     let _parts = live.stop(alloc, &mut sessions, journal);
 }
 
-/// Opens two sessions, the second with attributes of those names.
+/// Opens two sessions and sets attributes of these names in the second.
 fn open_two(sessions: &mut Sessions, attributes: &str) -> Result<(), SessionFault> {
     sessions.open((0, 0), 0)?;
     let second = sessions.open((0, 0), 0)?;

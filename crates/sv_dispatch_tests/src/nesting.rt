@@ -1,9 +1,9 @@
-//! Dispatches that servlets ask for.
+//! Dispatches that servlets request.
 
 use crate::rows::Dispatches;
 use sv_rows::{Strays, hold};
 
-// The cells of the tables are those of the filters' tables.
+// The columns of the tables are those in `chains`.
 
 /// Forwards, includes, and their limits.
 const NESTED: &str = r#"
@@ -38,7 +38,7 @@ t Script does=include:/x then=include:/x /t | - | file /x a | GET /t | 1024 entr
 t Script does=include:/g then=include:/g /t; g Gone /g | - | - | GET /t | 1025 entries | Failed DispatchLimit DispatchLimit in t | 200 | ""
 "#;
 
-/// Errors and failures, and where they are kept.
+/// Errors and failures, and the servlets that they are kept for.
 const ERRORS: &str = r#"
 -- Jakarta Servlet 6.0, section 10.9: codes from 400 to 599; any other counts as 500
 a Err code=399 /a; b Err code=400 /b; c Err code=599 /c; d Err code=600 /d | - | - | GET /a; GET /b | servlet a service 0 Error 399 | Error 500 error in a | 200 | "" | servlet b service 0 Error 400 | Error 400 error in b | 200 | ""
@@ -59,7 +59,7 @@ g Go path=/none /g | - | - | GET /g | servlet g service 0 Forward /none | Error 
 - | f Script does=fill:4194300; f: /* | file /x abcde; file /y abcd | GET /x; GET /y | filter f before Pass, filter f after | Failed TooLarge TooLarge in default | 200, content-type: application/octet-stream | 4194300 bytes | filter f before Pass, filter f after | Done | 200, content-type: application/octet-stream | 4194304 bytes
 "#;
 
-/// Servlets that go out of service.
+/// Servlets that become unavailable.
 const STANDINGS: &str = r#"
 -- Jakarta Servlet 6.0, section 2.3.3.2: for some seconds, with the field of RFC 9110, section 10.2.3
 g Gone seconds=10 /g | - | - | GET /g @0; GET /g @4; GET /g @10 | servlet g service 0 Unavailable | Error 503 Service Unavailable in g, retry-after: 10 | 200 | "" | "" | Error 503 Service Unavailable in g, retry-after: 6 | 200 | "" | servlet g service 0 Unavailable | Error 503 Service Unavailable in g, retry-after: 10 | 200 | ""

@@ -3,10 +3,10 @@
 use crate::rows::Answers;
 use sv_rows::{Strays, hold};
 
-// The first four cells of the tables are those of the filters' tables. Then for each request the entries, the status with the fields, and
-// the body.
+// The first four columns of the tables are those in `chains`. Then for each request: the entries, the status with the
+// fields, and the body.
 
-/// Error pages, and plain answers.
+/// Error pages and plain answers.
 const PAGES: &str = r#"
 -- Jakarta Servlet 6.0, section 10.9.2: the page of the failure's kind, else that of the status, else that of all errors; of several the first
 bad Fail kind=K /bad; k Script does=write:k /k; s Script does=write:s /s; g Script does=write:g /g | - | page - /g; page 500 /s; page K /k | GET /bad | servlet bad service 0 Failed K, servlet k service 0 Done | 500 | k
@@ -37,7 +37,7 @@ k Keep /k | - | sessions 999 | GET /k; GET /k | servlet k service 0 Done | 200, 
 s Script does=open,error:404 /s | - | - | GET /s | servlet s service 0 Error 404 | 404, content-type: text/plain, cookie 000000000000000000000000000000010000000000000001 / | 404 Not Found\n
 "#;
 
-/// Errors that no dispatch brought up, of the status behind `!`.
+/// Errors without a dispatch. The status follows `!`.
 const REFUSED: &str = r#"
 -- Jakarta Servlet 6.0, section 10.9.2: the page of the status, else that of all errors, else the plain answer; never that of a kind
 - | - | - | GET /x !403; GET /x !404 | "" | 403, content-type: text/plain | 403 Forbidden\n | "" | 404, content-type: text/plain | 404 Not Found\n

@@ -1,4 +1,4 @@
-//! Requests that a row makes.
+//! The requests of a row.
 
 use crate::answers::Asking;
 use crate::results::{both, nothing_of};
@@ -15,8 +15,9 @@ use sv_text::{Bytes, Listed, NoMemory, Text};
 use sv_uri::canon;
 use sv_uri::path::Canon;
 
-/// A request: a method and a target in the context, and words: a moment behind `@`, the session that is held behind `#`, its caller behind
-/// `~`, the status of an error that it is answered by without a dispatch behind `!`, the kind of its dispatch, and else the body of a form.
+/// A request: a method, a target in the context, and words. `@TIME` is its time, `#NUMBER` the session that it holds,
+/// `~NAME` the caller of that session, and `!STATUS` an error to be answered without a dispatch. A word may also be the
+/// kind of its dispatch. Any other word is the body of a form.
 #[derive(Clone, Copy)]
 pub struct Request<'a> {
     pub target: &'a str,
@@ -29,7 +30,7 @@ pub struct Request<'a> {
     form: &'a str,
 }
 
-/// The request that a part of a cell writes.
+/// Returns the request that a part of a cell describes.
 pub fn read_request(part: &str) -> Request<'_> {
     let (method, rest) = first_word(part);
     let (target, words) = first_word(rest);
@@ -50,7 +51,7 @@ pub fn read_request(part: &str) -> Request<'_> {
 }
 
 impl<'a> Request<'a> {
-    /// What is asked by this request, where requests ask that.
+    /// Returns what this request asks for: the response to its error status if it has one, or else `asking`.
     pub fn asking(&self, asking: Asking) -> Asking {
         match self.error {
             0 => asking,
@@ -86,12 +87,12 @@ impl<'a> Request<'a> {
     }
 }
 
-/// The canonical path of a target; none where it has none.
+/// Returns the canonical path of a target, or none if the target has no such path.
 pub fn path(alloc: Global, target: &str) -> Option<Canon> {
     canon(alloc, target.as_bytes()).ok()
 }
 
-/// The exchange of a request in a context of that path, with its sessions; none where there is no memory.
+/// Returns the exchange of a request in the context of this path, with its sessions, or none if memory has run out.
 pub fn exchange(
     alloc: Global,
     request: Request<'_>,
@@ -146,7 +147,7 @@ fn message(alloc: Global, request: Request<'_>) -> Result<Message, NoMemory> {
     })
 }
 
-/// The fields of a message with that form.
+/// Returns the fields of a message with this form: its content type, or none if the form is empty.
 fn fields(alloc: Global, form: &str) -> Result<Vec<Field>, NoMemory> {
     let mut fields = Vec::new(alloc);
     if !form.is_empty() {
@@ -164,7 +165,7 @@ fn method(name: &str) -> Method {
     }
 }
 
-/// The field that says that a body is that of a form.
+/// Returns the content type of a form.
 fn form_type(alloc: Global) -> Result<Field, NoMemory> {
     let Ok(name) = HeaderName::from_bytes(alloc, b"content-type") else {
         return Err(NoMemory);

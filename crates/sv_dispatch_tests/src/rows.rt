@@ -1,11 +1,11 @@
-//! Dispatches as rows.
+//! Dispatches in tables.
 
 use crate::answers::{Asking, answer_all};
 use std::alloc::Global;
 use sv_rows::{Asks, Strays, cell, hold};
 use sv_text::NoMemory;
 
-/// What a context answers to requests that are dispatched: the context is declared by the first three cells of a row, as the tables say.
+/// Answers with the results of dispatched requests. The first three cells of a row declare the context.
 pub struct Dispatches;
 
 impl Asks for Dispatches {
@@ -16,7 +16,7 @@ impl Asks for Dispatches {
     }
 }
 
-/// The same of requests that are answered with their error pages.
+/// Answers with the responses to requests, including their error pages.
 pub struct Answers;
 
 impl Asks for Answers {

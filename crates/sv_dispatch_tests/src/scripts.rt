@@ -7,9 +7,9 @@ use sv_component::{Config, Exchange, ExchangeFault, Filter, Gate, Init, Servlet,
 use sv_mapping::Kind;
 use sv_text::{NoMemory, Text};
 
-/// A servlet or a filter that does what its parameters say: `does` in a servlet's first turn and in a filter's `before`, `inside` in a
-/// servlet's first turn within an include where there is that parameter, `then` in later turns and in `after`. A parameter has acts with
-/// commas between them, and the last one is the answer, if it is one.
+/// A servlet or a filter that acts as its parameters say. `does` is for a servlet's first turn and a filter's `before`.
+/// Within an include, `inside` replaces it in a servlet's first turn, if set. `then` is for later turns and `after`. A
+/// parameter lists acts, separated by commas. The last one is the answer, if it names one.
 #[derive(Drop)]
 pub struct Script {
     does: Text,
@@ -18,7 +18,7 @@ pub struct Script {
 }
 
 impl Script {
-    /// A component to be initialised.
+    /// Returns a component that is not initialized.
     pub fn new(alloc: Global) -> Script {
         Script {
             does: Text::from_string(String::new(alloc)),
@@ -88,7 +88,7 @@ impl Filter for Script {
     fn destroy(&mut self) {}
 }
 
-/// Makes the calls that acts name; those that an exchange refuses are passed over.
+/// Makes the calls that the acts name. Calls that the exchange refuses are ignored.
 fn play(alloc: Global, exchange: &mut Exchange, acts: &str)
     ensures { Reaches exchange.old exchange.new }
 {
@@ -139,7 +139,7 @@ fn make_in_session(exchange: &mut Exchange, name: &str, rest: &str) -> Result<bo
     }
 }
 
-/// Writes so many bytes.
+/// Writes this number of bytes.
 fn fill(alloc: Global, exchange: &mut Exchange, count: usize) -> Result<bool, ExchangeFault>
     ensures { Reaches exchange.old exchange.new }
 {
@@ -147,7 +147,7 @@ fn fill(alloc: Global, exchange: &mut Exchange, count: usize) -> Result<bool, Ex
     exchange.write(bytes.as_slice())
 }
 
-/// Writes what the exchange tells, with a blank behind it.
+/// Writes a value of the exchange, followed by a blank.
 fn tell(alloc: Global, exchange: &mut Exchange, what: &str) -> Result<bool, ExchangeFault>
     ensures { Reaches exchange.old exchange.new }
 {
@@ -155,7 +155,8 @@ fn tell(alloc: Global, exchange: &mut Exchange, what: &str) -> Result<bool, Exch
     exchange.write(line.as_bytes())
 }
 
-/// What the exchange tells, `-` for nothing: the parameter behind `?`, the attribute behind `@`, or what is named.
+/// Returns a value of the exchange, or `-` if it is missing: the parameter after `?`, the attribute after `@`, or the
+/// value of this name.
 fn told(alloc: Global, exchange: &Exchange, what: &str) -> Result<Text, NoMemory> {
     if let Some(name) = what.strip_prefix("?") {
         return told_parameter(alloc, exchange, name);

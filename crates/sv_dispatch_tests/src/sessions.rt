@@ -3,8 +3,9 @@
 use crate::rows::Dispatches;
 use sv_rows::{Strays, hold};
 
-// The cells of the tables are those of the filters' tables. A session stands for each that the third cell counts, by numbers from 1; a
-// request holds the one behind `#`, with the caller behind `~`. The words of each request are 0 and 1.
+// The columns of the tables are those in `chains`. In the third, `sessions` gives the number of open sessions, numbered
+// from 1. A request holds the session after `#`, with the caller after `~`. The random words of each request are 0 and
+// 1.
 
 /// The session, its caller and its cookie.
 const HELD: &str = r#"
@@ -23,7 +24,7 @@ w Who /w; o Out /o; s Script does=include:/o then=forward:/w /s | - | sessions 1
 w Who /w; b Bye /b; s Script does=include:/b then=forward:/w /s | - | sessions 1 | GET /s #1 ~ann; GET /w | servlet s service 0 Include /b, servlet b service 0 Done, servlet s service 1 Forward /w, servlet w service 0 Done | Done | 200, content-type: text/plain | caller -\n | servlet w service 0 Done | Done | 200, content-type: text/plain | caller -\n
 "#;
 
-/// What listeners hear of sessions.
+/// The session events that listeners receive.
 const HEARD: &str = r#"
 -- Jakarta Servlet 6.0, section 11.3: behind the call, the oldest event first; ends in reverse, the rest in declared order
 k Keep /k | - | listener; listener | GET /k; GET /k #1 | servlet k service 0 Done, 1 SessionCreated 1, 2 SessionCreated 1, 1 AttributeAdded 1 n, 2 AttributeAdded 1 n | Done | 200, content-type: text/plain, cookie 000000000000000000000000000000010000000000000001 / | n=1\n | servlet k service 0 Done, 1 AttributeReplaced 1 n, 2 AttributeReplaced 1 n | Done | 200, content-type: text/plain | n=2\n

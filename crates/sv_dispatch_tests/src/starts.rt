@@ -1,12 +1,12 @@
-//! What starts call and tell, and how they end.
+//! The calls and events of a start, and its result.
 
 use crate::lives::{Life, add_life};
 use std::alloc::Global;
 use sv_rows::{Asks, Draft, Strays, cell, hold};
 use sv_text::NoMemory;
 
-/// Servlets, some with a number, filters, and the listeners that are declared and handed in; then the fault with the parts that come back as
-/// their numbers, or the standings of the servlets; and the entries of the start, and of the stop of what stands.
+/// Servlets, some with a number; filters; the numbers of listeners declared and passed. Then the fault with the numbers
+/// of returned components, or the states of the servlets; and the entries of the start and of the stop.
 const ROWS: &str = r#"
 -- Jakarta Servlet 6.0, section 14.4 (load-on-startup): lower numbers first, ties in the order of the descriptor; none or a negative one last
 a b=2 c=1 d=-1 e=2 | "" | 0 | 0 | Serving Serving Serving Serving Serving | servlet c init Ready, servlet b init Ready, servlet e init Ready, servlet a init Ready, servlet d init Ready, servlet d destroy, servlet a destroy, servlet e destroy, servlet b destroy, servlet c destroy
@@ -29,7 +29,7 @@ fn a_start_tells_and_calls_in_order_or_is_undone(rt: HostRuntime) -> Result<(), 
     hold(&rt, &[ROWS], &Starts)
 }
 
-/// How a start ends, and the journal behind it, and behind the stop of what stands.
+/// Answers with the result of a start, and the journal after the start and the stop.
 struct Starts;
 
 impl Asks for Starts {

@@ -1,11 +1,11 @@
-//! What dispatches tell components, and what the file servlet answers.
+//! The values that components read in dispatches, and the answers of the file servlet.
 
 use crate::rows::Dispatches;
 use sv_rows::{Strays, hold};
 
-// The cells of the tables are those of the filters' tables.
+// The columns of the tables are those in `chains`.
 
-/// Paths, attributes and parameters. A script writes each thing that it is told with a blank behind it, `-` for nothing.
+/// Paths, attributes and parameters. A script writes each value followed by a blank, or `-` if it is missing.
 const TOLD: &str = r#"
 -- Jakarta Servlet 6.0, section 9.4.2: a forward shows its own paths, and tells those of the client's request
 g Go path=/t/i?b=2 /g/*; t Script does=tell:path,tell:servlet,tell:info,tell:query,tell:kind /t/* | - | context /app | GET /g/h?a=1 | servlet g service 0 Forward /t/i?b=2, servlet t service 0 Done | Done | 200 | /t/i /t /i b=2 FORWARD\x20
@@ -29,7 +29,7 @@ g Go path=/t?n=2 /g; t Script does=tell:?n,tell:?m,tell:?l /t | - | - | POST /g?
 n Script does=tell:?n,include:/t?n=2 then=tell:?n /n; t Script does=tell:?n,include:/u?m=3 then=tell:?m /t; u Script does=tell:?n,tell:?m /u | - | - | GET /n?n=1 | servlet n service 0 Include /t?n=2, servlet t service 0 Include /u?m=3, servlet u service 0 Done, servlet t service 1 Done, servlet n service 1 Done | Done | 200 | 1 2 2 3 - 1\x20
 "#;
 
-/// What the file servlet answers, where no servlet is mapped.
+/// The answers of the file servlet, if no servlet is mapped.
 const FILES: &str = r#"
 -- Jakarta Servlet 6.0, section 10.10: a folder, and its welcome file, to which a client is sent with the query
 - | - | welcome index.html; file /a/index.html x | GET /a; GET /a/?q; PUT /a/index.html | "" | Done | 302, location: /a/ | "" | "" | Done | 302, location: /a/index.html?q | "" | "" | Error 405 Method Not Allowed in default, allow: GET, HEAD | 200 | ""

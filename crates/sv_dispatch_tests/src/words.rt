@@ -1,19 +1,19 @@
 //! The words of a cell.
 
-/// Some of the words of a text.
+/// A kind of words in a text.
 #[derive(Clone, Copy)]
 pub enum Words {
-    /// The patterns of URLs; `""` is the empty one.
+    /// URL patterns; `""` is the empty pattern.
     Patterns,
-    /// The kinds of dispatches.
+    /// Kinds of dispatches.
     Kinds,
-    /// The others, without parameters.
+    /// Words that are neither patterns nor kinds of dispatches.
     Servlets,
     All,
 }
 
 impl Words {
-    /// Whether a word is one of them.
+    /// Returns whether a word is of this kind.
     pub fn have(self, word: &str) -> bool {
         match self {
             Words::Patterns => is_pattern(word),
@@ -23,7 +23,7 @@ impl Words {
         }
     }
 
-    /// Whether a text has one of them.
+    /// Returns whether a text has a word of this kind.
     pub fn are_in(self, text: &str) -> bool {
         let mut found = false;
         for word in text.split_ascii_whitespace() {
@@ -41,18 +41,18 @@ fn is_kind(word: &str) -> bool {
     matches!(word, "REQUEST" | "FORWARD" | "INCLUDE" | "ERROR")
 }
 
-/// Whether a part of a cell declares nothing.
+/// Returns whether a part of a cell declares nothing.
 pub fn is_nothing(part: &str) -> bool {
     part.is_empty() || part == "-"
 }
 
-/// The first word of a text, and what follows it.
+/// Returns the first word of a text, and the rest.
 pub fn first_word(text: &str) -> (&str, &str) {
     let (word, rest) = text.split_once(' ').unwrap_or((text, ""));
     (word, rest.trim_start())
 }
 
-/// The number that a text writes, 0 for any other text.
+/// Returns the number that a text gives, or 0 if it gives none.
 pub fn number_of(text: &str) -> u64 {
     text.parse::<u64>().unwrap_or(0)
 }

@@ -1,4 +1,4 @@
-//! Each call that may be refused memory, with memory at hand.
+//! Calls that allocate, with enough memory.
 
 use sv_message::{Field, replace_hosts};
 use sv_wire::{BodyEnd, BodyReader, Framing, Progress};

@@ -1,4 +1,4 @@
-//! Calls on an exchange, as the rows of tables spell them, and what is left behind them.
+//! Calls on an exchange, as the rows of tables write them, and their results.
 
 use crate::requests::exchange;
 use std::alloc::Global;
@@ -12,7 +12,7 @@ use sv_web::{
     set_cookie,
 };
 
-/// What a table calls.
+/// The call that a table makes.
 #[derive(Clone, Copy)]
 pub enum Call {
     AskedVerb,
@@ -21,8 +21,9 @@ pub enum Call {
     Redirect,
 }
 
-/// Writes the answer to a row's call on a request by that method, and behind it the status, the fields and the body of the response. Before
-/// the call nothing was done (`open`), the response was flushed (`flushed`), or an include began (`include`), as the first cell says.
+/// Writes the answer to a row's call on a request with this method, followed by the status, the fields and the body of
+/// the response. The first cell gives the state before the call: unchanged (`open`), flushed (`flushed`), or within an
+/// include (`include`).
 pub fn answer_all(
     alloc: Global,
     method: &str,
@@ -38,7 +39,7 @@ pub fn answer_all(
     told.add_to(answer)
 }
 
-/// Writes the value of the cookie of that name in a request with those lines, and `-` where there is none.
+/// Writes the value of the cookie of this name in a request with these header lines, or `-` if there is none.
 pub fn answer_cookie(
     alloc: Global,
     lines: &str,
@@ -106,7 +107,7 @@ fn tell_call(alloc: Global, exchange: &mut Exchange, call: Call, row: &str, told
     }
 }
 
-/// Asks for the verb, where the servlet answers those of the list's names.
+/// Returns the verb of the request, if it is in this list. An unknown list is empty.
 fn asked(alloc: Global, exchange: &mut Exchange, allowed: &str) -> Result<Option<Verb>, Fault> {
     match allowed {
         "GET" => asked_verb(alloc, exchange, &[Verb::Get]),
@@ -116,7 +117,7 @@ fn asked(alloc: Global, exchange: &mut Exchange, allowed: &str) -> Result<Option
     }
 }
 
-/// A cookie of a row, where `-` stands for no path and no age.
+/// Returns the cookie of a row. A path or an age of `-` means none.
 fn new_cookie<'a>(row: &'a str) -> NewCookie<'a> {
     let path = cell(row, 3);
     let words = cell(row, 5);
@@ -206,7 +207,7 @@ fn tell_sent(sent: Result<(), ExchangeFault>, told: &mut Draft) {
     }
 }
 
-/// Tells the status, the fields and the body, which is not told where it was flushed.
+/// Adds the status, the fields and the body, except for a flushed body.
 fn tell_response(response: &Response, told: &mut Draft) {
     told.add(" | ");
     told.add_shown(&response.status);

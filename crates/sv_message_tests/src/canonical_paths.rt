@@ -5,7 +5,7 @@ use std::test::Fail;
 use sv_rows::{Strays, hold};
 use sv_uri::canon;
 
-/// Target, path or fault, query (`-` for none).
+/// The columns: target; path or fault; query, or `-` for none.
 const ROWS: &str = r#"
 -- RFC 3986, section 5.2.4: the two worked examples, the second with the slash that a target needs
 /a/b/c/./../../g            | /a/g            | -

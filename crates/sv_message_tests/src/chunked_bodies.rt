@@ -1,9 +1,10 @@
-//! Bodies in chunks, and the items that an inbox reads from them.
+//! Chunked bodies, and the items that an inbox reads from them.
 
 use crate::streams::CHUNKED;
 use sv_rows::{Strays, hold};
 
-/// What stands behind a head whose body comes in chunks, items, what the end means. `@` stands for the message without its body.
+/// The columns: the bytes after a head with a chunked body; items; meaning of the end. `@` means the message without
+/// its body.
 const ROWS: &str = r#"
 -- RFC 9112, section 7.1: chunks, each a size line, its bytes and CRLF, behind them a last chunk of size 0
 0\r\n\r\n                                    | @                              | Clean

@@ -1,4 +1,4 @@
-//! Long streams, and how much is read from them.
+//! Long streams, and the amount that is read from them.
 
 ghost use Rattle.std.specs.Prelude.{◌<◌};
 
@@ -7,10 +7,10 @@ use std::alloc::Global;
 use sv_rows::{Asks, Draft, add_unescaped, cell};
 use sv_text::NoMemory;
 
-/// How much is read from a row's stream, in pieces of several sizes.
+/// Answers with the amount that is read from a row's stream, in pieces of several sizes.
 #[derive(Drop)]
 pub struct Counts {
-    /// What stands before the row's stream.
+    /// The bytes before the row's stream.
     pub head: &'static [u8],
 }
 
@@ -27,10 +27,11 @@ impl Asks for Counts {
 }
 
 impl Counts {
-    /// What is told of a stream, and how long it is behind the head.
+    /// Returns the length of the stream after the head and the result of reading it, with a note if it depends on the
+    /// sizes of the pieces.
     fn found(&self, alloc: Global, stream: &[u8]) -> Result<Draft, NoMemory> {
         let (front, back) = stream.split_at(stream.len().saturating_sub(8));
-        // The stream comes as one piece, but for its last eight bytes, which come one by one.
+        // The stream arrives as one piece, except for its last eight bytes, which arrive one by one.
         let told = told(alloc, front, back, 1)?;
         let mut found = Draft::new(alloc);
         found.add_shown(&stream.len().saturating_sub(self.head.len()));
@@ -43,7 +44,8 @@ impl Counts {
     }
 }
 
-/// Whether that is told of a stream in pieces of equal sizes, of one byte where it is short.
+/// Returns whether reading a stream in pieces of equal size gives this result. The sizes are 1 byte (1,000 bytes for a
+/// stream of 100,000 bytes or more), 65,535 and 65,536 bytes.
 fn is_told(alloc: Global, stream: &[u8], wanted: &[u8]) -> bool {
     let least = if stream.len() < 100_000 { 1 } else { 1000 };
     is_told_of(alloc, stream, least, wanted)
@@ -51,7 +53,7 @@ fn is_told(alloc: Global, stream: &[u8], wanted: &[u8]) -> bool {
         && is_told_of(alloc, stream, 65_536, wanted)
 }
 
-/// Whether that is told of a stream in pieces of a size.
+/// Returns whether reading a stream in pieces of this size gives this result.
 fn is_told_of(alloc: Global, stream: &[u8], size: usize, wanted: &[u8]) -> bool
     requires { 0 < size }
 {
@@ -61,8 +63,8 @@ fn is_told_of(alloc: Global, stream: &[u8], size: usize, wanted: &[u8]) -> bool
     }
 }
 
-/// The refusal, or how many messages there are where there is none, and behind a bar what the end means. The stream comes in two parts,
-/// the second in pieces of a size.
+/// Returns the refusal, or else the number of messages and of bytes in bodies; and, after a bar, the meaning of the
+/// end. The stream has two parts, the second in pieces of this size.
 fn told(alloc: Global, front: &[u8], back: &[u8], size: usize) -> Result<Vec<u8>, NoMemory>
     requires { 0 < size }
 {

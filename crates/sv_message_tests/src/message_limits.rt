@@ -1,10 +1,11 @@
-//! The limits of heads and bodies, from both sides.
+//! The limits of heads and bodies: values just within and just beyond each.
 
 use crate::counts::Counts;
 use crate::streams::CHUNKED;
 use sv_rows::{Strays, hold};
 
-/// Stream with repeated parts, its length, what is read of it, what its end means. A fault's name stands for its refusal.
+/// The columns: stream with repeated parts; its length; result of reading it, or the name of a fault that refuses it;
+/// meaning of the end.
 const ROWS: &str = r#"
 -- the end of a head lies within its first 65,536 bytes
 GET / HTTP/1.1\r\nHost: h\r\nA: \{65503*b}\r\n\r\n                          | 65535   | 1 read, 0 in bodies        | Clean
@@ -72,7 +73,7 @@ POST / HTTP/1.1\r\nHost: h\r\nContent-Length: 1048577\r\n\r\n               | 53
 \{200*POST / HTTP/1.1\r\nHost: h\r\nContent-Length: 1\r\nExpect: 100-continue\r\n\r\nx} | 14000   | 200 read, 200 in bodies    | Clean
 "#;
 
-/// The same of what stands behind a head whose body comes in chunks.
+/// The same columns for the bytes after a head with a chunked body.
 const CHUNK_ROWS: &str = r#"
 -- a size line ends within 256 bytes
 \{255*0}                                                                    | 255     | 0 read, 0 in bodies        | Truncated

@@ -1,10 +1,10 @@
-//! What tables and their rows say.
+//! The form of tables and their rows.
 
 use std::alloc::Global;
 use sv_rows::{Asks, Strays, cell, hold, unescaped};
 use sv_text::NoMemory;
 
-/// Echoes the first two cells of a row.
+/// Answers with the first cell of a row, its escapes read, and `-`.
 struct Echo;
 
 impl Asks for Echo {

@@ -1,4 +1,4 @@
-//! What an inbox reads from a stream that comes in pieces.
+//! The items that an inbox reads from a stream in pieces.
 
 ghost use Rattle.std.specs.Prelude.{◌<◌};
 
@@ -7,21 +7,21 @@ use sv_message::{Field, Message, Target};
 use sv_rows::Draft;
 use sv_wire::{Ended, Inbox, Item, WireFault};
 
-/// What is read of a stream.
+/// The result of reading a stream.
 #[derive(Drop)]
 pub struct Reading {
-    /// The texts of the items, with `, ` between them.
+    /// The texts of the items, separated by `, `.
     pub items: Draft,
     pub messages: u64,
-    /// How many bytes the bodies have.
+    /// Number of bytes in the bodies.
     pub content: u64,
     pub refusal: Option<WireFault>,
-    /// What the end of the stream means.
+    /// The meaning of the end of the stream.
     pub end: &'static str,
 }
 
 impl Reading {
-    /// Reads a stream that comes in two parts, the second in pieces of a size.
+    /// Reads a stream of two parts, the second in pieces of this size.
     pub fn of(alloc: Global, front: &[u8], back: &[u8], size: usize) -> Reading
         requires { 0 < size }
     {
@@ -84,7 +84,7 @@ fn end_of(inbox: &mut Inbox) -> &'static str {
     }
 }
 
-/// Adds a message as method, target, version, `keep` or `close`, its fields in brackets, and its body.
+/// Adds a message: method, target, version, `keep` or `close`, the fields in brackets, and the body.
 fn add_message(draft: &mut Draft, message: &Message) {
     draft.add(message.method.as_str());
     draft.add(" ");

@@ -1,4 +1,4 @@
-//! The request on which calls are made.
+//! The request of a row's call.
 
 use http::Method;
 use http_header::{HeaderName, HeaderValue};
@@ -9,7 +9,7 @@ use sv_text::{Bytes, Listed};
 use sv_uri::path::Canon;
 use sv_web::{Exchange, Field, NoMemory, Text};
 
-/// The exchange of a request by that method with those lines, for `/app/a`, where `/app` is the context.
+/// Returns the exchange of a request for `/app/a` with this method and these header lines. The context is `/app`.
 pub fn exchange(alloc: Global, method: &str, lines: &str) -> Result<Exchange, NoMemory> {
     let message = message(alloc, method, lines)?;
     let canon = canon(alloc)?;
@@ -60,7 +60,7 @@ fn message(alloc: Global, method: &str, lines: &str) -> Result<Message, NoMemory
     })
 }
 
-/// The fields of lines with `&` between them.
+/// Returns the fields of header lines, separated by `&`.
 fn fields(alloc: Global, lines: &str) -> Result<Vec<Field>, NoMemory> {
     let mut fields = Vec::new(alloc);
     for line in lines.split('&') {
@@ -71,7 +71,7 @@ fn fields(alloc: Global, lines: &str) -> Result<Vec<Field>, NoMemory> {
     Ok(fields)
 }
 
-/// A field of a name and a value that are valid.
+/// Returns a field. The name and the value must be valid.
 fn field(alloc: Global, name: &[u8], value: &[u8]) -> Result<Field, NoMemory> {
     let Ok(name) = HeaderName::from_bytes(alloc, name) else {
         return Err(NoMemory);

@@ -3,7 +3,8 @@
 use crate::responses::Responses;
 use sv_rows::{Strays, hold};
 
-/// Status, fields with `\n` between them, session cookie with its path, seconds and flag, body, how it is written and when, text.
+/// The columns: status; fields separated by `\n`; session cookie with path, seconds and flag; body; how and when it is
+/// written; text.
 const ROWS: &str = r#"
 -- RFC 9112, sections 4 and 5: status line, date, fields, length, empty line, body
 200   | content-type: text/plain   | - | caller -\n   | whole close 0  | HTTP/1.1 200 OK\r\ndate: Thu, 01 Jan 1970 00:00:00 GMT\r\ncontent-type: text/plain\r\ncontent-length: 9\r\nconnection: close\r\n\r\ncaller -\n
@@ -154,7 +155,7 @@ const ROWS: &str = r#"
 200 | "" | - | "" | head keep 18446744073709551615 | HTTP/1.1 200 OK\r\ndate: Fri, 31 Dec 9999 23:59:59 GMT\r\ncontent-length: 0\r\n\r\n
 "#;
 
-/// The same of bodies in pieces.
+/// The same columns for bodies in pieces.
 const PIECES: &str = r#"
 -- RFC 9112, sections 6.1 and 7.1: chunks in place of a length, each with its size in hexadecimal, and the last one with an empty trailer
 200 | content-type: text/plain | - | flushed 1.1: one\n/two\n | whole keep 0 | HTTP/1.1 200 OK\r\ndate: Thu, 01 Jan 1970 00:00:00 GMT\r\ncontent-type: text/plain\r\ntransfer-encoding: chunked\r\n\r\n4\r\none\n\r\n4\r\ntwo\n\r\n0\r\n\r\n

@@ -1,4 +1,4 @@
-//! What is written of a response.
+//! The texts of responses.
 
 use http::{HeaderName, HeaderValue};
 use std::alloc::Global;
@@ -7,7 +7,7 @@ use sv_rows::{Asks, cell, unescaped};
 use sv_text::{Bytes, Listed, NoMemory, Text};
 use sv_wire::{DateText, Field, write_response};
 
-/// The text of a response, which is written behind a word.
+/// Answers with the text of a response, which is appended to a word that the output already holds.
 pub struct Responses;
 
 impl Asks for Responses {
@@ -21,7 +21,7 @@ impl Asks for Responses {
     }
 }
 
-/// A response written behind a word, where its status can be written.
+/// Returns a word, followed by the text of the response if its status can be written.
 fn written(alloc: Global, response: &Response, manner: &str) -> Result<Vec<u8>, NoMemory> {
     let (part, rest) = manner.split_once(' ').unwrap_or((manner, ""));
     let (after, moment) = rest.split_once(' ').unwrap_or((rest, ""));
@@ -36,7 +36,7 @@ fn written(alloc: Global, response: &Response, manner: &str) -> Result<Vec<u8>, 
     Ok(output)
 }
 
-/// The response of a row.
+/// Returns the response of a row.
 fn response_of(alloc: Global, row: &str) -> Result<Response, NoMemory> {
     let body = body_of(alloc, cell(row, 3))?;
     let cookie = cookie_of(alloc, cell(row, 2))?;
@@ -49,7 +49,8 @@ fn response_of(alloc: Global, row: &str) -> Result<Response, NoMemory> {
     })
 }
 
-/// The body of a cell: whole, or in pieces with `/` between them, behind a word for whether it broke off and the version of the client.
+/// Returns the body of a cell. A body in pieces begins with `flushed` or `broken`, the version of the client and a
+/// colon, and its pieces are separated by `/`. Any other cell is a whole body.
 fn body_of(alloc: Global, cell: &str) -> Result<Body, NoMemory> {
     let (words, pieces) = cell.split_once(": ").unwrap_or(("", cell));
     let (ending, version) = words.split_once(' ').unwrap_or(("", ""));
@@ -63,7 +64,7 @@ fn body_of(alloc: Global, cell: &str) -> Result<Body, NoMemory> {
     })
 }
 
-/// The pieces of a text, of which the last was not flushed.
+/// Returns the pieces of a text, separated by `/`. The last one was not flushed.
 fn pieces_of(alloc: Global, text: &str) -> Result<Pieces, NoMemory> {
     let mut flushed = Vec::new(alloc);
     let (front, rest) = text.rsplit_once('/').unwrap_or(("", text));
@@ -73,7 +74,7 @@ fn pieces_of(alloc: Global, text: &str) -> Result<Pieces, NoMemory> {
     Ok(Pieces::of(flushed, unescaped(alloc, rest)?))
 }
 
-/// The fields of a cell. One that is no field is left out.
+/// Returns the fields of a cell, ignoring lines that are not fields.
 fn fields_of(alloc: Global, cell: &str) -> Result<Vec<Field>, NoMemory> {
     let mut fields = Vec::new(alloc);
     for line in cell.split("\\n") {
@@ -84,7 +85,7 @@ fn fields_of(alloc: Global, cell: &str) -> Result<Vec<Field>, NoMemory> {
     Ok(fields)
 }
 
-/// The field of a line, if it is one.
+/// Returns the field of a line, if it is one.
 fn field_of(alloc: Global, line: &str) -> Result<Option<Field>, NoMemory> {
     let (name, value) = line.split_once(": ").unwrap_or((line, ""));
     let value = unescaped(alloc, value)?;
@@ -97,7 +98,8 @@ fn field_of(alloc: Global, line: &str) -> Result<Option<Field>, NoMemory> {
     Ok(Some(Field { name, value }))
 }
 
-/// The cookie of a cell, if it has one: its name and id, its path, and words for the seconds that it is kept and that it is kept from scripts.
+/// Returns the cookie of a cell, if it has one: `NAME=ID at PATH`, then the maximum age in seconds, and `HttpOnly` if
+/// scripts cannot read it.
 fn cookie_of(alloc: Global, cell: &str) -> Result<Rare<Cookie>, NoMemory> {
     let Some((name, rest)) = cell.split_once('=') else {
         return Ok(Rare::none());

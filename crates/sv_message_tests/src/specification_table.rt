@@ -3,7 +3,8 @@
 use crate::targets::Compared;
 use sv_rows::{Strays, hold};
 
-/// Target, the standard's path, whether it calls the target suspicious (400), our path or fault, and why ours differs.
+/// The columns: target; path of the standard; `400` if the standard calls the target suspicious; our path or fault;
+/// reason for a difference.
 const ROWS: &str = r#"
 foo/bar                   | /foo/bar            | 400 | NoSlash        | -
 /foo/bar                  | /foo/bar            | -   | /foo/bar       | -

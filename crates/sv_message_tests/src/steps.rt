@@ -1,10 +1,10 @@
-//! The steps of faults, as the rows of tables spell them.
+//! The steps of faults, as the rows of tables write them.
 
 use std::alloc::Global;
 use sv_rows::{Draft, cell};
 use sv_web::{ExchangeFault, Fault, NoMemory, Step, Text, step_of};
 
-/// Writes the step of the fault that a row has.
+/// Writes the step of a row's fault.
 pub fn answer_step(alloc: Global, row: &str, answer: &mut Vec<u8>) -> Result<(), NoMemory> {
     let mut told = Draft::new(alloc);
     match fault_of(alloc, row) {

@@ -1,4 +1,4 @@
-//! Streams that are cut, and the items that are read from them.
+//! Streams in pieces, and the items that are read from them.
 
 ghost use Rattle.std.specs.Prelude.{◌<◌};
 
@@ -7,31 +7,32 @@ use std::alloc::Global;
 use sv_rows::{Asks, Draft, add_unescaped, cell};
 use sv_text::NoMemory;
 
-/// The items of a row's stream, and what its end means, however it is cut, alone and behind a good request.
+/// Answers with the items of a row's stream and the meaning of its end. They must be the same however the stream is
+/// cut, both by itself and after a valid request.
 #[derive(Drop)]
 pub struct Streams {
-    /// What stands before the row's stream.
+    /// The bytes before the row's stream.
     pub head: &'static [u8],
-    /// The message of that head without its body, for which `@` stands. It is empty where there is no such head.
+    /// The message of that head without its body, which the rows write as `@`. Empty if there is no head.
     message: &'static [u8],
 }
 
-/// The rows are whole streams.
+/// Each row is a whole stream.
 pub const PLAIN: Streams = Streams {
     head: b"",
     message: b"",
 };
 
-/// The rows stand behind a head whose body comes in chunks.
+/// Each row follows a head with a chunked body.
 pub const CHUNKED: Streams = Streams {
     head: b"POST / HTTP/1.1\r\nHost: h\r\nTransfer-Encoding: chunked\r\n\r\n",
     message: b"POST / 1.1 keep [host=h transfer-encoding=chunked]",
 };
 
-/// A request that is read wherever it stands.
+/// A valid request.
 const GOOD: &[u8] = b"GET /good HTTP/1.1\r\nHost: g\r\n\r\n";
 
-/// Its item, with a comma behind it where another follows.
+/// Its item, if it is the last one; and its item with a comma, if another one follows.
 const GOOD_ALONE: &[u8] = b"GET /good 1.1 keep [host=g]";
 
 const GOOD_BEFORE: &[u8] = b"GET /good 1.1 keep [host=g], ";
@@ -49,7 +50,7 @@ impl Asks for Streams {
 }
 
 impl Streams {
-    /// What is told of a stream.
+    /// Returns the result of reading a stream, with a note if it depends on the cuts or on a preceding request.
     fn found(&self, alloc: Global, stream: &[u8]) -> Result<Draft, NoMemory> {
         let told = told(alloc, b"", stream, 1)?;
         let told = told.as_slice();
@@ -65,7 +66,7 @@ impl Streams {
     }
 }
 
-/// Adds the items with `@` for the message that they begin with.
+/// Adds the items, with `@` in place of the message that they begin with.
 fn add_told(found: &mut Draft, message: &[u8], told: &[u8]) {
     match told.strip_prefix(message) {
         Some(rest) if !message.is_empty() => {
@@ -76,7 +77,7 @@ fn add_told(found: &mut Draft, message: &[u8], told: &[u8]) {
     }
 }
 
-/// Whether that is told of a stream however it is cut in two.
+/// Returns whether a stream gives this result for each cut into two parts.
 fn is_told(alloc: Global, stream: &[u8], wanted: &[u8]) -> bool {
     for (cut, _) in stream.iter().enumerate() {
         let (front, back) = stream.split_at(cut);
@@ -87,7 +88,7 @@ fn is_told(alloc: Global, stream: &[u8], wanted: &[u8]) -> bool {
     true
 }
 
-/// Whether that is told of a stream behind a good request, however both are cut in two, and byte by byte.
+/// Returns whether a stream after a valid request gives this result, for each cut into two parts and byte by byte.
 fn is_told_behind(alloc: Global, stream: &[u8], wanted: &[u8]) -> Result<bool, NoMemory> {
     let good = if wanted.starts_with(b" | ") {
         GOOD_ALONE
@@ -100,7 +101,7 @@ fn is_told_behind(alloc: Global, stream: &[u8], wanted: &[u8]) -> Result<bool, N
     Ok(is_told_of(alloc, b"", stream, 1, wanted) && is_told(alloc, stream, wanted))
 }
 
-/// Whether that is told of a stream that comes in two parts, the second in pieces of a size.
+/// Returns whether a stream of two parts, the second in pieces of this size, gives this result.
 fn is_told_of(alloc: Global, front: &[u8], back: &[u8], size: usize, wanted: &[u8]) -> bool
     requires { 0 < size }
 {
@@ -110,7 +111,8 @@ fn is_told_of(alloc: Global, front: &[u8], back: &[u8], size: usize, wanted: &[u
     }
 }
 
-/// The items of a stream and behind a bar what its end means. It comes in two parts, the second in pieces of a size.
+/// Returns the items of a stream and, after a bar, the meaning of its end. The stream has two parts, the second in
+/// pieces of this size.
 fn told(alloc: Global, front: &[u8], back: &[u8], size: usize) -> Result<Vec<u8>, NoMemory>
     requires { 0 < size }
 {

@@ -1,4 +1,4 @@
-//! What is answered where memory is ample.
+//! The answers to calls, with enough memory.
 
 use crate::calls::{Call, answer_all, answer_cookie, answer_link};
 use crate::steps::answer_step;
@@ -6,7 +6,7 @@ use std::alloc::Global;
 use sv_rows::{Asks, Draft, Strays, cell, hold, unescaped_text};
 use sv_web::{NoMemory, escape_html};
 
-/// A text, and the page that shows it.
+/// The columns: text; page that shows it.
 const TEXTS: &str = r#"
 -- HTML Standard, sections 13.1.2.3, 13.1.4 and 13.5: what begins a tag, a reference, or ends a value in quotes, as a reference to that character
 a < b > c && d        | a &lt; b &gt; c &amp;&amp; d
@@ -17,7 +17,7 @@ say "it's"            | say &quot;it&#39;s&quot;
 ""                    | ""
 "#;
 
-/// What was done before, the name, the value, the path, the age, other attributes; the answer, the status with the fields, and the body.
+/// The columns: state before the call; name; value; path; age; other attributes; answer; status with the fields; body.
 const COOKIES: &str = r#"
 -- RFC 6265, section 4.1.1: a name and a value, and each attribute
 open    | SID | 31d4d96e | -    | -  | ""                         | true  | 200 set-cookie: SID=31d4d96e | ""
@@ -48,7 +48,8 @@ flushed | n   | v        | -    | -  | ""                         | false | 200 
 include | n   | v        | -    | -  | ""                         | false | 200 | ""
 "#;
 
-/// What was done before, the method, the methods that are answered; the one that is asked for, the status with the fields, and the body.
+/// The columns: state before the call; method; methods that the servlet answers; requested verb, or `-` if it is not
+/// answered; status with the fields; body.
 const METHODS: &str = r#"
 -- Jakarta Servlet 6.0, section 2.1.1; RFC 9110, section 9.3.2: HEAD is as GET
 open    | GET     | GET              | Get    | 200 | ""
@@ -67,7 +68,8 @@ open    | get     | GET              | -      | 405 allow: GET, HEAD, OPTIONS | 
 include | DELETE  | GET              | -      | 200 | ""
 "#;
 
-/// What was done before, the media type (`text` and `html` by their own calls), what is sent; the answer, the status with the fields, and the body.
+/// The columns: state before the call; media type (`text` and `html` have their own calls); content; answer; status
+/// with the fields; body.
 const SENDS: &str = r#"
 -- RFC 9110, section 8.3; RFC 2046, section 4.1.2: the charset of a text
 open    | application/json | {}      | sent      | 200 content-type: application/json | {}
@@ -80,8 +82,8 @@ open    | a\r\nb: c        | {}      | BadHeader | 200 | ""
 include | html             | <p>     | sent      | 200 | <p>
 "#;
 
-/// What was done before, the status (`-` for 302, and a location that may be of another site), the location; the answer, the status with the
-/// fields, and the body.
+/// The columns: state before the call; status, or `-` for 302 with a location that may be on another site; location;
+/// answer; status with the fields; body.
 const REDIRECTS: &str = r#"
 -- RFC 9110, sections 10.2.2 and 15.4; RFC 3986, section 4.2: a path with one slash in front
 open    | 301 | /              | true  | 301 location: / | ""
@@ -114,7 +116,7 @@ flushed | 302 | /a             | false | 200 | ""
 include | -   | http://h/a     | false | 200 | ""
 "#;
 
-/// A path in the context `/app`; its location.
+/// The columns: path in the context `/app`; its location.
 const LINKS: &str = r#"
 -- Jakarta Servlet 6.0, section 3.5; RFC 3986, sections 2.1, 3.3 and 3.4: what a path has not, and what would end or part it
 /form           | /app/form
@@ -125,7 +127,7 @@ const LINKS: &str = r#"
 /<'"&@:=+,\\   | /app/%3C'%22&@:=+,%5C
 "#;
 
-/// A fault with its code or its kind, and its text; the step.
+/// The columns: fault with its code or kind, and its text; step.
 const FAULTS: &str = r#"
 -- Jakarta Servlet 6.0, sections 2.3.3 and 10.9
 Error       | 404  | Not Found | Error  | 404 | Not Found
@@ -137,7 +139,7 @@ NoSession   | -    | -         | Failed | NoSession | NoSession
 NoMemory    | -    | -         | NoMemory
 "#;
 
-/// The lines of the request, with `&` between them; the name of a cookie; its value.
+/// The columns: header lines of the request, separated by `&`; name of a cookie; its value.
 const SENT_COOKIES: &str = r#"
 -- RFC 6265, sections 4.2.1 and 5.4: pairs with `; ` between them
 Cookie: a=1; b=2                | b   | 2
@@ -202,7 +204,7 @@ fn a_fault_is_a_step(rt: HostRuntime) -> Result<(), Strays> {
     hold(&rt, &[FAULTS], &Faults)
 }
 
-/// The page of a text.
+/// Answers with the page of a text.
 struct Texts;
 
 impl Asks for Texts {
@@ -219,7 +221,7 @@ impl Asks for Texts {
     }
 }
 
-/// The answer to a GET that sets a cookie.
+/// Answers with the result of setting a cookie in the response to a GET.
 struct Cookies;
 
 impl Asks for Cookies {
@@ -231,7 +233,7 @@ impl Asks for Cookies {
     }
 }
 
-/// The cookie of a request.
+/// Answers with a cookie of a request.
 struct SentCookies;
 
 impl Asks for SentCookies {
@@ -243,7 +245,7 @@ impl Asks for SentCookies {
     }
 }
 
-/// The answer to a request, by its method.
+/// Answers with the verb that is read from a request.
 struct Methods;
 
 impl Asks for Methods {
@@ -254,7 +256,7 @@ impl Asks for Methods {
     }
 }
 
-/// The answer to a GET that is sent whole.
+/// Answers with the result of sending content in response to a GET.
 struct Sends;
 
 impl Asks for Sends {
@@ -266,7 +268,7 @@ impl Asks for Sends {
     }
 }
 
-/// The answer to a GET that leads elsewhere.
+/// Answers with the result of redirecting a GET.
 struct Redirects;
 
 impl Asks for Redirects {
@@ -278,7 +280,7 @@ impl Asks for Redirects {
     }
 }
 
-/// The location of a path.
+/// Answers with the location of a path.
 struct Links;
 
 impl Asks for Links {
@@ -290,7 +292,7 @@ impl Asks for Links {
     }
 }
 
-/// The step of a fault.
+/// Answers with the step of a fault.
 struct Faults;
 
 impl Asks for Faults {

@@ -1,4 +1,4 @@
-//! What a target is read as.
+//! The canonical paths of targets.
 
 use std::alloc::Global;
 use sv_rows::{Asks, cell, unescaped};
@@ -6,7 +6,7 @@ use sv_text::{NoMemory, Text};
 use sv_uri::canon;
 use sv_uri::fault::CanonFault;
 
-/// The canonical path of a target, and its query, `-` for none; or its fault and `-`.
+/// Answers with the canonical path of a target and its query, or `-` for none; or with its fault and `-`.
 pub struct Targets;
 
 impl Asks for Targets {
@@ -19,7 +19,7 @@ impl Asks for Targets {
     }
 }
 
-/// The path of a target, or its fault, and behind a bar its query, `-` for none.
+/// Returns the path of a target or its fault and, after a bar, its query, or `-` for none.
 fn read(alloc: Global, target: &str) -> Result<String, NoMemory> {
     let target = unescaped(alloc, target)?;
     match canon(alloc, target.as_slice()) {
@@ -32,8 +32,8 @@ fn read(alloc: Global, target: &str) -> Result<String, NoMemory> {
     }
 }
 
-/// The canonical path of a target or its fault, and whether that is the standard's answer, which the cells behind the target
-/// hold: `-`, or else the reason that the row gives.
+/// Answers with the canonical path of a target or its fault, and `-` if that is the standard's answer in the cells
+/// after the target. Otherwise the reason of the row follows.
 pub struct Compared;
 
 impl Asks for Compared {
@@ -49,7 +49,7 @@ impl Asks for Compared {
     }
 }
 
-/// What a row has to say of our answer: nothing where it is the standard's, and else why it differs.
+/// Returns `-` if our answer is the standard's, or else the reason that the row gives for the difference.
 fn reason<'a>(row: &'a str, ours: &str) -> &'a str {
     let reason = cell(row, 4);
     if is_standard_answer(ours, cell(row, 1), cell(row, 2)) {
@@ -61,7 +61,7 @@ fn reason<'a>(row: &'a str, ours: &str) -> &'a str {
     }
 }
 
-/// Whether our answer is a refusal of a suspicious target, or the standard's path of another one.
+/// Returns whether our answer is the standard's: a refusal if the target is suspicious, or else the same path.
 fn is_standard_answer(ours: &str, path: &str, suspicious: &str) -> bool {
     if suspicious == "400" {
         !ours.starts_with('/')

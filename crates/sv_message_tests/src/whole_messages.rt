@@ -4,7 +4,7 @@ use crate::streams::PLAIN;
 use crate::wire_items;
 use sv_rows::{Strays, hold};
 
-/// Stream, items, what its end means.
+/// The columns: stream; items; meaning of the end.
 const ROWS: &str = r#"
 -- RFC 9112, section 2.2: LF alone may end the lines of a head, and what stands behind the first empty line is the body
 POST / HTTP/1.1\nHost: h\nContent-Length: 3\n\nabc                         | POST / 1.1 keep [host=h content-length=3]abc   | Clean

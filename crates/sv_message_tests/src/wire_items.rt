@@ -3,7 +3,7 @@
 use std::alloc::Global;
 use sv_wire::{Ended, Inbox};
 
-/// Stream, items, what its end means.
+/// The columns: stream; items; meaning of the end.
 pub const ROWS: &str = r#"
 -- RFC 9112, section 2.1: request line, fields, empty line
 GET / HTTP/1.1\r\nHost: h\r\n\r\n                          | GET / 1.1 keep [host=h]                | Clean
@@ -156,7 +156,7 @@ fn an_inbox_is_spent_after_its_end(rt: HostRuntime) {
     assert!(rt; matches!(inbox.end(), Ended::Spent));
 }
 
-/// Whether an inbox reads no item from a piece.
+/// Returns whether an inbox accepts a piece and reads no item from it.
 fn gives_nothing(alloc: Global, inbox: &mut Inbox, piece: &[u8]) -> bool {
     let mut items = Vec::new(alloc);
     inbox.feed(piece, &mut items).is_ok() && items.is_empty()

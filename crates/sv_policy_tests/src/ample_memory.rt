@@ -1,4 +1,4 @@
-//! Each call that may be refused memory, with memory at hand.
+//! Calls that allocate, with enough memory.
 
 use crate::policies::texts_of;
 use std::test::Fail;

@@ -1,4 +1,4 @@
-//! Patterns, the best match of a path among them, by search and by look-ups, and how it splits the path.
+//! The best match of a path among patterns, by search and by look-up, and how it splits the path.
 
 use crate::policies::patterns_of;
 use std::alloc::Global;
@@ -6,7 +6,7 @@ use sv_mapping::{Pattern, PatternTable, best, split};
 use sv_rows::{Asks, Strays, cell, hold};
 use sv_text::NoMemory;
 
-/// Patterns in their order, path, best pattern (`-` for none), servlet path, path info (`-` for none).
+/// The columns: patterns in their order; path; best pattern, or `-` for none; servlet path; path info, or `-` for none.
 const ROWS: &str = r#"
 -- Servlet, section 12.2.2: the example mapping set
 /foo/bar/* /baz/* /catalog *.bop | /foo/bar/index.html  | /foo/bar/* | /foo/bar             | /index.html
@@ -132,7 +132,7 @@ fn the_best_pattern_of_a_path_splits_it(rt: HostRuntime) -> Result<(), Strays> {
     hold(&rt, &[ROWS], &BestMatches)
 }
 
-/// The best pattern of a path and how it splits the path.
+/// Answers with the best pattern of a path and how it splits the path.
 struct BestMatches;
 
 impl Asks for BestMatches {
@@ -169,7 +169,7 @@ fn told(alloc: Global, patterns: &[Pattern], path: &str) -> Result<String, NoMem
     Ok(format!(in alloc; "{text} | {servlet_path} | {path_info}")?)
 }
 
-/// The first place of a pattern with that text.
+/// Returns the first place of a pattern with this text.
 fn place_of(patterns: &[Pattern], text: &str) -> Option<usize> {
     for (place, pattern) in patterns.iter().enumerate() {
         if pattern.text() == text {
@@ -179,7 +179,8 @@ fn place_of(patterns: &[Pattern], text: &str) -> Option<usize> {
     None
 }
 
-/// Whether compiled patterns have this best match, by at most four look-ups more than the path has segments.
+/// Returns whether a look-up in compiled patterns gives this best match. It may take at most four probes more than the
+/// path has segments.
 fn is_looked_up(
     alloc: Global,
     patterns: &[Pattern],

@@ -5,24 +5,24 @@ use sv_rows::unescaped;
 use sv_session::{EndedSession, SessionFault, Sessions};
 use sv_text::{NoMemory, Text};
 
-/// The word of a call at a place from 0.
+/// Returns the word of a call at this place, counted from 0.
 fn word(call: &str, place: usize) -> &str {
     call.split_whitespace().nth(place).unwrap_or("")
 }
 
-/// The number at a place of a call.
+/// Returns the number at this place of a call, or 0 if there is none.
 fn number(call: &str, place: usize) -> u64 {
     word(call, place).parse::<u64>().unwrap_or(0)
 }
 
-/// The text at a place of a call, with its escapes read. `""` stands for the empty text.
+/// Returns the text at this place of a call, with its escapes read. `""` is the empty text.
 fn text(alloc: Global, call: &str, place: usize) -> Result<Text, NoMemory> {
     let word = word(call, place);
     let bytes = unescaped(alloc, if word == "\"\"" { "" } else { word })?;
     Text::copy_of(alloc, str::from_utf8(bytes.as_slice()).unwrap_or(""))
 }
 
-/// Makes a call that its first word names, and tells its answer.
+/// Makes the call that the first word names, and returns its answer.
 pub fn answer(alloc: Global, sessions: &mut Sessions, call: &str) -> Result<String, NoMemory> {
     match word(call, 0) {
         "crowd" => crowded(alloc, sessions, call),
@@ -38,7 +38,8 @@ pub fn answer(alloc: Global, sessions: &mut Sessions, call: &str) -> Result<Stri
     }
 }
 
-/// `open MOMENT [WORD WORD]`, `rename NUMBER [WORD WORD]`, `id NUMBER`, `least`, `judged`.
+/// The calls `open TIME [WORD WORD]`, `rename NUMBER [WORD WORD]`, `id NUMBER`, `least` and `judged`. The words are
+/// random words.
 fn identity(alloc: Global, sessions: &mut Sessions, call: &str) -> Result<String, NoMemory> {
     let words = (number(call, 2), number(call, 3));
     match word(call, 0) {
@@ -53,7 +54,7 @@ fn identity(alloc: Global, sessions: &mut Sessions, call: &str) -> Result<String
     }
 }
 
-/// `touch NUMBER MOMENT`, `expire MOMENT`, `end NUMBER`.
+/// The calls `touch NUMBER TIME`, `expire TIME` and `end NUMBER`.
 fn ending(alloc: Global, sessions: &mut Sessions, call: &str) -> Result<String, NoMemory> {
     match word(call, 0) {
         "touch" => told_flag(alloc, sessions.touch(number(call, 1), number(call, 2))),
@@ -62,7 +63,7 @@ fn ending(alloc: Global, sessions: &mut Sessions, call: &str) -> Result<String, 
     }
 }
 
-/// `ends`: each session that ends with all others, and the `-` behind them.
+/// The call `ends`: each session that ends when all end, and the `-` after them.
 fn all_ended(alloc: Global, sessions: &mut Sessions) -> Result<String, NoMemory> {
     let count = sessions.count();
     let mut ended = sessions.end_all();
@@ -75,7 +76,8 @@ fn all_ended(alloc: Global, sessions: &mut Sessions) -> Result<String, NoMemory>
     Ok(told)
 }
 
-/// `count MOMENT JUDGED`: an expiry before which so many records have been judged. The answer has the number with it last.
+/// The call `count TIME JUDGED`: an expiry after this number of records was judged. The new number comes last in the
+/// answer.
 fn counted(alloc: Global, sessions: &mut Sessions, call: &str) -> Result<String, NoMemory> {
     let counted = sessions.expire_counted(number(call, 1), number(call, 2));
     let mut told = told_ended(alloc, counted.ended)?;
@@ -83,7 +85,7 @@ fn counted(alloc: Global, sessions: &mut Sessions, call: &str) -> Result<String,
     Ok(told)
 }
 
-/// `get NUMBER NAME`, `remove NUMBER NAME`, `find ID`.
+/// The calls `get NUMBER NAME`, `remove NUMBER NAME` and `find ID`.
 fn named(alloc: Global, sessions: &mut Sessions, call: &str) -> Result<String, NoMemory> {
     let key = text(alloc, call, if word(call, 0) == "find" { 1 } else { 2 })?;
     match word(call, 0) {
@@ -93,13 +95,13 @@ fn named(alloc: Global, sessions: &mut Sessions, call: &str) -> Result<String, N
     }
 }
 
-/// `save NUMBER TARGET`.
+/// The call `save NUMBER TARGET`.
 fn saved(alloc: Global, sessions: &mut Sessions, call: &str) -> Result<String, NoMemory> {
     let target = text(alloc, call, 2)?;
     told_flag(alloc, sessions.save(number(call, 1), target))
 }
 
-/// `enter NUMBER CALLER` (`none` for none), `caller NUMBER`, `take NUMBER`.
+/// The calls `enter NUMBER CALLER` (`none` for no caller), `caller NUMBER` and `take NUMBER`.
 fn login(alloc: Global, sessions: &mut Sessions, call: &str) -> Result<String, NoMemory> {
     match word(call, 0) {
         "enter" => {
@@ -111,7 +113,7 @@ fn login(alloc: Global, sessions: &mut Sessions, call: &str) -> Result<String, N
     }
 }
 
-/// `set NUMBER NAME VALUE`.
+/// The call `set NUMBER NAME VALUE`.
 fn set(alloc: Global, sessions: &mut Sessions, call: &str) -> Result<String, NoMemory> {
     let (name, value) = (text(alloc, call, 2)?, text(alloc, call, 3)?);
     told_set(
@@ -120,7 +122,8 @@ fn set(alloc: Global, sessions: &mut Sessions, call: &str) -> Result<String, NoM
     )
 }
 
-/// `fill NUMBER COUNT`: as many attributes with the names `a0`, `a1` and so on, all with the value `v`. The answer is that to the last.
+/// The call `fill NUMBER COUNT`: sets this number of attributes, named `a0`, `a1` and so on, to the value `v`. Returns
+/// the last answer.
 fn filled(alloc: Global, sessions: &mut Sessions, call: &str) -> Result<String, NoMemory> {
     let mut last = String::new(alloc);
     for place in 0..number(call, 2) {
@@ -130,7 +133,7 @@ fn filled(alloc: Global, sessions: &mut Sessions, call: &str) -> Result<String, 
     Ok(last)
 }
 
-/// `crowd COUNT MOMENT`: as many sessions. The answer is that to the last.
+/// The call `crowd COUNT TIME`: opens this number of sessions. Returns the last answer.
 fn crowded(alloc: Global, sessions: &mut Sessions, call: &str) -> Result<String, NoMemory> {
     let mut last = Err(SessionFault::NoSuch);
     for _ in 0..number(call, 1) {
@@ -172,7 +175,7 @@ fn told_number(alloc: Global, number: Result<u64, SessionFault>) -> Result<Strin
     }
 }
 
-/// `new`, or `was` and the value that was there.
+/// Returns `new`, or `was` and the old value, or the fault.
 fn told_set(alloc: Global, old: Result<Option<Text>, SessionFault>) -> Result<String, NoMemory> {
     match old {
         Ok(None) => Ok(String::from_str(alloc, "new")?),
@@ -181,7 +184,7 @@ fn told_set(alloc: Global, old: Result<Option<Text>, SessionFault>) -> Result<St
     }
 }
 
-/// The number of the session that ended, and behind it its attributes in their order.
+/// Returns the number of the session that ended, followed by its attributes in order, or `-` if none ended.
 fn told_ended(alloc: Global, ended: Option<EndedSession>) -> Result<String, NoMemory> {
     let Some(ended) = ended else {
         return told_text(alloc, None);

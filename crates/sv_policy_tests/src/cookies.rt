@@ -1,4 +1,4 @@
-//! Held sessions by the Cookie fields of a request.
+//! The session that a request holds, from its Cookie fields.
 
 use crate::stores::sessions_after;
 use http_header::{HeaderName, HeaderValue};
@@ -9,10 +9,10 @@ use sv_rows::{Asks, Strays, cell, hold, unescaped};
 use sv_session::Sessions;
 use sv_text::NoMemory;
 
-/// Beside each other live the sessions 1 and 2 of this context; 3 has ended.
+/// The sessions 1 and 2 are alive; 3 has ended.
 const CALLS: &str = "open; open; open; end 3";
 
-/// The name of the cookie, the fields of a request with `&` between them, and the number of the session that it holds.
+/// The columns: name of the cookie; fields of a request, separated by `&`; number of the held session, or `-` for none.
 const ROWS: &str = r#"
 -- one cookie, or none (RFC 6265, section 4.2.1)
 JSESSIONID | Cookie: JSESSIONID=\{47*0}1                                        | 1
@@ -46,7 +46,7 @@ JSESSIONID | Cookie: XJSESSIONID=\{47*0}1; JSESSIONIDX=\{47*0}1                 
 SID        | Cookie: JSESSIONID=\{47*0}1; SID=\{47*0}2                          | 2
 "#;
 
-/// The same.
+/// The same columns.
 const DOUBLES: &str = r#"
 -- of several the first that is the id of a session that lives
 JSESSIONID | Cookie: JSESSIONID=\{47*0}1; JSESSIONID=\{47*0}2                   | 1
@@ -74,7 +74,7 @@ fn the_first_cookie_of_the_name_that_is_an_id_names_the_session(
     hold(&rt, &[ROWS, DOUBLES], &Held(sessions))
 }
 
-/// The session that the fields of a row hold.
+/// Answers with the session that the fields of a row hold.
 #[derive(Drop)]
 struct Held(Sessions);
 

@@ -1,12 +1,12 @@
-//! Names and passwords against a realm of users.
+//! Checks of names and passwords in a realm of users.
 
 use std::alloc::Global;
 use sv_realm::{Caller, MAX_USERS, Realm, User};
 use sv_rows::{Asks, Draft, Strays, cell, hold, unescaped};
 use sv_text::{Bytes, Listed, NoMemory, Text};
 
-/// Users in their order: name, salt, digest, role. The digest is SHA-256 of `abc` (FIPS 180-4, the one-block example), but for that
-/// of `short`, which lacks the last byte, and that of `late`, whose last byte is another.
+/// Users in their order: name, salt, digest, role. The digest is SHA-256 of `abc` (FIPS 180-4, the one-block example).
+/// That of `short` lacks the last byte, and that of `late` differs in the last byte.
 const USERS: &str = r#"
 short | a   | \xba\x78\x16\xbf\x8f\x01\xcf\xea\x41\x41\x40\xde\x5d\xae\x22\x23\xb0\x03\x61\xa3\x96\x17\x7a\x9c\xb4\x10\xff\x61\xf2\x00\x15 | a
 ann   | a   | \xba\x78\x16\xbf\x8f\x01\xcf\xea\x41\x41\x40\xde\x5d\xae\x22\x23\xb0\x03\x61\xa3\x96\x17\x7a\x9c\xb4\x10\xff\x61\xf2\x00\x15\xad | b
@@ -16,8 +16,8 @@ plain | ""  | \xba\x78\x16\xbf\x8f\x01\xcf\xea\x41\x41\x40\xde\x5d\xae\x22\x23\x
 late  | a   | \xba\x78\x16\xbf\x8f\x01\xcf\xea\x41\x41\x40\xde\x5d\xae\x22\x23\xb0\x03\x61\xa3\x96\x17\x7a\x9c\xb4\x10\xff\x61\xf2\x00\x15\xac | f
 "#;
 
-/// Name, password, and the number, name and roles of the caller whom they give, `-` for none. Behind `find` and `caller`
-/// stand a name and a number alone.
+/// The columns: call; name, or number for `caller`; password for `check`; number, name and roles of the caller, or `-`
+/// for none.
 const ROWS: &str = r#"
 -- salt `a` and password `bc` are `abc`; of equal names the first counts
 check  | ann    | bc  | 1 ann b
@@ -46,7 +46,7 @@ fn a_password_gives_the_named_caller_where_its_digest_fits(rt: HostRuntime) -> R
     hold(&rt, &[ROWS], &Callers(realm(rt.alloc())?))
 }
 
-/// The caller of a realm.
+/// Answers with a caller of the realm.
 #[derive(Drop)]
 struct Callers(Realm);
 
@@ -80,7 +80,7 @@ fn told(alloc: Global, caller: Option<&Caller>) -> Draft {
     text
 }
 
-/// The realm of the users.
+/// Returns the realm of the users.
 fn realm(alloc: Global) -> Result<Realm, NoMemory> {
     let mut users = Vec::new(alloc);
     for row in USERS.trim().lines() {

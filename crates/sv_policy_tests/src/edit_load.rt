@@ -1,4 +1,4 @@
-//! What an edit costs beside constraints that it does not touch.
+//! The cost of an edit, with many constraints that it does not affect.
 
 use crate::numbered::{add_numbered, finished};
 use crate::policies::policy_of;
@@ -10,14 +10,14 @@ use sv_policy::Policy;
 use sv_rows::Draft;
 use sv_text::NoMemory;
 
-/// Constraints on the same patterns.
+/// Number of constraints on the same patterns.
 const BESIDE: u32 = 500;
 
 const PATTERNS: u32 = 64;
 
 const ROLES: u32 = 100;
 
-/// Of so many edits the fastest counts.
+/// Number of edits. The fastest one counts.
 const EDITS: u32 = 5;
 
 #[test]
@@ -30,7 +30,8 @@ fn an_edit_elsewhere_costs_at_most_a_quarter(rt: HostRuntime) -> Result<(), Fail
     Ok(())
 }
 
-/// Constraints on the same patterns with the same roles, and behind them as many as there are edits, each on a pattern of its own.
+/// Returns constraints on the same patterns, followed by one constraint on its own pattern for each edit. All have the
+/// same roles.
 fn constraints(alloc: Global) -> Result<String, NoMemory> {
     let mut text = Draft::new(alloc);
     for number in 0..BESIDE + EDITS {
@@ -49,7 +50,7 @@ fn constraints(alloc: Global) -> Result<String, NoMemory> {
     finished(alloc, text)
 }
 
-/// The least time of withdrawing one of the constraints behind so many.
+/// Withdraws the [`EDITS`] constraints that follow this number of constraints, and returns the shortest time.
 fn least_withdrawal<R: Clock>(
     rt: &R,
     alloc: Global,

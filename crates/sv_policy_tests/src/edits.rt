@@ -1,4 +1,4 @@
-//! Edits of a policy: what each answers, how many patterns were rebuilt so far, and what is decided then.
+//! Edits of a policy: the answer to each, the number of patterns rebuilt so far, and decisions after it.
 
 use crate::policies::{caller_of, constraint_of, policy_of};
 use std::alloc::Global;
@@ -7,8 +7,8 @@ use sv_policy::{EditFault, NewConstraint, Policy};
 use sv_rows::{Asks, Draft, Strays, cell, hold};
 use sv_text::NoMemory;
 
-/// Constraints, rules, steps, and what each step answers. A step is `append` and a constraint, which may be appended so many
-/// times, `withdraw` and a number, or a request, which may come by a caller.
+/// The columns: constraints; rules; steps; answer to each step. A step is `append` and a constraint, which `COUNT
+/// times` may precede, `withdraw` and a number, or a request, with or without a caller.
 const ROWS: &str = r#"
 -- section 13.8: a constraint covers from when it is appended until it is withdrawn, and a pattern goes with the last that lists it
 manager on /*; manager on /pub/* GET | - | append a on /*,/z > withdraw 1 > GET /q > withdraw 3 > GET /q > GET /z > withdraw 3 | 3 rebuilt 2 > 1 rebuilt 3 > login pattern=/* constraint=3 cause=NeedsCaller > 3 rebuilt 5 > open pattern=- constraint=- cause=NoPattern > open pattern=- constraint=- cause=NoPattern > NoSuch rebuilt 5
@@ -53,7 +53,7 @@ fn edits_change_what_they_name_alone(rt: HostRuntime) -> Result<(), Strays> {
     hold(&rt, &[ROWS], &Edits)
 }
 
-/// What steps answer, one after another on one policy.
+/// Answers with the results of steps, made in order on one policy.
 struct Edits;
 
 impl Asks for Edits {
@@ -91,7 +91,7 @@ fn tell(alloc: Global, policy: &mut Policy, step: &str, told: &mut Draft) -> Res
     }
 }
 
-/// What the last of so many appendings answers.
+/// Adds the answer to the last of this number of appends.
 fn tell_appended(
     alloc: Global,
     policy: &mut Policy,
@@ -108,7 +108,7 @@ fn tell_appended(
     Ok(())
 }
 
-/// A constraint without its number.
+/// Returns the constraint without its number.
 fn addition_of(constraint: Constraint) -> NewConstraint {
     let Constraint {
         collections,

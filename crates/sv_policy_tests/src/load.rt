@@ -1,4 +1,4 @@
-//! What a look-up and a decision cost among few patterns and among many.
+//! The cost of a look-up and of a decision, among few patterns and among many.
 
 use crate::numbered::{add_numbered, finished};
 use crate::policies::{patterns_of, policy_of};
@@ -14,7 +14,7 @@ use sv_text::NoMemory;
 
 const CALLS: u32 = 100_000;
 
-/// Of so many runs the fastest counts.
+/// Number of runs. The fastest one counts.
 const RUNS: u32 = 5;
 
 #[test]
@@ -27,7 +27,7 @@ fn six_thousand_patterns_cost_at_most_twenty_times_six(rt: HostRuntime) -> Resul
     Ok(())
 }
 
-/// The times of look-ups and of decisions among the patterns `/pN/*`, for paths `/pN/x` in turn.
+/// Returns the times of look-ups and of decisions among the patterns `/pN/*`, for the paths `/pN/x` in order.
 fn times<R: Clock>(rt: &R, alloc: Global, count: u32) -> Option<(Duration, Duration)> {
     let patterns = numbered(alloc, count, "/*").ok()?;
     let paths = numbered(alloc, count, "/x").ok()?;
@@ -36,7 +36,7 @@ fn times<R: Clock>(rt: &R, alloc: Global, count: u32) -> Option<(Duration, Durat
     Some((look_up, decision))
 }
 
-/// The texts `/pN` with this end, between commas.
+/// Returns the texts `/pN` with this end, separated by commas.
 fn numbered(alloc: Global, count: u32, end: &str) -> Result<String, NoMemory> {
     let mut texts = Draft::new(alloc);
     add_numbered(&mut texts, "/p", count, end);
@@ -68,9 +68,9 @@ fn time_of_decisions<R: Clock>(
     least_time(rt, &policy, paths)
 }
 
-/// What is called with a path.
+/// A function of paths.
 trait Called {
-    /// Whether the path has a best match.
+    /// Returns whether the path has a best match.
     fn has_match(&self, path: &str) -> bool;
 }
 
@@ -86,7 +86,7 @@ impl Called for Policy {
     }
 }
 
-/// The least time of enough calls, none where a path has no match.
+/// Returns the shortest time of [`CALLS`] calls, or none if a path has no match.
 fn least_time<R: Clock, C: Called>(rt: &R, called: &C, paths: &str) -> Option<Duration> {
     let mut least = Duration::MAX;
     for _ in 0..RUNS {
@@ -100,7 +100,8 @@ fn least_time<R: Clock, C: Called>(rt: &R, called: &C, paths: &str) -> Option<Du
     Some(least)
 }
 
-/// Calls with the paths in turn until there were enough calls, and counts those that find a match.
+/// Calls with each path in order, again and again, up to [`CALLS`] calls. Stops at a path without a match. Returns the
+/// number of matches.
 fn call_all<C: Called>(called: &C, paths: &str) -> u32 {
     let mut found = 0u32;
     for _ in 0..CALLS {

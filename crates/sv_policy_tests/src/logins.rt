@@ -1,4 +1,4 @@
-//! Login steps by their requests and by the sessions of their context.
+//! Login steps, with their requests and the sessions of their context.
 
 use crate::realm::realm;
 use crate::stores::{number, sessions_after};
@@ -10,11 +10,12 @@ use sv_session::Sessions;
 use sv_text::{NoMemory, Text};
 use sv_uri::path::Canon;
 
-/// The media type of a form, for which the rows write `form`.
+/// The media type of a form, written `form` in the rows.
 const FORM: &str = "application/x-www-form-urlencoded";
 
-/// The calls that made the sessions and their limit, the held session, the request's method and path, its type and its body, and the outcome: the session
-/// that holds the caller with its target, and behind it each session with its id, caller and target.
+/// The columns: calls that made the sessions; limit of the sessions; held session; method and path of the request; its
+/// type; its body; outcome. A login gives the session that now has the caller, with its target. Each session with its
+/// id, caller and target follows.
 const SESSIONS: &str = r#"
 -- without a session one is opened (Jakarta Servlet 6.0, section 13.6.3)
 -               | 9 | - | POST /j_security_check | form | j_username=ann&j_password=bc | in 1 -; 1 \{47*0}1 0 -
@@ -39,7 +40,7 @@ open; enter 1 5; save 1 /t | 9 | 1 | POST /j_security_check | form | j_username=
 open; enter 1 5; save 1 /t | 9 | 1 | POST /x | form | j_username=ann&j_password=bc | no login; 1 \{47*0}1 5 /t
 "#;
 
-/// The same.
+/// The same columns.
 const REQUESTS: &str = r#"
 -- the path ends in `/j_security_check`, with case, and the method is POST (section 13.6.3.1)
 - | 9 | - | POST /a/j_security_check     | form | j_username=ann&j_password=bc | in 1 -; 1 \{47*0}1 0 -
@@ -60,7 +61,7 @@ const REQUESTS: &str = r#"
 - | 9 | - | POST /j_security_check | - | j_username=ann&j_password=bc | wrong user
 "#;
 
-/// The same.
+/// The same columns.
 const FIELDS: &str = r#"
 -- the first field of each name counts, wherever it stands
 - | 9 | - | POST /j_security_check | form | j_password=bc&x=y&j_username=ann | in 1 -; 1 \{47*0}1 0 -
@@ -88,7 +89,7 @@ fn a_login_enters_its_caller_or_changes_nothing(rt: HostRuntime) -> Result<(), S
     hold(&rt, &tables, &Logins(realm(rt.alloc())?))
 }
 
-/// The outcome of the login step of a row.
+/// Answers with the outcome of a row's login step.
 #[derive(Drop)]
 struct Logins(Realm);
 
@@ -132,7 +133,7 @@ fn step(
     )
 }
 
-/// The content type that a cell writes: `-` for none, `form` for that of a form.
+/// Returns the content type of a cell: `-` means none, and `form` means that of a form.
 fn content_type(alloc: Global, cell: &str) -> Result<Option<Vec<u8>>, NoMemory> {
     match cell {
         "-" => Ok(None),
@@ -160,7 +161,7 @@ fn told_target(alloc: Global, target: Option<Text>) -> Result<String, NoMemory> 
     }
 }
 
-/// Each of the sessions 1 to 3 that lives, with its id, its caller and its target.
+/// Returns the sessions among 1 to 3 that are alive, each with its id, caller and target.
 fn told_sessions(alloc: Global, sessions: &mut Sessions) -> Result<String, NoMemory> {
     let mut told = String::new(alloc);
     for number in 1..=3u64 {

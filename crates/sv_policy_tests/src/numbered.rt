@@ -4,7 +4,7 @@ use std::alloc::Global;
 use sv_rows::Draft;
 use sv_text::NoMemory;
 
-/// Adds so many texts between commas: each is its front, its number from 0, and its back.
+/// Adds this number of texts, separated by commas: each is the front, its number from 0, and the back.
 pub fn add_numbered(list: &mut Draft, front: &str, count: u32, back: &str) {
     for number in 0..count {
         if number > 0 {
@@ -16,7 +16,7 @@ pub fn add_numbered(list: &mut Draft, front: &str, count: u32, back: &str) {
     }
 }
 
-/// The text of a draft.
+/// Returns the text of a draft.
 pub fn finished(alloc: Global, draft: Draft) -> Result<String, NoMemory> {
     let bytes = draft.finish()?;
     Ok(String::from_utf8_lossy(alloc, bytes.as_slice())?)

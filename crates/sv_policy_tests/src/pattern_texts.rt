@@ -1,11 +1,11 @@
-//! Which texts are URL patterns (Servlet, section 12.2, and the forms that this container accepts).
+//! The texts that are URL patterns (Servlet, section 12.2, and the forms that this container accepts).
 
 use std::alloc::Global;
 use sv_mapping::{Pattern, PatternFault};
 use sv_rows::{Asks, Strays, cell, hold, unescaped};
 use sv_text::NoMemory;
 
-/// Text, and whether it is accepted.
+/// The columns: text; whether it is accepted.
 const ROWS: &str = r#"
 ""                  | accepted
 /                   | accepted
@@ -57,7 +57,7 @@ fn a_pattern_keeps_its_text_and_another_text_is_refused(rt: HostRuntime) -> Resu
     hold(&rt, &[ROWS], &Texts)
 }
 
-/// Whether a text is a pattern.
+/// Answers whether a text is a pattern.
 struct Texts;
 
 impl Asks for Texts {

@@ -1,4 +1,4 @@
-//! How constraints, rules and callers are written.
+//! Constraints, rules and callers, as the rows write them.
 
 use std::alloc::Global;
 use sv_constraints::{Auth, Collection, Constraint, Methods, Rules, Transport};
@@ -7,16 +7,17 @@ use sv_policy::Policy;
 use sv_realm::Caller;
 use sv_text::{Listed, NoMemory, Text};
 
-/// The policy compiled of the constraints and the rules that these cells list.
+/// Returns the policy compiled from the constraints and the rules of these cells.
 pub fn policy_of(alloc: Global, constraints: &str, rules: &str) -> Result<Policy, NoMemory> {
     let constraints = constraints_of(alloc, constraints)?;
     Policy::compile(alloc, constraints, rules_of(alloc, rules)?)
 }
 
-/// The constraints that a cell lists, numbered from 1 where they have no number.
+/// Returns the constraints of a cell. Those without a number get their place in the list, from 1.
 ///
-/// A constraint is `[NUMBER: ]WHO[ over TRANSPORT] on COLLECTION[ and COLLECTION]`. WHO is `open` (no auth-constraint), `nobody` (one that names no roles) or
-/// role names. TRANSPORT is `none`, `integral` or `confidential`. A collection is patterns and then methods: none for all, names, or `!` and omitted names.
+/// A constraint is `[NUMBER: ]WHO[ over TRANSPORT] on COLLECTION[ and COLLECTION]`. WHO is `open` (no auth-constraint),
+/// `nobody` (one that names no roles) or role names. TRANSPORT is `none`, `integral` or `confidential`. A collection is
+/// patterns and then methods: none for all, names, or `!` and omitted names.
 fn constraints_of(alloc: Global, cell: &str) -> Result<Vec<Constraint>, NoMemory> {
     let mut constraints = Vec::new(alloc);
     if cell.is_empty() {
@@ -28,7 +29,7 @@ fn constraints_of(alloc: Global, cell: &str) -> Result<Vec<Constraint>, NoMemory
     Ok(constraints)
 }
 
-/// A constraint as a cell writes it; the place gives its number where it has none.
+/// Returns the constraint of a text. If it has no number, its number is `place` + 1.
 pub fn constraint_of(alloc: Global, place: usize, text: &str) -> Result<Constraint, NoMemory> {
     let (number, text) = text.split_once(": ").unwrap_or(("", text));
     let (who, coverage) = text.split_once(" on ").unwrap_or((text, ""));
@@ -55,7 +56,7 @@ fn collections_of(alloc: Global, coverage: &str) -> Result<Listed<Collection>, N
     Ok(Listed::from_vec(collections))
 }
 
-/// The patterns of a list, in which `""` stands for the empty one. A text that is no pattern ends the test.
+/// Returns the patterns of a list; `""` is the empty one. A text that is no pattern ends the test.
 pub fn patterns_of(alloc: Global, list: &str, between: char) -> Result<Vec<Pattern>, NoMemory> {
     let mut patterns = Vec::new(alloc);
     for name in list.split(between) {
@@ -102,7 +103,7 @@ fn rules_of(alloc: Global, cell: &str) -> Result<Rules, NoMemory> {
     })
 }
 
-/// The caller of a cell, none for any other text than `caller` and roles.
+/// Returns the caller of a cell, `caller` and roles, or none for any other text.
 pub fn caller_of(alloc: Global, cell: &str) -> Result<Option<Caller>, NoMemory> {
     let Some(roles) = cell.strip_prefix("caller") else {
         return Ok(None);
@@ -114,7 +115,7 @@ pub fn caller_of(alloc: Global, cell: &str) -> Result<Option<Caller>, NoMemory> 
     }))
 }
 
-/// The texts between commas.
+/// Returns the texts between commas.
 pub fn texts_of(alloc: Global, list: &str) -> Result<Listed<Text>, NoMemory> {
     let mut texts = Vec::new(alloc);
     if list.is_empty() {

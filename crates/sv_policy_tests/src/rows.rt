@@ -1,4 +1,4 @@
-//! Sessions by the answers to calls that are made one after another.
+//! Answers of sessions to sequences of calls.
 
 use crate::calls::answer;
 use std::alloc::Global;
@@ -6,7 +6,7 @@ use sv_rows::{Asks, Strays, cell, hold};
 use sv_session::Sessions;
 use sv_text::NoMemory;
 
-/// The limit, the interval in seconds, the calls, and their answers.
+/// The columns: limit; interval in seconds; calls; their answers.
 const ROWS: &str = r#"
 -- two sessions of one moment end by number, one a call, when the interval is over (Jakarta Servlet 6.0, section 7.5)
 10   | 60 | open 0; open 0; expire 59; expire 60; expire 60; expire 60      | 1; 2; -; 1; 2; -
@@ -76,7 +76,7 @@ const ROWS: &str = r#"
 10   | 60 | open 0; open 0; save 1 /a; take 2; take 1                        | 1; 2; yes; -; /a
 "#;
 
-/// Many calls, drawn by lot, and what a plain list of sessions answers to them, which was written apart from the crate.
+/// Random sequences of calls. The answers are those of a plain list of sessions, written independently of the crate.
 const DRAWN: &str = r#"
 100 | 3 | open 0; end 8; find \{47*0}3; find \{47*0}2; expire 4; expire 6; rename 2; expire 7; touch 11 8; rename 3; touch 1 9; expire 10; least; touch 6 11; end 14; open 11; expire 12; end 1; end 1; touch 8 9; expire 15; expire 16; open 17; touch 5 14; open 19; open 20; end 11; touch 4 20; expire 21; open 21; expire 21; judged; find \{47*0}5; find \{47*0}2; open 25; least; rename 5; open 26; touch 6 26; expire 28; expire 28; touch 10 28; touch 4 28; expire 30; expire 32; touch 11 33; open 34; end 6; end 14; expire 35; touch 5 33; expire 38; expire 38; expire 38; touch 10 38; expire 39; expire 40; touch 9 38; expire 41; find \{46*0}13; open 43; rename 3; find \{47*0}e; touch 14 47; touch 6 46; touch 7 48; expire 49; least; touch 6 50; expire 52; ends | 1; -; -; -; 1; -; NoSuch; -; no; NoSuch; no; -; -; no; -; 2; -; -; -; no; 2; -; 3; no; 4; 5; -; yes; 3; 6; -; 5; 5; -; 7; 4; ok; 9; yes; 4; 5; no; no; 7; 6; no; 10; -; -; 9; no; 10; -; -; no; -; -; no; -; -; 11; NoSuch; -; no; no; no; 11; -; no; -; -
 6 | 3 | expire 0; expire 0; find \{46*0}14; end 14; touch 12 2; open 5; end 10; find \{47*0}a; expire 7; open 8; touch 1 4; expire 8; expire 8; open 9; expire 9; rename 8; touch 13 10; open 10; touch 10 11; touch 7 9; judged; expire 13; open 14; expire 15; expire 15; expire 15; expire 16; touch 6 16; rename 12; expire 21; judged; open 24; open 26; expire 28; expire 28; expire 28; least; open 29; expire 30; expire 31; expire 32; least; touch 3 33; touch 5 33; expire 34; touch 12 35; end 13; open 36; touch 11 37; expire 37; open 39; touch 12 39; end 13; touch 10 40; touch 4 41; least; expire 42; expire 42; open 42; open 44; expire 44; touch 7 46; rename 7; touch 8 46; expire 47; least; expire 47; open 48; touch 7 45; rename 6; ends | -; -; -; -; no; 1; -; -; -; 2; yes; 1; -; 3; -; NoSuch; no; 4; no; no; 4; 2; 5; 3; 4; -; -; no; NoSuch; 5; 10; 6; 7; 6; -; -; 7; 8; 7; -; 8; -; no; no; -; no; -; 9; no; -; 10; no; -; yes; no; 9; 9; -; 11; 12; 10; no; NoSuch; no; 11; 12; 12; 13; no; NoSuch; 13, -
@@ -90,7 +90,7 @@ const DRAWN: &str = r#"
 1000 | 10 | crowd 1000 0; touch 1000 0; touch 999 1; touch 998 2; touch 997 3; touch 996 4; touch 995 5; touch 994 6; touch 993 7; touch 992 8; touch 991 9; touch 990 10; touch 989 11; touch 988 12; touch 987 13; touch 986 14; touch 985 15; touch 984 16; touch 983 17; touch 982 18; touch 981 19; touch 980 20; touch 979 21; touch 978 22; touch 977 23; touch 976 24; touch 975 25; touch 974 26; touch 973 27; touch 972 28; touch 971 29; touch 970 30; touch 969 31; touch 968 32; touch 967 33; touch 966 34; touch 965 35; touch 964 36; touch 963 37; touch 962 38; touch 961 39; expire 10; expire 10; expire 10; expire 10; expire 10; expire 12; expire 12; least; judged; expire 49 | 1000; yes; yes; yes; yes; yes; yes; yes; yes; yes; yes; yes; yes; yes; yes; yes; yes; yes; yes; yes; yes; yes; yes; yes; yes; yes; yes; yes; yes; yes; yes; yes; yes; yes; yes; yes; yes; yes; yes; yes; yes; 1; 2; 3; 4; 5; 6; 7; 8; 7; 8
 "#;
 
-/// The limit, the interval in seconds, the calls, and their answers.
+/// The columns: limit; interval in seconds; calls; their answers.
 const ATTRIBUTES: &str = r#"
 -- a value is set, read, set again and removed (Jakarta Servlet 6.0, section 7.4); names are compared with case
 10 | 60 | open 0; get 1 n; set 1 n a; get 1 n; get 1 N; set 1 n b; get 1 n; remove 1 n; get 1 n; remove 1 n | 1; -; new; a; -; was a; b; b; -; -
@@ -132,7 +132,7 @@ fn many_calls_are_answered_as_a_plain_list_answers_them(rt: HostRuntime) -> Resu
     hold(&rt, &[DRAWN], &Calls)
 }
 
-/// Makes the calls of a row on sessions of its limit and interval, and tells their answers.
+/// Answers with the results of a row's calls on sessions with its limit and interval.
 struct Calls;
 
 impl Asks for Calls {

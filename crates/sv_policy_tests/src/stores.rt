@@ -4,8 +4,8 @@ use std::alloc::Global;
 use sv_session::Sessions;
 use sv_text::{NoMemory, Text};
 
-/// The sessions that these calls leave, at most so many: `open`, `end NUMBER`, `enter NUMBER CALLER`, `save NUMBER TARGET`. All words are 0, so that an
-/// id is its serial.
+/// Returns sessions, at most `limit`, after these calls: `open`, `end NUMBER`, `enter NUMBER CALLER` and `save NUMBER
+/// TARGET`. All random words are 0, so that an id is its serial number.
 pub fn sessions_after(alloc: Global, limit: usize, calls: &str) -> Result<Sessions, NoMemory> {
     let mut sessions = Sessions::new(alloc, limit, 60);
     for call in calls.split(';') {
@@ -39,7 +39,7 @@ fn make(alloc: Global, sessions: &mut Sessions, call: &str) -> Result<(), NoMemo
     Ok(())
 }
 
-/// The number that a text is.
+/// Returns the number that a text gives, or 0 if it gives none.
 pub fn number(text: &str) -> u64 {
     text.parse::<u64>().unwrap_or(0)
 }

@@ -1,16 +1,16 @@
-//! How the tables of the tests are written: one row a line, its cells between bars.
+//! The form of test tables: one row per line, its cells separated by bars.
 
-/// Whether a line of a table is a row: it is not empty and no comment, which begins with `--`.
+/// Returns whether a line of a table is a row: neither empty nor a comment, which begins with `--`.
 pub fn is_row(line: &str) -> bool {
     !matches!(line.as_bytes(), [] | [b'-', b'-', ..])
 }
 
-/// The cell of a row at a place from 0, without the blanks around it. `""` stands for the empty text.
+/// Returns the cell of a row at this place, counted from 0, without the blanks around it. `""` is the empty text.
 pub fn cell(row: &str, place: usize) -> &str {
     shown(row.split('|').nth(place).unwrap_or(""))
 }
 
-/// The text of a cell.
+/// Returns the text of a cell.
 pub fn shown(cell: &str) -> &str {
     let text = cell.trim();
     if text == "\"\"" { "" } else { text }

@@ -1,4 +1,4 @@
-//! Descriptors that tables of several layers name.
+//! Descriptors that tables of several crates use.
 
 /// The root context of the demonstration.
 pub const DEMO: &str = r#"
@@ -51,7 +51,7 @@ auth-method = "FORM"
 form-login-config = { form-login-page = "/login.html", form-error-page = "/error.html" }
 "#;
 
-/// The other context of the demonstration, whose path is `/two`.
+/// The second context of the demonstration, with the path `/two`.
 pub const TWO: &str = r#"
 [[servlet]]
 servlet-name = "keep"

@@ -1,10 +1,10 @@
-//! Texts that grow.
+//! Growing texts.
 
 use std::alloc::Global;
 use std::fmt;
 use sv_text::NoMemory;
 
-/// A text that grows. Whether memory ran out is told at its end, so that what adds to it needs no way out.
+/// A growing text, which reports at its end if memory ran out. The calls that add to it need no error handling.
 #[derive(Drop)]
 pub struct Draft {
     text: Vec<u8>,
@@ -12,7 +12,7 @@ pub struct Draft {
 }
 
 impl Draft {
-    /// The empty text.
+    /// Returns the empty text.
     pub fn new(alloc: Global) -> Draft {
         Draft {
             text: Vec::new(alloc),
@@ -20,7 +20,7 @@ impl Draft {
         }
     }
 
-    /// Whether nothing has been added.
+    /// Returns whether nothing has been added.
     pub fn is_empty(&self) -> bool {
         self.text.is_empty()
     }
@@ -42,7 +42,7 @@ impl Draft {
         }
     }
 
-    /// Adds what is shown of a value.
+    /// Adds a value as it is displayed.
     pub fn add_shown<T: fmt::Display>(&mut self, shown: &T) {
         match format!(in *self.text.allocator(); "{shown}") {
             Ok(text) => self.add(text.as_str()),
@@ -50,7 +50,7 @@ impl Draft {
         }
     }
 
-    /// The text.
+    /// Returns the text.
     ///
     /// # Errors
     /// Memory ran out.

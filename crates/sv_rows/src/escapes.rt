@@ -1,10 +1,10 @@
-//! Bytes that are written as escapes.
+//! Escapes for bytes.
 
 use crate::draft::Draft;
 use std::alloc::Global;
 use sv_text::NoMemory;
 
-/// How far an escape has been read.
+/// The state of reading an escape.
 #[derive(Clone, Copy)]
 enum Escape {
     Outside,
@@ -14,7 +14,7 @@ enum Escape {
 }
 
 impl Escape {
-    /// What follows a byte, and the byte that is read there.
+    /// Returns the state after a byte, and the byte that is complete with it, if any.
     fn step(self, byte: u8) -> (Escape, Option<u8>) {
         match self {
             Escape::Outside if byte == b'\\' => (Escape::Backslash, None),
@@ -29,7 +29,7 @@ impl Escape {
     }
 }
 
-/// The byte that a letter after a backslash stands for.
+/// Returns the byte for a letter after a backslash.
 fn named_byte(letter: u8) -> u8 {
     match letter {
         b'r' => b'\r',
@@ -39,7 +39,7 @@ fn named_byte(letter: u8) -> u8 {
     }
 }
 
-/// The value of a hexadecimal digit, 0 for any other byte.
+/// Returns the value of a hexadecimal digit, or 0 for any other byte.
 fn digit_value(digit: u8) -> u8 {
     match digit {
         b'0'..=b'9' => digit - b'0',
@@ -49,21 +49,21 @@ fn digit_value(digit: u8) -> u8 {
     }
 }
 
-/// The bytes of a text in which `\r`, `\n`, `\t`, `\\` and `\xHH` stand for bytes, and `\{COUNT*PART}` for a part that
-/// is repeated.
+/// Returns the bytes of a text, with the escapes `\r`, `\n`, `\t`, `\\` and `\xHH` for bytes, and `\{COUNT*PART}` for a
+/// repeated part.
 pub fn unescaped(alloc: Global, text: &str) -> Result<Vec<u8>, NoMemory> {
     let mut draft = Draft::new(alloc);
     add_unescaped(&mut draft, text);
     draft.finish()
 }
 
-/// The text that these bytes are.
+/// Returns a text with its escapes read. Invalid UTF-8 is replaced.
 pub fn unescaped_text(alloc: Global, text: &str) -> Result<String, NoMemory> {
     let bytes = unescaped(alloc, text)?;
     Ok(String::from_utf8_lossy(alloc, bytes.as_slice())?)
 }
 
-/// Adds these bytes.
+/// Adds the bytes of a text with its escapes read.
 pub fn add_unescaped(draft: &mut Draft, text: &str) {
     let (front, rest) = text.split_once("\\{").unwrap_or((text, ""));
     add_bytes(draft, front);
@@ -74,7 +74,7 @@ pub fn add_unescaped(draft: &mut Draft, text: &str) {
     }
 }
 
-/// Adds a part so many times, as `COUNT*PART` says.
+/// Adds a part as often as `COUNT*PART` says.
 fn add_times(draft: &mut Draft, repeated: &str) {
     let (count, part) = repeated.split_once('*').unwrap_or(("0", ""));
     for _ in 0..count.parse::<u32>().unwrap_or(0) {

@@ -1,4 +1,4 @@
-//! Tables of tests: rows of raw text, and the one run that compares the answer to each.
+//! Test tables: rows of plain text, and the comparison of each with its answer.
 #![tactic(auto)]
 
 mod cells;

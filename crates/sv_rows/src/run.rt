@@ -1,4 +1,4 @@
-//! The run over the rows of a table.
+//! Comparing the rows of tables with their answers.
 
 use crate::cells::{is_row, shown};
 use crate::draft::Draft;
@@ -6,19 +6,19 @@ use crate::escapes::add_unescaped;
 use std::alloc::Global;
 use sv_text::NoMemory;
 
-/// What a test asks at each row of a table.
+/// A question that a test asks for each row of a table.
 pub trait Asks {
-    /// How many cells of a row are its question. The cells behind them are the wanted answer.
+    /// Number of cells in a row's question. The expected answer is in the cells after them.
     const QUESTION: usize;
 
-    /// Writes the answer to a row's question: its cells, with ` | ` between them.
+    /// Writes the answer to a row's question: its cells, separated by ` | `.
     fn answer(&self, alloc: Global, row: &str, answer: &mut Vec<u8>) -> Result<(), NoMemory>;
 }
 
-/// Why tables do not hold.
+/// The reason why a test of tables fails.
 #[derive(Clone, Copy, Debug)]
 pub enum Strays {
-    /// So many rows have another answer than the wanted one, or a table has no rows.
+    /// The number of rows with an unexpected answer. A table without rows counts as one.
     Rows(u64),
     /// Memory ran out.
     NoMemory,
@@ -30,7 +30,7 @@ impl From<NoMemory> for Strays {
     }
 }
 
-/// Asks at each row of the tables, and prints the rows whose answer is not the wanted one, each with its answer.
+/// Asks for the answer to each row of the tables, and prints the rows with an unexpected answer, each with its answer.
 pub fn hold<R: Eprint + AllocGlobal, A: Asks>(
     rt: &R,
     tables: &[&str],
@@ -47,7 +47,7 @@ pub fn hold<R: Eprint + AllocGlobal, A: Asks>(
     }
 }
 
-/// How many rows of a table have another answer than the wanted one. A table without rows counts as one that has.
+/// Returns the number of rows of a table with an unexpected answer, or 1 if the table has no rows.
 fn strays_of<R: Eprint + AllocGlobal, A: Asks>(
     rt: &R,
     table: &str,
@@ -64,7 +64,7 @@ fn strays_of<R: Eprint + AllocGlobal, A: Asks>(
     Ok(if rows == 0 { 1 } else { strays })
 }
 
-/// Whether the answer to a row is not the wanted one, which is printed then.
+/// Returns whether the answer to a row is unexpected, and prints it if so.
 fn is_stray<R: Eprint + AllocGlobal, A: Asks>(
     rt: &R,
     row: &str,
@@ -80,14 +80,14 @@ fn is_stray<R: Eprint + AllocGlobal, A: Asks>(
     Ok(is_stray)
 }
 
-/// Prints a row and its answer. Where nothing can be printed, the count of strays still tells of the row.
+/// Prints a row and its answer. If printing fails, the row is still counted.
 fn tell<R: Eprint + AllocGlobal>(rt: &R, row: &str, answer: &[u8]) {
     if let Ok(answer) = String::from_utf8_lossy(rt.alloc(), answer) {
         let _ = eprintln!(rt; "{row} but {answer}");
     }
 }
 
-/// The wanted answer of a row.
+/// Returns the expected answer of a row.
 fn wanted(alloc: Global, row: &str, question: usize) -> Result<Vec<u8>, NoMemory> {
     let mut wanted = Draft::new(alloc);
     for (place, cell) in row.split('|').skip(question).enumerate() {
