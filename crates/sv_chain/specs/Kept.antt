@@ -6,7 +6,7 @@ use Rattle.std.specs.Str.{bytes_eq}
 use Rattle.sv_chain.specs.FilterChain.{filter_chain, is_same_kind}
 use Rattle.sv_chain.specs.declared.by_path.ByPath.{ByPath}
 use Rattle.sv_chain.specs.declared.chain_cache.KeptChains.{KeptChains}
-use Rattle.sv_chain.specs.declared.chain_cache.TheConstants.{MAX_KEPT_BYTES, MAX_KEPT_CHAINS}
+use Rattle.sv_chain.specs.declared.chain_cache.TheConstants.{MAX_CACHED_KEY_BYTES, MAX_CACHED_CHAINS}
 use Rattle.sv_descriptor.specs.declared.web_app.WebApp.{WebApp}
 use Rattle.sv_mapping.specs.declared.kind.Kind.{Kind}
 use Rattle.sv_mapping.specs.declared.kind.Kind.TheVariants.{Request, Forward, Include, Error}
@@ -45,8 +45,8 @@ IsKeptOrThis before path servlet kind chain other name sort one =
 -- Each cached chain is that of its path, its servlet and its kind, and these texts are within the limit.
 abbrev pub AreChains : WebApp → KeptChains → Type 0
 AreChains app kept = (path servlet : List ℕ) (kind : Kind) → IfSome (found kept path servlet kind)
-    (λ chain. (chain ≡ filter_chain app path servlet kind) × (length path + length servlet ≤ MAX_KEPT_BYTES))
+    (λ chain. (chain ≡ filter_chain app path servlet kind) × (length path + length servlet ≤ MAX_CACHED_KEY_BYTES))
 
 -- The number of cached chains is within the limit, and they are correct.
 abbrev pub IsKeptOf : WebApp → KeptChains → Type 0
-IsKeptOf app kept = (count kept ≤ MAX_KEPT_CHAINS) × AreChains app kept
+IsKeptOf app kept = (count kept ≤ MAX_CACHED_CHAINS) × AreChains app kept

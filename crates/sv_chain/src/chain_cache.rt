@@ -3,7 +3,7 @@
 ghost use Rattle.std.specs.Option.{option_copied};
 ghost use Rattle.std.specs.Prelude.{List, None, OnErr, OnOk, ℕ, ◌+◌, ◌≡◌, ◌≤◌};
 ghost use Rattle.sv_chain.specs.Kept.{count, found, found_after};
-ghost use Rattle.sv_chain.specs.declared.chain_cache.TheConstants.{MAX_KEPT_CHAINS};
+ghost use Rattle.sv_chain.specs.declared.chain_cache.TheConstants.{MAX_CACHED_CHAINS};
 ghost use Rattle.sv_mapping.specs.declared.kind.Kind.{Kind};
 
 use crate::by_path::ByPath;
@@ -37,7 +37,7 @@ impl KeptChains {
 
     /// Returns the number of cached chains.
     pub(crate) fn count(&self) -> usize
-        requires { count self.now ≤ MAX_KEPT_CHAINS }
+        requires { count self.now ≤ MAX_CACHED_CHAINS }
         ensures { result ≡ count self.now }
     {
         self.request.count() + self.forward.count() + self.include.count() + self.error.count()
@@ -94,7 +94,7 @@ impl KeptChains {
 }
 
 /// Maximum number of cached chains. When the cache is full, all are dropped before the next one is added.
-pub const MAX_KEPT_CHAINS: usize = 1_024;
+pub const MAX_CACHED_CHAINS: usize = 1_024;
 
 /// Maximum number of bytes of a path and the name of its servlet, together, for their chain to be cached.
-pub const MAX_KEPT_BYTES: usize = 1_024;
+pub const MAX_CACHED_KEY_BYTES: usize = 1_024;

@@ -5,12 +5,12 @@ ghost use Rattle.std.specs.List.{All};
 ghost use Rattle.std.specs.Str.{bytes_eq};
 ghost use Rattle.sv_chain.specs.FilterChain.{filter_chain, is_same_kind};
 ghost use Rattle.sv_chain.specs.Kept.{IsKeptOf, IsKeptOrThis, count, found};
-ghost use Rattle.sv_chain.specs.declared.chain_cache.TheConstants.{MAX_KEPT_BYTES, MAX_KEPT_CHAINS};
+ghost use Rattle.sv_chain.specs.declared.chain_cache.TheConstants.{MAX_CACHED_KEY_BYTES, MAX_CACHED_CHAINS};
 ghost use Rattle.sv_mapping.specs.declared.kind.Kind.{Kind};
 ghost use Rattle.sv_text.specs.Gives.{GivesAnswer};
 
 use crate::chain::chain_plain;
-use crate::chain_cache::{KeptChains, MAX_KEPT_BYTES, MAX_KEPT_CHAINS};
+use crate::chain_cache::{KeptChains, MAX_CACHED_CHAINS, MAX_CACHED_KEY_BYTES};
 use crate::compiled_chains::Compiled;
 use crate::shared_chain::Chain;
 use std::alloc::Global;
@@ -18,8 +18,8 @@ use std::marker::Model;
 use sv_descriptor::{Descriptor, Kind};
 use sv_text::NoMemory;
 
-/// The chains of a descriptor, each computed on first use and then cached. At most [`MAX_KEPT_CHAINS`] are cached, and
-/// only if the path and the servlet's name have at most [`MAX_KEPT_BYTES`] together. Results do not depend on the
+/// The chains of a descriptor, each computed on first use and then cached. At most [`MAX_CACHED_CHAINS`] are cached, and
+/// only if the path and the servlet's name have at most [`MAX_CACHED_KEY_BYTES`] together. Results do not depend on the
 /// cache. Contracts see the descriptor.
 #[derive(Drop)]
 pub struct Chains {
@@ -74,7 +74,7 @@ impl Chains {
 
     /// Returns the number of cached chains.
     pub fn count(&self) -> usize
-        ensures { result ≤ MAX_KEPT_CHAINS }
+        ensures { result ≤ MAX_CACHED_CHAINS }
     {
         self.kept.count()
     }
@@ -109,9 +109,9 @@ fn found_or_kept(
 
 /// Returns whether this path and this servlet are short enough for their chain to be cached.
 fn is_short(path: &str, servlet: &str) -> bool
-    ensures { IsTrue result ↔ (length path.now + length servlet.now ≤ MAX_KEPT_BYTES) }
+    ensures { IsTrue result ↔ (length path.now + length servlet.now ≤ MAX_CACHED_KEY_BYTES) }
 {
-    path.len() <= MAX_KEPT_BYTES && servlet.len() <= MAX_KEPT_BYTES - path.len()
+    path.len() <= MAX_CACHED_KEY_BYTES && servlet.len() <= MAX_CACHED_KEY_BYTES - path.len()
 }
 
 /// Caches a chain, unless memory runs out. If the cache is full, all its chains are dropped first.
@@ -123,14 +123,14 @@ fn keep_within_limit(
     kind: Kind,
     chain: Chain,
 )
-    requires { count kept.old ≤ MAX_KEPT_CHAINS }
-    ensures few { count kept.new ≤ MAX_KEPT_CHAINS }
+    requires { count kept.old ≤ MAX_CACHED_CHAINS }
+    ensures few { count kept.new ≤ MAX_CACHED_CHAINS }
     ensures right { (other name : List ℕ) (sort : Kind) → IfSome (found kept.new other name sort)
         (IsKeptOrThis kept.old path.now servlet.now kind chain other name sort) }
-    ensures room { count kept.old < MAX_KEPT_CHAINS → (other name : List ℕ) (sort : Kind) → (is_same_kind kind sort && bytes_eq path.now other) ≡ false
+    ensures room { count kept.old < MAX_CACHED_CHAINS → (other name : List ℕ) (sort : Kind) → (is_same_kind kind sort && bytes_eq path.now other) ≡ false
         → found kept.new other name sort ≡ found kept.old other name sort }
 {
-    if kept.count() == MAX_KEPT_CHAINS {
+    if kept.count() == MAX_CACHED_CHAINS {
         kept.clear();
     }
     match kept.keep(alloc, path, servlet, kind, chain) {

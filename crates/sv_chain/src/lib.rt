@@ -11,6 +11,6 @@ mod mapping;
 mod shared_chain;
 
 pub use chain::chain_plain;
-pub use chain_cache::{MAX_KEPT_BYTES, MAX_KEPT_CHAINS};
+pub use chain_cache::{MAX_CACHED_CHAINS, MAX_CACHED_KEY_BYTES};
 pub use chains::Chains;
 pub use shared_chain::Chain;

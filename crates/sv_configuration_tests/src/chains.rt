@@ -3,7 +3,7 @@
 ghost use Rattle.sv_text.specs.Gives.{GivesAnswer};
 
 use std::alloc::Global;
-use sv_chain::{Chain, Chains, MAX_KEPT_CHAINS, chain_plain};
+use sv_chain::{Chain, Chains, MAX_CACHED_CHAINS, chain_plain};
 use sv_descriptor::{Descriptor, Kind, read_descriptor};
 use sv_rows::{Asks, Strays, cell, hold};
 use sv_text::NoMemory;
@@ -205,7 +205,7 @@ fn filled(alloc: Global, descriptor: &Descriptor) -> Result<Chains, NoMemory>
     ensures { GivesAnswer result descriptor.now }
 {
     let mut chains = Chains::compile(alloc, descriptor);
-    for number in 0..=MAX_KEPT_CHAINS {
+    for number in 0..=MAX_CACHED_CHAINS {
         let path = format!(in alloc; "/{number}")?;
         chains.of(alloc, descriptor, path.as_str(), "s", Kind::Request)?;
     }

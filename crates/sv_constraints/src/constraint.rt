@@ -3,6 +3,12 @@
 use sv_mapping::Pattern;
 use sv_text::{Listed, Text};
 
+/// The maximum length of the name of a method, in bytes.
+pub const MAX_METHOD_BYTES: usize = 15;
+
+/// The maximum number of patterns of a constraint, in all its collections together.
+pub const MAX_PATTERNS_OF_CONSTRAINT: usize = 64;
+
 /// A web resource collection: the requests whose best pattern is among `patterns` and whose method is among `methods`
 /// (Jakarta Servlet 6.0, section 13.8).
 #[derive(Drop)]

@@ -1,7 +1,7 @@
 //! Tests of containers: failed starts, events of connections, explanations after edits, and counts of calls. They have
 //! enough memory, so that a body that always returns `NoMemory` (`always_no_memory`, the only wrong body that no contract
-//! rejects) fails in every row. Further tests cover parts that no run of the program exercises: random words, deployments, commands on failing streams, and
-//! the parts of a configuration.
+//! rejects) fails in every row. Further tests cover parts that no run of the program exercises: random words,
+//! deployments, commands on failing streams, and the parts of a configuration.
 #![tactic(auto)]
 
 #[cfg(test)]

@@ -23,7 +23,7 @@ use Rattle.sv_descriptor.specs.Ignored.{element_keys, ignored_text}
 use Rattle.sv_descriptor.specs.Pattern.{pattern, patterns}
 use Rattle.sv_descriptor.specs.Tables.{tables}
 use Rattle.sv_descriptor.specs.WellFormed.{AreNumbered, HasFewItems, named_methods, named_roles}
-use Rattle.sv_descriptor.specs.declared.limits.TheConstants.{MAX_PATTERNS_OF_CONSTRAINT}
+use Rattle.sv_constraints.specs.declared.constraint.TheConstants.{MAX_PATTERNS_OF_CONSTRAINT}
 
 abbrev FewMethods : Collection → Type 0
 FewMethods c = length (named_methods c.methods) ≤ MAX_LIST_ITEMS

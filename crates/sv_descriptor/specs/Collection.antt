@@ -15,7 +15,7 @@ use Rattle.sv_descriptor.specs.declared.fault.FaultCode.TheVariants.{BothMethodL
 use Rattle.sv_descriptor.specs.declared.limits.TheConstants.{MAX_LIST_ITEMS}
 use Rattle.sv_descriptor.specs.Ignored.{element_keys, ignored_text}
 use Rattle.sv_descriptor.specs.Pattern.{patterns}
-use Rattle.sv_descriptor.specs.declared.limits.TheConstants.{MAX_METHOD_BYTES, MAX_PATTERNS_OF_CONSTRAINT}
+use Rattle.sv_constraints.specs.declared.constraint.TheConstants.{MAX_METHOD_BYTES, MAX_PATTERNS_OF_CONSTRAINT}
 
 -- A token (RFC 9110 section 5.6.2).
 unfoldable pub is_method_name : List ℕ → Bool

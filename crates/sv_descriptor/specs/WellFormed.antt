@@ -16,7 +16,8 @@ use Rattle.sv_descriptor.specs.Location.{is_location}
 use Rattle.sv_descriptor.specs.Role.{is_reserved_role}
 use Rattle.sv_descriptor.specs.Servlet.{is_reserved_servlet}
 use Rattle.sv_descriptor.specs.declared.filter.FilterMapping.{FilterMapping}
-use Rattle.sv_descriptor.specs.declared.limits.TheConstants.{MAX_COOKIE_AGE, MAX_PATTERNS_OF_CONSTRAINT, MAX_SESSION_TIMEOUT}
+use Rattle.sv_constraints.specs.declared.constraint.TheConstants.{MAX_PATTERNS_OF_CONSTRAINT}
+use Rattle.sv_descriptor.specs.declared.limits.TheConstants.{MAX_COOKIE_AGE, MAX_SESSION_TIMEOUT}
 use Rattle.sv_descriptor.specs.declared.web_app.WebApp.{WebApp}
 
 -- The length of a list is within the common limit.

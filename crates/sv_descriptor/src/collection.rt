@@ -11,7 +11,7 @@ ghost use Rattle.sv_descriptor.specs.ListOf.{is_array};
 
 use crate::fault::{FaultCode, ReadFault, refuse};
 use crate::ignored_keys::{IgnoredText, element_keys};
-use crate::limits::{MAX_LIST_ITEMS, MAX_METHOD_BYTES, MAX_PATTERNS_OF_CONSTRAINT};
+use crate::limits::MAX_LIST_ITEMS;
 use crate::list::{ListOf, list_items};
 use crate::pattern::{UrlPattern, UrlPatterns};
 use crate::schema::{Schema, optional, required};
@@ -19,7 +19,7 @@ use crate::table::{TableOf, TableSchema};
 use crate::text::{TextOf, TextSchema, is_within};
 use http_header::is_token_char;
 use std::alloc::Global;
-use sv_constraints::{Collection, Methods};
+use sv_constraints::{Collection, MAX_METHOD_BYTES, MAX_PATTERNS_OF_CONSTRAINT, Methods};
 use sv_text::{Listed, Text};
 use toml::{Table, Value};
 

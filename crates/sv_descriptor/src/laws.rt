@@ -4,15 +4,14 @@ ghost use Rattle.std.specs.Prelude.{◌≡◌};
 
 use crate::limits::{
     DEFAULT_SESSION_TIMEOUT, DIGEST_BYTES, DIGEST_DIGITS, MAX_COOKIE_AGE, MAX_COOKIE_PATH_BYTES,
-    MAX_ERROR_CODE, MAX_LIST_ITEMS, MAX_METHOD_BYTES, MAX_NAME_BYTES, MAX_PATTERNS_OF_CONSTRAINT,
-    MAX_PORT, MAX_SALT_DIGITS, MAX_SESSION_TIMEOUT, MAX_SESSIONS_OF_VERSION_1,
-    MAX_SESSIONS_OF_VERSION_2, MIN_ERROR_CODE, NO_LIMIT, SEED_BYTES, SEED_DIGITS,
+    MAX_ERROR_CODE, MAX_LIST_ITEMS, MAX_NAME_BYTES, MAX_PORT, MAX_SALT_DIGITS, MAX_SESSION_TIMEOUT,
+    MAX_SESSIONS_OF_VERSION_1, MAX_SESSIONS_OF_VERSION_2, MIN_ERROR_CODE, NO_LIMIT, SEED_BYTES,
+    SEED_DIGITS,
 };
 
 /// The session timeout is 30 minutes by default and at most 525,600. A context has at most 1,000 live sessions with
 /// version 1, and 100,000 with version 2. The path of a cookie has at most 1,024 bytes, and its lifetime is at most
-/// 2,147,483,647 seconds. Error statuses are 400 to 599. A method has at most 15 bytes. The collections of a constraint
-/// have at most 64 patterns.
+/// 2,147,483,647 seconds. Error statuses are 400 to 599.
 pub fn limits_of_the_descriptor()
     ensures default_timeout { DEFAULT_SESSION_TIMEOUT ≡ 30 }
     ensures greatest_timeout { MAX_SESSION_TIMEOUT ≡ 525600 }
@@ -22,8 +21,6 @@ pub fn limits_of_the_descriptor()
     ensures cookie_age { MAX_COOKIE_AGE ≡ 2147483647 }
     ensures least_status { MIN_ERROR_CODE ≡ 400 }
     ensures greatest_status { MAX_ERROR_CODE ≡ 599 }
-    ensures method_bytes { MAX_METHOD_BYTES ≡ 15 }
-    ensures patterns { MAX_PATTERNS_OF_CONSTRAINT ≡ 64 }
 {}
 
 /// A list has at most 1,000 items and a name at most 64 bytes. A list without a limit is bounded only by memory.

@@ -24,12 +24,6 @@ pub const MIN_ERROR_CODE: u16 = 400;
 /// Maximum status of an error.
 pub const MAX_ERROR_CODE: u16 = 599;
 
-/// Maximum length of a method, in bytes.
-pub const MAX_METHOD_BYTES: usize = 15;
-
-/// Maximum number of patterns in all collections of one constraint.
-pub const MAX_PATTERNS_OF_CONSTRAINT: usize = 64;
-
 /// Maximum number of items of a list.
 pub const MAX_LIST_ITEMS: usize = 1000;
 

@@ -2,7 +2,7 @@
 use Rattle.std.specs.Prelude.{◌≡◌, ℕ, ◌+◌, Bool, true, false, not, ◌&&◌, List, [], ◌∷◌, ◌++◌, length, ◌==◌, nat_le, is_some, Result, Ok, Err, if◌then◌else◌}
 use Rattle.sv_exchange.specs.declared.exchange_fault.ExchangeFault.{ExchangeFault}
 use Rattle.sv_exchange.specs.declared.exchange_fault.ExchangeFault.TheVariants as faults
-use Rattle.sv_exchange.specs.declared.limits.TheConstants.{MAX_BODY_LEN, LEAST_STATUS, MAX_STATUS, RESET_CONTENT, NOT_MODIFIED}
+use Rattle.sv_exchange.specs.declared.limits.TheConstants.{MAX_RESPONSE_BODY_LEN, LEAST_STATUS, MAX_STATUS, RESET_CONTENT, NOT_MODIFIED}
 use Rattle.sv_exchange.specs.Attributes.{is_reserved_attribute, set_value}
 use Rattle.sv_exchange.specs.Dispatches.{is_within_include}
 use Rattle.sv_exchange.specs.Fields.{add_field, is_field, is_reserved_field, set_field}
@@ -45,7 +45,7 @@ field_answer name value before =
 
 -- Whether the body can take `count` more bytes, in addition to its pieces and its buffer.
 abbrev pub has_room : ℕ → State → Bool
-has_room count before = nat_le (length (joined before.flushed) + length before.buffer + count) MAX_BODY_LEN
+has_room count before = nat_le (length (joined before.flushed) + length before.buffer + count) MAX_RESPONSE_BODY_LEN
 
 -- The result of a call, unless memory runs out. `false` means that the call is ignored.
 abbrev pub answer : Change → State → Result Bool ExchangeFault

@@ -8,7 +8,7 @@ use crate::exchange::Exchange;
 use crate::exchange_fault::ExchangeFault;
 use crate::fields::{add_field, is_reserved_field, set_field};
 use crate::limits::{
-    FIRST_ROOM, LEAST_STATUS, MAX_BODY_LEN, MAX_STATUS, NOT_MODIFIED, RESET_CONTENT,
+    FIRST_ROOM, LEAST_STATUS, MAX_RESPONSE_BODY_LEN, MAX_STATUS, NOT_MODIFIED, RESET_CONTENT,
 };
 use sv_text::NoMemory;
 
@@ -47,7 +47,7 @@ impl Exchange {
     }
 
     /// Appends bytes to the body. The call is never ignored. The faults are `TooLarge` if the body would exceed
-    /// [`MAX_BODY_LEN`], then `NoMemory`; nothing is written on a fault.
+    /// [`MAX_RESPONSE_BODY_LEN`], then `NoMemory`; nothing is written on a fault.
     pub fn write(&mut self, bytes: &[u8]) -> Result<bool, ExchangeFault>
         ensures does { Does (Write bytes.now) result self.old self.new }
         ensures reached { Reaches self.old self.new }
@@ -106,7 +106,7 @@ impl Exchange {
         ensures { result ≡ has_room count self.now }
     {
         let length = self.flushed.total().saturating_add(self.buffer.len());
-        length <= MAX_BODY_LEN && count <= MAX_BODY_LEN - length
+        length <= MAX_RESPONSE_BODY_LEN && count <= MAX_RESPONSE_BODY_LEN - length
     }
 
     fn do_set_status(&mut self, status: u16) -> Result<bool, ExchangeFault>

@@ -9,7 +9,7 @@ use crate::dispatch::{Paths, shown};
 use crate::dispatches::Dispatches;
 use crate::error::KeptError;
 use crate::flushed_body::{Flushed, body_of};
-use crate::limits::{MAX_KEPT_BYTES, MAX_KEPT_FIELDS, OK};
+use crate::limits::{MAX_KEPT_BUFFER_BYTES, MAX_KEPT_FIELDS, OK};
 use crate::reused_texts::{no_settings, no_text, set_settings, set_text};
 use crate::session_queries::{HeldSession, held_cookie, parts_of};
 use http::Method;
@@ -267,14 +267,18 @@ impl Exchange {
     }
 
     /// Reuses the memory of a response that was written. The list of fields is kept if its capacity is at most
-    /// [`MAX_KEPT_FIELDS`], and the buffer of a whole body if its capacity is at most [`MAX_KEPT_BYTES`]. The fields
+    /// [`MAX_KEPT_FIELDS`], and the buffer of a whole body if its capacity is at most [`MAX_KEPT_BUFFER_BYTES`]. The fields
     /// and the buffer of the exchange become empty.
     pub fn recycle(&mut self, response: Response)
         ensures { self.new ≡ record self.old { fields = []; buffer = [] } }
     {
         let Response { fields, body, .. } = response;
         self.fields = emptied(self.alloc, fields.into_vec(), MAX_KEPT_FIELDS);
-        self.buffer = emptied(self.alloc, bytes_of(self.alloc, body), MAX_KEPT_BYTES);
+        self.buffer = emptied(
+            self.alloc,
+            bytes_of(self.alloc, body),
+            MAX_KEPT_BUFFER_BYTES,
+        );
     }
 }
 

@@ -28,7 +28,7 @@ pub enum ExchangeFault {
     NoMemory = 5,
     /// The name or the value is not valid for a field (RFC 9110, sections 5.1 and 5.5).
     BadHeader = 6,
-    /// The body would be longer than [`MAX_BODY_LEN`](crate::MAX_BODY_LEN); or the name or the value of a session
+    /// The body would be longer than [`MAX_RESPONSE_BODY_LEN`](crate::MAX_RESPONSE_BODY_LEN); or the name or the value of a session
     /// attribute is too long, or the session has the maximum number of other attributes.
     TooLarge = 7,
 }

@@ -31,5 +31,7 @@ pub use exchange_fault::ExchangeFault;
 pub use laws::{
     changes_are_calls, changes_keep_the_request, changes_move_the_sessions, includes_keep_the_head,
 };
-pub use limits::{LEAST_STATUS, MAX_BODY_LEN, MAX_STATUS, NOT_MODIFIED, OK, RESET_CONTENT};
+pub use limits::{
+    LEAST_STATUS, MAX_RESPONSE_BODY_LEN, MAX_STATUS, NOT_MODIFIED, OK, RESET_CONTENT,
+};
 pub use session_queries::HeldSession;

@@ -1,13 +1,13 @@
 //! The limits and status codes of an exchange.
 
 /// The maximum length of a response body, in bytes.
-pub const MAX_BODY_LEN: usize = 4_194_304;
+pub const MAX_RESPONSE_BODY_LEN: usize = 4_194_304;
 
 /// The minimum capacity of a new buffer for a body, in bytes.
 pub(crate) const FIRST_ROOM: usize = 256;
 
 /// The maximum capacity of a body buffer that is kept for the next response, in bytes.
-pub(crate) const MAX_KEPT_BYTES: usize = 4_096;
+pub(crate) const MAX_KEPT_BUFFER_BYTES: usize = 4_096;
 
 /// The maximum capacity of a list of fields that is kept for the next response.
 pub(crate) const MAX_KEPT_FIELDS: usize = 16;

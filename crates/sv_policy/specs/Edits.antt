@@ -10,7 +10,8 @@ use Rattle.sv_policy.specs.declared.edit.Edit.TheVariants.{Append, Withdraw}
 use Rattle.sv_policy.specs.declared.edit.NewConstraint.{NewConstraint}
 use Rattle.sv_policy.specs.declared.edit_fault.EditFault.{EditFault}
 use Rattle.sv_policy.specs.declared.edit_fault.EditFault.TheVariants.{NoSuch, TooMany, NumberSpent, NoMemory}
-use Rattle.sv_policy.specs.declared.edit.TheConstants.{MAX_CONSTRAINTS, MAX_PATTERNS_OF_CONSTRAINT}
+use Rattle.sv_constraints.specs.declared.constraint.TheConstants.{MAX_PATTERNS_OF_CONSTRAINT}
+use Rattle.sv_policy.specs.declared.edit.TheConstants.{MAX_CONSTRAINTS}
 use Rattle.sv_text.specs.Faults.{first_or, when}
 
 abbrev pub greatest_count : ℕ

@@ -1,14 +1,14 @@
 //! Edits of a policy.
 
 ghost use Rattle.std.specs.Prelude.{Ok, OnErr, OnOk, ◌≡◌};
-ghost use Rattle.sv_policy.specs.Edits.{GivesOutcome, append_outcome, edit_outcome, edited, edited_all, is_too_many, lists_too_many, numbered, place_of, with_last, withdraw_outcome, without_place};
+ghost use Rattle.sv_policy.specs.Edits.{GivesOutcome, append_outcome, edit_outcome, is_too_many, lists_too_many, numbered, place_of, with_last, withdraw_outcome, without_place};
 
 use crate::edit_fault::EditFault;
 use crate::policy::Policy;
 use crate::rebuild::{rebuilt_with, rebuilt_without};
 use std::alloc::Global;
-use sv_constraints::{Auth, Collection, Constraint, Transport};
-use sv_text::{Listed, NoMemory};
+use sv_constraints::{Auth, Collection, Constraint, MAX_PATTERNS_OF_CONSTRAINT, Transport};
+use sv_text::Listed;
 
 /// A security constraint that has no number yet.
 #[derive(Drop)]
@@ -32,9 +32,6 @@ pub enum Edit {
 
 /// Maximum number of constraints after one is appended.
 pub const MAX_CONSTRAINTS: usize = 1000;
-
-/// Maximum number of patterns of an appended constraint, in all its collections together.
-pub const MAX_PATTERNS_OF_CONSTRAINT: usize = 64;
 
 impl Policy {
     ghost use Rattle.std.specs.Prelude.{length, slice_index_or, ◌<◌};
@@ -132,31 +129,6 @@ impl Policy {
                 Ok(_) => Ok(number),
                 Err(fault) => Err(fault),
             },
-        }
-    }
-
-    /// Applies edits in order. Refused edits change nothing. If memory runs out, the edits before it are applied and
-    /// the others are not.
-    pub fn edit_all(&mut self, alloc: Global, edits: Vec<Edit>) -> Result<(), NoMemory>
-        ensures { OnOk result (self.new ≡ edited_all self.old edits.items) }
-    {
-        for edit in edits {
-            self.make(alloc, edit)?;
-        }
-        Ok(())
-    }
-
-    /// Applies an edit, unless it is refused.
-    fn make(&mut self, alloc: Global, edit: Edit) -> Result<(), NoMemory>
-        ensures made { OnOk result (self.new ≡ edited self.old edit) }
-        ensures unchanged { OnErr result (self.new ≡ self.old) }
-    {
-        match self.edit(alloc, edit) {
-            Ok(_) => Ok(()),
-            Err(EditFault::NoSuch) => Ok(()),
-            Err(EditFault::TooMany) => Ok(()),
-            Err(EditFault::NumberSpent) => Ok(()),
-            Err(EditFault::NoMemory) => Err(NoMemory),
         }
     }
 

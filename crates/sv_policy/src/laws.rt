@@ -4,7 +4,7 @@ ghost use Rattle.std.specs.Prelude.{◌≡◌};
 ghost use Rattle.sv_policy.specs.Gaps.{GapsAreExact, GapsRise};
 ghost use Rattle.sv_policy.specs.MergedLaws.{RisingHasTheTexts, RisingIsAlone, RisingRises, UncoveredIsExact, UncoveredRises};
 ghost use Rattle.sv_policy.specs.Patterns.{BestIsOfTexts};
-ghost use Rattle.sv_policy.specs.declared.edit.TheConstants.{MAX_CONSTRAINTS, MAX_PATTERNS_OF_CONSTRAINT};
+ghost use Rattle.sv_policy.specs.declared.edit.TheConstants.{MAX_CONSTRAINTS};
 
 use sv_mapping::laws::best_is_unique;
 
@@ -35,7 +35,6 @@ pub fn gaps_rise()
 /// The limits of this crate as numbers.
 pub fn limits_are_as_stated()
     ensures constraints { MAX_CONSTRAINTS ≡ 1000 }
-    ensures patterns { MAX_PATTERNS_OF_CONSTRAINT ≡ 64 }
 {}
 
 /// Sorting texts by bytes gives a strictly ascending list of the same texts, and no other list is strictly ascending

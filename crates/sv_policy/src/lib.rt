@@ -26,7 +26,7 @@ mod shared_tables;
 mod table;
 mod tables;
 
-pub use edit::{Edit, MAX_CONSTRAINTS, MAX_PATTERNS_OF_CONSTRAINT, NewConstraint};
+pub use edit::{Edit, MAX_CONSTRAINTS, NewConstraint};
 pub use edit_fault::EditFault;
 pub use explain::{explain_parts, explain_request};
 pub use explain_fault::ExplainFault;

@@ -3,7 +3,7 @@
 ghost use Rattle.std.specs.Prelude.{◌≡◌, []};
 ghost use Rattle.sv_journal.specs.Journal.{new_journal};
 
-use crate::limits::{MAX_KEPT_BYTES, MAX_KEPT_ENTRIES};
+use crate::limits::{MAX_KEPT_ENTRIES, MAX_KEPT_SENT_BYTES};
 use std::alloc::Global;
 use std::cell::Cell;
 use sv_journal::Journal;
@@ -26,7 +26,7 @@ impl Spare {
 
     /// Keeps the buffer and the journal if they are small, and drops the contents of the entries.
     pub(crate) fn keep(&self, room: Vec<u8>, journal: Journal) {
-        if room.capacity() <= MAX_KEPT_BYTES {
+        if room.capacity() <= MAX_KEPT_SENT_BYTES {
             self.room.set(room);
         }
         if journal.entries().len() <= MAX_KEPT_ENTRIES {

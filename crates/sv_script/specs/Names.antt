@@ -3,7 +3,8 @@ use Rattle.std.specs.Prelude.{ℕ, Bool, ◌==◌, ◌&&◌, not, nat_le, List, 
 use Rattle.std.specs.List.{list_all, slice_split}
 use Rattle.std.specs.Str.{byte, is_utf8}
 use Rattle.http_header.specs.Token.{is_token_byte}
-use Rattle.sv_script.specs.declared.edit_lines.TheConstants.{MAX_METHOD_BYTES, MAX_ROLE_BYTES}
+use Rattle.sv_constraints.specs.declared.constraint.TheConstants.{MAX_METHOD_BYTES}
+use Rattle.sv_script.specs.declared.edit_lines.TheConstants.{MAX_ROLE_BYTES}
 use Rattle.sv_script.specs.declared.names.NameKind.{NameKind}
 use Rattle.sv_script.specs.declared.names.NameKind.TheVariants.{Method, Role}
 

@@ -6,7 +6,7 @@ ghost use Rattle.sv_script.specs.Laws.{ReadsBack};
 ghost use Rattle.sv_script.specs.ReplayLaws.{AFailedWriteCutsTheText, LinesAreApart, LinesAreTheText, NextLinesAreFirst};
 ghost use Rattle.sv_script.specs.WholeLaws.{ACutTextBeginsTheWhole, ARefusedRunIsCut, ARunWritesOneText, AScriptIsALawfulRun};
 
-use crate::edit_lines::{MAX_METHOD_BYTES, MAX_ROLE_BYTES};
+use crate::edit_lines::MAX_ROLE_BYTES;
 use crate::whole::Stops;
 use sv_run::{Context, EventHandler, Words};
 use sv_streams::{Sink, Source};
@@ -16,10 +16,8 @@ pub fn an_escaped_text_reads_back()
     ensures { ReadsBack }
 {}
 
-/// States the limits as numbers. Definitions and code cite only the constants, so a change to a constant would change
-/// both.
+/// States the limit as a number. Definitions and code cite only the constant.
 pub fn limits_are_as_stated()
-    ensures method { MAX_METHOD_BYTES ≡ 15 }
     ensures role { MAX_ROLE_BYTES ≡ 64 }
 {}
 

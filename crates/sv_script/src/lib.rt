@@ -15,7 +15,7 @@ mod replay;
 mod replay_fault;
 mod whole;
 
-pub use edit_lines::{MAX_METHOD_BYTES, MAX_ROLE_BYTES};
+pub use edit_lines::MAX_ROLE_BYTES;
 pub use escape::{escaped, unescaped};
 pub use fields::{at_blank, text_of};
 pub use laws::{

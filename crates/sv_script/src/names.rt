@@ -7,10 +7,11 @@ ghost use Rattle.http_header.specs.Token.{is_token_byte};
 ghost use Rattle.sv_text.specs.Gives.{GivesAnswer};
 ghost use Rattle.sv_script.specs.Names as spec;
 
-use crate::edit_lines::{MAX_METHOD_BYTES, MAX_ROLE_BYTES};
+use crate::edit_lines::MAX_ROLE_BYTES;
 use crate::fields::text_of;
 use http_header::is_token_char;
 use std::alloc::Global;
+use sv_constraints::MAX_METHOD_BYTES;
 use sv_text::{Listed, NoMemory, Text};
 
 /// The kind of a name.

@@ -7,7 +7,7 @@ use Rattle.sv_session.specs.declared.slot.Attribute.{Attribute}
 use Rattle.sv_session.specs.declared.ended_sessions.EndedSession.{EndedSession}
 use Rattle.sv_session.specs.declared.session_fault.SessionFault.{SessionFault}
 use Rattle.sv_session.specs.declared.session_fault.SessionFault.TheVariants.{TooMany, SerialSpent, NoSuch, NoMemory, TooLarge}
-use Rattle.sv_session.specs.declared.limits.TheConstants.{MAX_ATTRIBUTES, MAX_NAME_BYTES, MAX_VALUE_BYTES, GREATEST_SERIAL}
+use Rattle.sv_session.specs.declared.limits.TheConstants.{MAX_ATTRIBUTES, MAX_ATTRIBUTE_NAME_BYTES, MAX_VALUE_BYTES, GREATEST_SERIAL}
 use Rattle.sv_session.specs.Attributes.{names_one, with_named, without_named, value_named}
 use Rattle.sv_session.specs.Expiry.{first_expired}
 use Rattle.sv_session.specs.Id.{id_text}
@@ -77,7 +77,7 @@ HoldsCaller number caller store = list_any (is_held_by number caller) store.sess
 -- Its attributes.
 abbrev pub is_too_large : List ℕ → List ℕ → List Attribute → Bool
 is_too_large name value attributes =
-    nat_lt MAX_NAME_BYTES (length name) || nat_lt MAX_VALUE_BYTES (length value)
+    nat_lt MAX_ATTRIBUTE_NAME_BYTES (length name) || nat_lt MAX_VALUE_BYTES (length value)
     || (nat_le MAX_ATTRIBUTES (length attributes) && not (names_one name attributes))
 
 abbrev pub setting_faults : ℕ → List ℕ → List ℕ → Store → List SessionFault

@@ -22,12 +22,12 @@ ghost use Rattle.sv_session.specs.Laws.{
   TouchedHasNotExpired,
 };
 
-use crate::limits::{GREATEST_SERIAL, MAX_ATTRIBUTES, MAX_NAME_BYTES, MAX_VALUE_BYTES};
+use crate::limits::{GREATEST_SERIAL, MAX_ATTRIBUTE_NAME_BYTES, MAX_ATTRIBUTES, MAX_VALUE_BYTES};
 
 /// The limits as numbers. Definitions and code both use the constants, so this contract is what fixes their values.
 pub fn limits_are_as_stated()
     ensures attributes { MAX_ATTRIBUTES ≡ 64 }
-    ensures name { MAX_NAME_BYTES ≡ 64 }
+    ensures name { MAX_ATTRIBUTE_NAME_BYTES ≡ 64 }
     ensures value { MAX_VALUE_BYTES ≡ 4096 }
     ensures serial { GREATEST_SERIAL ≡ 18446744073709551615 }
 {}

@@ -27,7 +27,7 @@ pub use laws::{
     expiry_judges_at_most_one_more, limits_are_as_stated, no_call_leaves_an_expired_session,
     no_id_is_given_twice, no_serial_follows_the_greatest, sessions_stay_in_order,
 };
-pub use limits::{GREATEST_SERIAL, MAX_ATTRIBUTES, MAX_NAME_BYTES, MAX_VALUE_BYTES};
+pub use limits::{GREATEST_SERIAL, MAX_ATTRIBUTE_NAME_BYTES, MAX_ATTRIBUTES, MAX_VALUE_BYTES};
 pub use session_fault::SessionFault;
 pub use sessions::Sessions;
 pub use slot::Attribute;

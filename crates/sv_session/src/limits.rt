@@ -4,7 +4,7 @@
 pub const MAX_ATTRIBUTES: usize = 64;
 
 /// Maximum length of an attribute's name, in bytes.
-pub const MAX_NAME_BYTES: usize = 64;
+pub const MAX_ATTRIBUTE_NAME_BYTES: usize = 64;
 
 /// Maximum length of an attribute's value, in bytes.
 pub const MAX_VALUE_BYTES: usize = 4_096;

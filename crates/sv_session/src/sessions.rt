@@ -8,7 +8,7 @@ use crate::ended_sessions::{Counted, EndedSession, EndedSessions};
 use crate::expiry_queue::Queue;
 use crate::id::{ID_BYTES, id_of};
 use crate::ids::Ids;
-use crate::limits::{GREATEST_SERIAL, MAX_ATTRIBUTES, MAX_NAME_BYTES, MAX_VALUE_BYTES};
+use crate::limits::{GREATEST_SERIAL, MAX_ATTRIBUTE_NAME_BYTES, MAX_ATTRIBUTES, MAX_VALUE_BYTES};
 use crate::session_fault::SessionFault;
 use crate::slot::{Attribute, Slot, first_living, gathered, place_of, push};
 use crate::stored_session::Kept;

@@ -101,7 +101,7 @@ pub(crate) fn gathered(alloc: Global, slots: &[Slot]) -> Result<Queue, NoMemory>
 /// A named value of a session (Jakarta Servlet 6.0, section 7.4).
 #[derive(Drop)]
 pub struct Attribute {
-    /// The name, at most `MAX_NAME_BYTES` long.
+    /// The name, at most `MAX_ATTRIBUTE_NAME_BYTES` long.
     pub name: Text,
     /// The value, at most `MAX_VALUE_BYTES` long.
     pub value: Text,

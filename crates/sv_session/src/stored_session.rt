@@ -8,7 +8,7 @@ ghost use Rattle.sv_session.specs.Calls.{ended, is_too_large, session_opened};
 use crate::due::Due;
 use crate::ended_sessions::EndedSession;
 use crate::id::id_of;
-use crate::limits::{MAX_ATTRIBUTES, MAX_NAME_BYTES, MAX_VALUE_BYTES};
+use crate::limits::{MAX_ATTRIBUTE_NAME_BYTES, MAX_ATTRIBUTES, MAX_VALUE_BYTES};
 use crate::slot::Attribute;
 use std::alloc::Global;
 use std::marker::Model;
@@ -128,7 +128,7 @@ impl Kept {
     pub fn is_too_large(&self, name: &str, value: &str) -> bool
         ensures { result ≡ is_too_large name.now value.now self.now.attributes }
     {
-        name.len() > MAX_NAME_BYTES
+        name.len() > MAX_ATTRIBUTE_NAME_BYTES
             || value.len() > MAX_VALUE_BYTES
             || (self.attributes.len() >= MAX_ATTRIBUTES && !self.has(name))
     }

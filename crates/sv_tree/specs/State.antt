@@ -8,7 +8,7 @@ pub use Rattle.sv_exchange.specs.declared.error.KeptField.{KeptField}
 use Rattle.sv_component.specs.Standing.{standing_now}
 pub use Rattle.sv_component.specs.declared.standing.Standing.{Standing}
 pub use Rattle.sv_component.specs.declared.standing.Standing.TheVariants.{Serving, Gone, Away}
-use Rattle.sv_tree.specs.declared.limits.TheConstants.{LAST_MOMENT, MAX_CALLS}
+use Rattle.sv_tree.specs.declared.limits.TheConstants.{GREATEST_MOMENT, MAX_CALLS}
 
 abbrev pub Exchange : Type 0
 Exchange = exchanges.State
@@ -41,7 +41,7 @@ with_standing place standing state = record state { standings = slice_set state.
 
 -- The time after this many seconds, at most the latest time.
 abbrev pub moment_after : ℕ → ℕ → ℕ
-moment_after moment seconds = min (moment + seconds) LAST_MOMENT
+moment_after moment seconds = min (moment + seconds) GREATEST_MOMENT
 
 -- The servlet is unavailable for this many seconds from the time of the exchange.
 abbrev pub away_for : ℕ → ℕ → State → State

@@ -3,7 +3,7 @@
 ghost use Rattle.std.specs.Prelude.{◌≡◌, ◌-◌, ◌^◌};
 ghost use Rattle.sv_tree.specs.Laws.{AnswersMoveSessions, AnswersOnce, CallsAreCounted, CallsDecide, DispatchesEnd, DispatchesNest, EndingsAreKept, EventsAreTold, FiltersAreClosed, ForwardsBeginEmpty, IncludesEndInNoError, IncludesKeep, MovedFindNoCaller, MovedGiveNoCaller, MovedLeaveNoneExpired, MovesJoin, OnlyServingAreCalled, RequestsAreBounded, StepsMoveSessions, TellingsFollow};
 ghost use Rattle.sv_tree.specs.Site.{Site};
-ghost use Rattle.sv_tree.specs.declared.limits.TheConstants.{FOUND, INTERNAL_SERVER_ERROR, LAST_MOMENT, LEAST_ERROR, MAX_CALLS, MAX_ERROR, MAX_NESTING, METHOD_NOT_ALLOWED, NOT_FOUND, SERVICE_UNAVAILABLE};
+ghost use Rattle.sv_tree.specs.declared.limits.TheConstants.{FOUND, INTERNAL_SERVER_ERROR, GREATEST_MOMENT, LEAST_ERROR, MAX_CALLS, MAX_ERROR, MAX_NESTING, METHOD_NOT_ALLOWED, NOT_FOUND, SERVICE_UNAVAILABLE};
 
 use sv_exchange::{changes_are_calls, changes_move_the_sessions};
 use sv_session::{callers_are_entered, components_keep_the_sessions};
@@ -105,7 +105,7 @@ pub fn moved_sessions_are_kept()
 pub fn limits_are_as_stated()
     ensures calls { MAX_CALLS ≡ 1024 }
     ensures nesting { MAX_NESTING ≡ 16 }
-    ensures last_moment { LAST_MOMENT ≡ 2 ^ 64 - 1 }
+    ensures last_moment { GREATEST_MOMENT ≡ 2 ^ 64 - 1 }
     ensures least_error { LEAST_ERROR ≡ 400 }
     ensures greatest_error { MAX_ERROR ≡ 599 }
     ensures found { FOUND ≡ 302 }

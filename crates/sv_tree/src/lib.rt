@@ -22,7 +22,7 @@ pub use laws::{
     moved_sessions_are_kept, only_serving_are_called, requests_are_bounded, tellings_follow,
 };
 pub use limits::{
-    FOUND, INTERNAL_SERVER_ERROR, LAST_MOMENT, LEAST_ERROR, MAX_CALLS, MAX_ERROR, MAX_NESTING,
+    FOUND, GREATEST_MOMENT, INTERNAL_SERVER_ERROR, LEAST_ERROR, MAX_CALLS, MAX_ERROR, MAX_NESTING,
     METHOD_NOT_ALLOWED, NOT_FOUND, SERVICE_UNAVAILABLE,
 };
 pub use redirect::sent_to;

@@ -28,4 +28,4 @@ pub const INTERNAL_SERVER_ERROR: u16 = 500;
 pub const SERVICE_UNAVAILABLE: u16 = 503;
 
 /// The latest time, in seconds since 1970.
-pub const LAST_MOMENT: u64 = u64::MAX;
+pub const GREATEST_MOMENT: u64 = u64::MAX;
