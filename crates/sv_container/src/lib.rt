@@ -4,6 +4,7 @@
 #![tactic(auto)]
 
 mod container;
+mod container_start;
 mod events;
 mod explanation;
 mod laws;
@@ -14,7 +15,6 @@ mod running;
 mod script;
 mod seeded_start;
 mod shutdown;
-mod start;
 
 pub use container::{Container, MAX_CONTEXTS};
 pub use laws::{

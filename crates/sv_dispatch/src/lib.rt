@@ -2,7 +2,7 @@
 //! dispatch ends in an error, the response is the error's page or a plain text (Jakarta Servlet 6.0, section 10.9).
 #![tactic(auto)]
 
-mod dispatch;
+mod dispatcher;
 mod endings;
 mod file_servlet;
 mod filters;

@@ -6,7 +6,7 @@ ghost use Rattle.sv_dispatch.specs.Did.{seen};
 ghost use Rattle.sv_dispatch.specs.Dispatched.{Dispatched, Refused};
 ghost use Rattle.sv_tree.specs.SiteOfDescriptor.{site_of};
 
-use crate::dispatch::dispatch_by;
+use crate::dispatcher::dispatch_by;
 use crate::live_machine::Running;
 use std::alloc::Global;
 use sv_component::{Exchange, Filter, Listener, Servlet};

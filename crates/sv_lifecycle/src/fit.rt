@@ -8,7 +8,7 @@ use sv_descriptor::{Named as Declared, WebApp};
 use sv_live::Parts;
 
 /// Returns whether the servlets and filters have the names in the descriptor, in its order, and the number of listeners
-/// is the declared one. If not, [`start`](crate::start) refuses the components before it calls any.
+/// is the declared one. If not, [`start`](crate::context_start) refuses the components before it calls any.
 pub fn fits<S, F, L>(app: &WebApp, parts: &Parts<S, F, L>) -> bool
     ensures { MatchBool result (Fits app.now parts.now) (Fits app.now parts.now → ⊥) }
 {

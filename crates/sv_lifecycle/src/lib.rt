@@ -3,16 +3,16 @@
 
 mod begin;
 mod configs;
+mod context_start;
 mod deployment;
 mod fit;
 mod laws;
 mod order;
 mod plan;
-mod start;
 mod start_fault;
 
+pub use context_start::start;
 pub use deployment::Deployment;
 pub use fit::fits;
 pub use laws::{stops_mirror_starts, undone_starts_mirror};
-pub use start::start;
 pub use start_fault::{StartCode, StartFault};

@@ -3,9 +3,9 @@
 ghost use Rattle.sv_listening.specs.Laws.{IsTakenWithin};
 ghost use Rattle.sv_run.specs.Contexts.{theory_of};
 
-use crate::listen_and_run::run_controlled;
 use crate::record::Record;
 use crate::recorder::{Alarm, Recorder};
+use crate::server::run_controlled;
 use crate::sockets::file_fault;
 use std::alloc::Global;
 use std::fs::OpenOptions;

@@ -10,12 +10,12 @@ mod fault;
 mod form;
 mod kind;
 pub mod laws;
+mod path_split;
 mod pattern;
 mod pattern_index;
 mod pattern_table;
 mod rank;
 mod segments;
-mod split;
 mod trie;
 mod trie_node;
 
@@ -28,7 +28,7 @@ pub use kind::Kind;
 pub use laws::{
     a_context_is_found_where_one_serves, best_is_looked_up, the_chosen_context_path_is_unique,
 };
-pub use pattern::{MAX_PATTERN_BYTES, Pattern};
+pub use path_split::split;
+pub use pattern::{MAX_PATTERN_BYTES, Pattern, Split};
 pub use pattern_index::Looked;
 pub use pattern_table::PatternTable;
-pub use split::{Split, split};

@@ -102,3 +102,12 @@ fn is_extension_pattern(text: &str) -> bool
 
 /// The greatest length of a URL pattern's text, in bytes.
 pub const MAX_PATTERN_BYTES: usize = 1024;
+
+/// The parts of a path within its context.
+#[derive(Clone, Copy)]
+pub struct Split<'a> {
+    /// The part of the path that the pattern claims.
+    pub servlet_path: &'a str,
+    /// The rest after the prefix of a prefix pattern, unless it is empty, or `/` for the pattern `""`.
+    pub path_info: Option<&'a str>,
+}

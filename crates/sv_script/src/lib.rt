@@ -11,8 +11,8 @@ mod names;
 mod play;
 mod print;
 mod printed_texts;
-mod replay;
 mod replay_fault;
+mod script_replay;
 mod whole;
 
 pub use edit_lines::MAX_ROLE_BYTES;
@@ -27,6 +27,6 @@ pub use line::{LineFault, ScriptLine, read_line};
 pub use names::NameKind;
 pub use print::print_start;
 pub use printed_texts::{event_text, shutdown_text, start_text};
-pub use replay::replay;
 pub use replay_fault::ReplayFault;
+pub use script_replay::replay;
 pub use whole::{Stops, run_started};

@@ -3,8 +3,8 @@
 ghost use Rattle.sv_script.specs.Whole.{PlaysOnce, RunsWhole};
 
 use crate::print::{print_start, print_stop};
-use crate::replay::replay;
 use crate::replay_fault::ReplayFault;
+use crate::script_replay::replay;
 use std::alloc::Global;
 use sv_journal::Journal;
 use sv_run::EventHandler;

@@ -2,11 +2,11 @@
 //! an application.
 #![tactic(auto)]
 
+mod application;
 mod options;
-mod run_application;
 
+pub use application::run_application;
 pub use options::Options;
-pub use run_application::run_application;
 pub use sv_program::CommandFault;
 pub use sv_web::{
     Attribute, Caller, Config, Deployment, Event, Exchange, ExchangeFault, Fault, Field, Filter,

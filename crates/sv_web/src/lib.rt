@@ -12,7 +12,7 @@ mod links;
 mod methods;
 mod redirects;
 mod request_cookies;
-mod send;
+mod whole_response;
 
 pub use cookies::{NewCookie, SameSite, set_cookie};
 pub use deployment::{Content, Deployment};
@@ -23,7 +23,6 @@ pub use links::link_to;
 pub use methods::{Verb, asked_verb};
 pub use redirects::{RedirectKind, redirect, redirect_elsewhere};
 pub use request_cookies::cookie;
-pub use send::{send, send_html, send_text};
 pub use sv_component::{
     Config, Event, Exchange, ExchangeFault, Filter, Gate, Init, Listener, Named, Param, Servlet,
     Step,
@@ -33,3 +32,4 @@ pub use sv_message::Field;
 pub use sv_realm::Caller;
 pub use sv_session::Attribute;
 pub use sv_text::{NoMemory, Text};
+pub use whole_response::{send, send_html, send_text};

@@ -1,4 +1,0 @@
-use Rattle.sv_web.proofs.send.send_html.Goals as goal
-
-pub returns-clause-answered : goal.returns-clause-answered
-returns-clause-answered c = rw c.as_bytes.ensures.value at c.send.ensures.answered
