@@ -3,4 +3,3 @@ pub mod Growing
 pub mod Journalling
 pub mod Moving
 pub mod Running
-pub mod Tellings

@@ -7,5 +7,4 @@ pub mod Noted
 pub mod Runs
 pub mod Standing
 pub mod Steps
-pub mod Telling
 pub mod World

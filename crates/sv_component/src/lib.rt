@@ -1,4 +1,4 @@
-//! The interfaces of components, the model of their calls, and the notification of listeners.
+//! The interfaces of components, and the model of their calls.
 #![tactic(auto)]
 
 mod answers;
@@ -6,7 +6,6 @@ mod boxes;
 mod components;
 mod config;
 mod laws;
-mod notification;
 mod results;
 mod standing;
 
@@ -14,7 +13,6 @@ pub use answers::{Gate, Init, Step};
 pub use components::{Filter, Listener, Named, Servlet};
 pub use config::{Config, Param};
 pub use laws::{runs_are_journalled, runs_are_whole, runs_join, runs_move_components};
-pub use notification::tell;
 pub use results::{gate_answer, init_answer, step_answer};
 pub use standing::Standing;
 pub use sv_exchange::{Exchange, ExchangeFault};

@@ -18,7 +18,7 @@ use Rattle.sv_session.specs.declared.event.Event.{Event}
 use Rattle.sv_session.specs.declared.event.Event.TheVariants.{RequestDestroyed, RequestInitialized}
 use Rattle.sv_live.specs.Calling.{StandsAsBefore}
 use Rattle.sv_live.specs.Standing.{LiveState, live_world}
-use Rattle.sv_component.specs.Telling.{told}
+use Rattle.sv_listeners.specs.Telling.{told}
 use Rattle.sv_dispatch.proofs.ContextDeeds.{by_alone, by_not, by_then}
 use Rattle.sv_dispatch.proofs.ExchangeDeeds.{alone_makes, alone_not, alone_then}
 use Rattle.sv_dispatch.specs.ServedBy.{Alone, ServedBy}

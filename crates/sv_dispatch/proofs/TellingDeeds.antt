@@ -3,7 +3,7 @@ use Rattle.std.proofs.Common.{◌≡◌, ℕ, List, [], ◌∷◌, ◌++◌, dro
 use Rattle.std.specs.Prelude.{slice_get}
 use Rattle.sv_exchange.specs.State as exchanges
 use Rattle.sv_session.specs.declared.event.Event.{Event}
-use Rattle.sv_component.specs.Telling.{told}
+use Rattle.sv_listeners.specs.Telling.{told}
 use Rattle.sv_tree.specs.Asking.{without_events}
 use Rattle.sv_tree.specs.Telling.{all_told}
 

@@ -5,7 +5,7 @@ ghost use Rattle.std.specs.Prelude.{◌≡◌, length};
 ghost use Rattle.sv_component.specs.Runs.{Runs};
 ghost use Rattle.sv_live.specs.Calling.{StandsAsBefore};
 ghost use Rattle.sv_live.specs.Standing.{live_world};
-ghost use Rattle.sv_component.specs.Telling.{told};
+ghost use Rattle.sv_listeners.specs.Telling.{told};
 ghost use Rattle.sv_tree.specs.Asking.{without_events};
 ghost use Rattle.sv_tree.specs.Telling.{all_told};
 

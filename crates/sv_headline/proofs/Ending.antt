@@ -17,7 +17,7 @@ use Rattle.sv_live.specs.SessionEnds.{all_told, by_number, end_events, ends_told
 use Rattle.sv_live.specs.Standing.{is_in_service}
 use Rattle.sv_live.specs.declared.live.Place.{Place}
 use Rattle.sv_live.specs.declared.live.Place.TheVariants.{Filter, Servlet}
-use Rattle.sv_component.specs.Telling.{hearing_order, told}
+use Rattle.sv_listeners.specs.Telling.{hearing_order, told}
 use Rattle.sv_headline.specs.Ends.{EndsOnce, component_calls, is_at}
 use Rattle.sv_session.specs.Calls.{ended}
 use Rattle.sv_session.specs.Store.{Session}

@@ -23,7 +23,7 @@ use Rattle.sv_exchange.specs.State as exchanges
 use Rattle.sv_journal.specs.Journal.{JournalState, new_journal, with_entry}
 use Rattle.sv_session.specs.declared.event.Event.{Event}
 use Rattle.sv_live.specs.SessionEnds.{end_events}
-use Rattle.sv_component.specs.Telling.{told}
+use Rattle.sv_listeners.specs.Telling.{told}
 use Rattle.sv_run.proofs.Breaking.{event_same}
 use Rattle.sv_run.specs.Effect.{whole}
 use Rattle.sv_session.specs.declared.ended_sessions.EndedSession.{EndedSession}

@@ -15,7 +15,7 @@ use Rattle.sv_component.specs.declared.answers.Init.TheVariants as init_answers
 use Rattle.sv_descriptor.specs.declared.web_app.WebApp.{WebApp}
 use Rattle.sv_journal.specs.Journal.{JournalState}
 use Rattle.sv_session.specs.declared.event.Event.TheVariants.{ContextInitialized}
-use Rattle.sv_component.specs.Telling.{told}
+use Rattle.sv_listeners.specs.Telling.{told}
 use Rattle.sv_component.proofs.Journalling.{run_gains}
 use Rattle.sv_component.proofs.Running.{runs_grown}
 use Rattle.sv_component.proofs.Growing.{grows_join, grows_none}

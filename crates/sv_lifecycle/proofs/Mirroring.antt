@@ -20,7 +20,7 @@ use Rattle.sv_component.specs.declared.standing.Standing.TheVariants.{Serving, G
 use Rattle.sv_descriptor.specs.declared.web_app.WebApp.{WebApp}
 use Rattle.sv_journal.specs.Journal.{JournalState}
 use Rattle.sv_session.specs.declared.event.Event.TheVariants.{ContextDestroyed, ContextInitialized}
-use Rattle.sv_component.specs.Telling.{told}
+use Rattle.sv_listeners.specs.Telling.{told}
 use Rattle.sv_live.specs.Calls.{destroyed, stop_calls}
 use Rattle.sv_lifecycle.specs.Calls.{Answered, inited, initialised, places_of, start_calls}
 use Rattle.sv_lifecycle.specs.Laws.{answered_by, mirrored}

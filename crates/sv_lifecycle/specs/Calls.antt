@@ -12,7 +12,7 @@ use Rattle.sv_descriptor.specs.declared.init_param.InitParam.{InitParam}
 use Rattle.sv_descriptor.specs.declared.servlet.ServletEntry.{ServletEntry}
 use Rattle.sv_descriptor.specs.declared.web_app.WebApp.{WebApp}
 use Rattle.sv_session.specs.declared.event.Event.TheVariants.{ContextInitialized}
-use Rattle.sv_component.specs.Telling.{told}
+use Rattle.sv_listeners.specs.Telling.{told}
 use Rattle.sv_live.specs.Calls.{init_record, stop_calls}
 use Rattle.sv_live.specs.declared.live.Place.{Place}
 use Rattle.sv_live.specs.declared.live.Place.TheVariants.{Filter, Servlet}

@@ -6,7 +6,7 @@ use Rattle.sv_component.specs.Runs.{OfFilter, OfServlet, Record}
 use Rattle.sv_component.specs.declared.answers.Init.{Init}
 use Rattle.sv_component.specs.declared.config.Config.{Config}
 use Rattle.sv_session.specs.declared.event.Event.TheVariants.{ContextDestroyed}
-use Rattle.sv_component.specs.Telling.{told}
+use Rattle.sv_listeners.specs.Telling.{told}
 use Rattle.sv_session.specs.Store.{Session}
 use Rattle.sv_live.specs.SessionEnds.{ends_told}
 use Rattle.sv_live.specs.declared.live.Place.{Place}

@@ -5,7 +5,7 @@ use Rattle.std.specs.List.{flat_map}
 use Rattle.sv_component.specs.Runs.{Record}
 use Rattle.sv_session.specs.declared.event.Event.{Event}
 use Rattle.sv_session.specs.declared.event.Event.TheVariants.{AttributeRemoved, SessionDestroyed}
-use Rattle.sv_component.specs.Telling.{told}
+use Rattle.sv_listeners.specs.Telling.{told}
 use Rattle.sv_session.specs.Calls.{ended}
 use Rattle.sv_session.specs.Store.{Session}
 use Rattle.sv_session.specs.declared.ended_sessions.EndedSession.{EndedSession}

@@ -3,7 +3,7 @@
 ghost use Rattle.sv_component.specs.Steps.{steps_of};
 ghost use Rattle.std.specs.Prelude.{length};
 ghost use Rattle.sv_component.specs.Runs.{Moves, Runs};
-ghost use Rattle.sv_component.specs.Telling.{told};
+ghost use Rattle.sv_listeners.specs.Telling.{told};
 ghost use Rattle.sv_live.specs.Calls.{destroyed, init_record};
 ghost use Rattle.sv_live.specs.World.{HasSameCounts, IsPlaceIn, world};
 
@@ -19,7 +19,7 @@ impl<S: Servlet, F: Filter, L: Listener> Parts<S, F, L> {
             (world context.now self.old journal.old) (told event.now (length self.old.listeners.items)) (world context.now self.new journal.new) }
         ensures counts { HasSameCounts self.old self.new }
     {
-        sv_component::tell(
+        sv_listeners::tell(
             alloc,
             context,
             self.listeners.as_mut_slice(),

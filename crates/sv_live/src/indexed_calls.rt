@@ -5,7 +5,7 @@ ghost use Rattle.std.specs.Prelude.{◌≡◌, ◌<◌, false, is_ok, length, So
 ghost use Rattle.sv_text.specs.Gives.{GivesAnswer};
 ghost use Rattle.sv_component.specs.Runs.{Runs};
 ghost use Rattle.sv_exchange.specs.Changing.{Reaches};
-ghost use Rattle.sv_component.specs.Telling.{told};
+ghost use Rattle.sv_listeners.specs.Telling.{told};
 ghost use Rattle.sv_live.specs.Calling.{Enters, Leaves, Retires, Serves, StandsAsBefore, StandsBut, unless_broken};
 ghost use Rattle.sv_journal.specs.declared.answer.Answer.{Answer as AnswerData};
 ghost use Rattle.sv_component.specs.declared.answers.Gate.TheVariants as gates;

@@ -3,7 +3,7 @@ use Rattle.std.proofs.Common.{ℕ, List, [], ◌∷◌, ◌++◌, sym, subst, ap
 use Rattle.std.specs.Prelude.{map}
 use Rattle.sv_component.specs.Runs.{OfListener, Record}
 use Rattle.sv_session.specs.declared.event.Event.{Event}
-use Rattle.sv_component.specs.Telling.{hearing_order, told}
+use Rattle.sv_listeners.specs.Telling.{hearing_order, told}
 use Rattle.sv_tree.specs.Telling.{all_told}
 
 -- A property that each single notification keeps holds for all of them.

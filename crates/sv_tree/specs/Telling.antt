@@ -3,7 +3,7 @@ use Rattle.std.specs.Prelude.{ℕ, ◌≡◌, ◌⊎◌, List, Some, None}
 use Rattle.std.specs.List.{flat_map}
 use Rattle.sv_component.specs.Runs.{Record}
 use Rattle.sv_session.specs.declared.event.Event.{Event}
-use Rattle.sv_component.specs.Telling.{told}
+use Rattle.sv_listeners.specs.Telling.{told}
 use Rattle.sv_tree.specs.Does.{Does}
 
 -- This many listeners receive the events, one after another, each in its notification order.

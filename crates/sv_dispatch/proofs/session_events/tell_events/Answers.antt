@@ -3,7 +3,7 @@ use Rattle.sv_component.specs.Runs.{Runs}
 use Rattle.sv_component.specs.Steps.{steps_of}
 use Rattle.sv_live.proofs.SessionEnds.{doing_all, doing_more}
 use Rattle.sv_live.specs.Standing.{live_world}
-use Rattle.sv_component.specs.Telling.{told}
+use Rattle.sv_listeners.specs.Telling.{told}
 use Rattle.sv_tree.specs.Telling.{all_told}
 use Rattle.sv_dispatch.proofs.TellingDeeds.{is_without, none_told, still_without, taken}
 use Rattle.sv_dispatch.proofs.RunningDeeds.{stands_then}

@@ -1,7 +1,7 @@
 use Rattle.std.proofs.Common.{[], length, replicate, Ok, sym, ◌∙◌, ap, subst}
 use Rattle.sv_component.specs.Runs.{Runs}
 use Rattle.sv_session.specs.declared.event.Event.TheVariants.{ContextInitialized}
-use Rattle.sv_component.specs.Telling.{told}
+use Rattle.sv_listeners.specs.Telling.{told}
 use Rattle.sv_session.specs.Store.{Store}
 use Rattle.sv_live.specs.Calls.{stop_calls}
 use Rattle.sv_lifecycle.specs.Starting.{Starts, code_of}

@@ -2,7 +2,7 @@ use Rattle.std.proofs.Common.{length, ap, subst}
 use Rattle.sv_component.specs.Runs.{Runs}
 use Rattle.sv_component.specs.Steps.{steps_of}
 use Rattle.sv_session.specs.declared.event.Event.TheVariants.{AttributeRemoved}
-use Rattle.sv_component.specs.Telling.{told}
+use Rattle.sv_listeners.specs.Telling.{told}
 use Rattle.sv_live.specs.SessionEnds.{all_told, end_events}
 use Rattle.sv_live.specs.World.{world}
 use Rattle.sv_live.proofs.Places.{counts_join}

@@ -2,8 +2,8 @@ use Rattle.std.proofs.Common.{length, sym, ◌∙◌, subst}
 use Rattle.std.proofs.lemmas.List.{with_items_is}
 use Rattle.sv_component.specs.Runs.{Runs}
 use Rattle.sv_component.specs.Steps.{steps_of}
-use Rattle.sv_component.specs.Telling.{Tells, told}
-use Rattle.sv_component.proofs.Tellings.{told_in_world}
+use Rattle.sv_listeners.specs.Telling.{Tells, told}
+use Rattle.sv_listeners.proofs.Tellings.{told_in_world}
 use Rattle.sv_live.specs.World.{world}
 use Rattle.sv_live.proofs.live.Parts.tell.Goals as goal
 

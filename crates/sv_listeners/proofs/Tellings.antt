@@ -12,7 +12,7 @@ use Rattle.sv_component.specs.Steps.{ComponentSteps, listening}
 use Rattle.sv_journal.specs.Entry.{heard}
 use Rattle.sv_journal.specs.Journal.{JournalState, Takes}
 use Rattle.sv_session.specs.declared.event.Event.{Event}
-use Rattle.sv_component.specs.Telling.{Tells, hearing_order, is_end, listeners_alone, told}
+use Rattle.sv_listeners.specs.Telling.{Tells, hearing_order, is_end, listeners_alone, told}
 
 -- The index of the next listener, given the number of listeners already notified.
 place_by : Bool → ℕ → ℕ → ℕ

@@ -1,9 +1,9 @@
 use Rattle.std.proofs.Common.{◌≡◌, length, arith, refl, sym, ◌∙◌, ap, subst, take}
 use Rattle.sv_component.specs.Runs.{Runs}
-use Rattle.sv_component.specs.Telling.{listeners_alone, told}
+use Rattle.sv_listeners.specs.Telling.{listeners_alone, told}
 use Rattle.sv_component.proofs.Growing.{grows_more, grows_none}
-use Rattle.sv_component.proofs.Tellings.{told_all, told_more}
-use Rattle.sv_component.proofs.notification.tell.Goals as goal
+use Rattle.sv_listeners.proofs.Tellings.{told_all, told_more}
+use Rattle.sv_listeners.proofs.notification.tell.Goals as goal
 use Rattle.sv_component.specs.Steps.{listening}
 
 pub loop-told-init : goal.loop-told-init

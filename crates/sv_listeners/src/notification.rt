@@ -3,10 +3,10 @@
 ghost use Rattle.sv_component.specs.Steps.{listening};
 ghost use Rattle.std.specs.Prelude.{◌≡◌, ◌-◌, ◌<◌, length, if◌then◌else◌};
 ghost use Rattle.sv_component.specs.Runs.{Moves, OfListener};
-ghost use Rattle.sv_component.specs.Telling.{Tells, is_end, listeners_alone};
+ghost use Rattle.sv_listeners.specs.Telling.{Tells, is_end, listeners_alone};
 
-use crate::components::Listener;
 use std::alloc::Global;
+use sv_component::Listener;
 use sv_journal::{Entry, Journal};
 use sv_session::Event;
 

@@ -1,7 +1,7 @@
 use Rattle.std.proofs.Common.{◌≡◌, length, take}
 use Rattle.sv_component.specs.Runs.{Runs}
-use Rattle.sv_component.specs.Telling.{listeners_alone, told}
-use Rattle.sv_component.proofs.notification.tell.Given as goal
+use Rattle.sv_listeners.specs.Telling.{listeners_alone, told}
+use Rattle.sv_listeners.proofs.notification.tell.Given as goal
 use Rattle.sv_component.specs.Steps.{listening}
 
 abbrev pub invariant-loop-told : goal.invariant-loop-told
