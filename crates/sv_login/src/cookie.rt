@@ -7,7 +7,7 @@ ghost use Rattle.sv_login.specs.Cookies.{behind_name, value_of};
 
 /// Returns the value of a cookie, if the cookie has this name. The text is a cookie without surrounding blanks, and is
 /// cut at its first `=`. Quotes belong to the value, and names are case-sensitive.
-pub fn value_of<'a>(name: &str, text: &'a [u8]) -> Option<&'a [u8]>
+pub fn cookie_value<'a>(name: &str, text: &'a [u8]) -> Option<&'a [u8]>
     ensures { option_copied result ≡ value_of name.now text.now }
 {
     let place = first_equals(text)?;

@@ -10,6 +10,7 @@ mod outcome;
 mod request_session;
 mod step;
 
+pub use cookie::cookie_value;
 pub use laws::{
     a_message_enters_exactly_by_an_open_verdict, a_passed_login_has_a_new_id,
     a_passed_login_holds_its_user, a_refused_login_changes_nothing, just_one_case_holds,

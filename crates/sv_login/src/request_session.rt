@@ -7,7 +7,7 @@ ghost use Rattle.sv_login.specs.Cookies.{value_of, values_in};
 ghost use Rattle.sv_login.specs.Held.{first_given, held};
 ghost use Rattle.sv_session.specs.Store.{number_of};
 
-use crate::cookie::value_of;
+use crate::cookie::cookie_value;
 use sv_message::{Field, trim_blanks};
 use sv_session::Sessions;
 
@@ -55,5 +55,5 @@ fn held_first(found: Option<u64>, piece: &[u8], name: &str, sessions: &Sessions)
     if found.is_some() {
         return found;
     }
-    sessions.find(value_of(name, trim_blanks(piece))?)
+    sessions.find(cookie_value(name, trim_blanks(piece))?)
 }

@@ -1,13 +1,14 @@
 //! Cookies that a client sent.
 
-ghost use Rattle.std.specs.Prelude.{◌≡◌, ◌==◌, ◌<◌, [], ◌∷◌, IfSome, length, position};
+ghost use Rattle.std.specs.Prelude.{◌≡◌, ◌==◌, [], ◌∷◌, position};
 ghost use Rattle.std.specs.List.{slice_split};
 ghost use Rattle.std.specs.Option.{option_copied};
 ghost use Rattle.std.specs.Str.{byte};
-ghost use Rattle.sv_login.specs.Cookies.{behind_name, value_of, values_in};
+ghost use Rattle.sv_login.specs.Cookies.{values_in};
 ghost use Rattle.sv_web.specs.SentCookies.{first, first_cookie, pieces_left};
 
 use sv_component::Exchange;
+use sv_login::cookie_value;
 use sv_message::{Field, trim_blanks};
 
 /// Returns the value of the first cookie of this name that the client sent, or `None` if there is none (RFC 6265,
@@ -51,7 +52,7 @@ fn cookie_in_value<'a>(value: &'a [u8], name: &str) -> Option<&'a [u8]>
     let mut rest = Some(value);
     while let Some(text) = rest {
         let (front, behind) = at_semicolon(text);
-        if let Some(found) = value_of(name, trim_blanks(front)) {
+        if let Some(found) = cookie_value(name, trim_blanks(front)) {
             return Some(found);
         }
         rest = behind;
@@ -73,32 +74,4 @@ fn first_semicolon(text: &[u8]) -> Option<usize>
     ensures { result ≡ position (λ b. b == byte ";") text.now }
 {
     text.iter().position(|b| *b == b';')
-}
-
-// Returns the value of the cookie in a trimmed text, if the cookie has this name.
-fn value_of<'a>(name: &str, text: &'a [u8]) -> Option<&'a [u8]>
-    ensures { option_copied result ≡ value_of name.now text.now }
-{
-    let place = first_equals(text)?;
-    behind_name(name, text, place)
-}
-
-fn first_equals(text: &[u8]) -> Option<usize>
-    ensures place { result ≡ position (λ b. b == byte "=") text.now }
-    ensures bound { IfSome result (λ place. place < length text.now) }
-{
-    text.iter().position(|b| *b == b'=')
-}
-
-// Returns the text after the byte at a position, if the text before it is the name.
-#[tactic(auto, using(std::proofs::lemmas::List::take_rest))]
-fn behind_name<'a>(name: &str, text: &'a [u8], place: usize) -> Option<&'a [u8]>
-    requires { place < length text.now }
-    ensures { option_copied result ≡ behind_name name.now text.now place }
-{
-    if &text[..place] == name.as_bytes() {
-        Some(&text[place + 1..])
-    } else {
-        None
-    }
 }
