@@ -16,8 +16,8 @@ use Rattle.sv_tree.specs.State.{State, away_for, on_exchange}
 use Rattle.sv_tree.specs.Files as files
 use Rattle.sv_tree.specs.Tree as tree
 use Rattle.sv_tree.specs.Tree.{Tree, admitted, asked_for, behind_include, destroys, is_too_late, last, service_of}
-use Rattle.sv_tree.specs.declared.dispatch_fault.DispatchFault.{DispatchFault}
-use Rattle.sv_tree.specs.declared.dispatch_fault.DispatchFault.TheVariants.{BadDispatchPath, Committed, DispatchLimit}
+use Rattle.sv_tree.specs.declared.finished.DispatchFault.{DispatchFault}
+use Rattle.sv_tree.specs.declared.finished.DispatchFault.TheVariants.{BadDispatchPath, Committed, DispatchLimit}
 use Rattle.sv_tree.specs.declared.finished.Finished.{Finished}
 use Rattle.sv_tree.specs.declared.finished.Finished.TheVariants.{Done}
 use Rattle.sv_uri.specs.Canonical.{canonical}

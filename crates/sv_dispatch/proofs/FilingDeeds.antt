@@ -11,7 +11,7 @@ use Rattle.sv_tree.specs.Files.{Sends, SendsTo, emptied}
 use Rattle.sv_tree.specs.Site.{Site}
 use Rattle.sv_tree.specs.declared.site.Resource.TheVariants.{Files}
 use Rattle.sv_tree.specs.State.{State, on_exchange}
-use Rattle.sv_tree.specs.declared.dispatch_fault.DispatchFault.TheVariants.{TooLarge}
+use Rattle.sv_tree.specs.declared.finished.DispatchFault.TheVariants.{TooLarge}
 use Rattle.sv_tree.specs.declared.finished.Finished.{Finished}
 use Rattle.sv_tree.specs.declared.finished.Finished.TheVariants.{Done}
 use Rattle.sv_tree.specs.declared.limits.TheConstants.{FOUND}

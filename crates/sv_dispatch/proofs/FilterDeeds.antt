@@ -13,7 +13,7 @@ use Rattle.sv_tree.specs.Filters.{Afters, Befores, Gated, Reached, after_of, bef
 use Rattle.sv_tree.specs.Site.{Site}
 use Rattle.sv_tree.specs.declared.site.Resource.{Resource}
 use Rattle.sv_tree.specs.State.{State, counted, is_full}
-use Rattle.sv_tree.specs.declared.dispatch_fault.DispatchFault.TheVariants.{DispatchLimit}
+use Rattle.sv_tree.specs.declared.finished.DispatchFault.TheVariants.{DispatchLimit}
 use Rattle.sv_tree.specs.declared.finished.Finished.{Finished}
 use Rattle.sv_tree.specs.declared.finished.Finished.TheVariants.{Done}
 use Rattle.sv_dispatch.proofs.Deeds.{Makes, did_by, did_first, did_give, did_not, did_other, did_refuse, did_then}

@@ -19,7 +19,7 @@ use Rattle.sv_tree.specs.State.{Exchange, State, counted, is_full, standing_at}
 use Rattle.sv_tree.specs.Telling.{all_told}
 use Rattle.sv_tree.specs.Tree as tree
 use Rattle.sv_tree.specs.Tree.{Tree, last, service_of}
-use Rattle.sv_tree.specs.declared.dispatch_fault.DispatchFault.TheVariants.{DispatchLimit}
+use Rattle.sv_tree.specs.declared.finished.DispatchFault.TheVariants.{DispatchLimit}
 use Rattle.sv_tree.specs.declared.finished.Finished.{Finished}
 use Rattle.sv_tree.specs.declared.limits.TheConstants.{MAX_CALLS}
 use Rattle.sv_tree.specs.declared.site.Resource.TheVariants.{Servlet}

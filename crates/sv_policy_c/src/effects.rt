@@ -1,13 +1,12 @@
 //! The effects of the exported functions on an engine.
 
-ghost use Rattle.std.specs.Prelude.{◌≡◌, ◌≢◌, Ok, Err, IfOk, IfErr};
-ghost use Rattle.sv_policy_c.specs.Answer.{IsUntouched};
+ghost use Rattle.std.specs.Prelude.{Err, IfErr, IfOk, Ok, length, ◌≡◌, ◌≢◌};
+ghost use Rattle.sv_policy_c.specs.Answer.{IsPut, IsUntouched};
 ghost use Rattle.sv_policy_c.specs.Deciding as spec;
 ghost use Rattle.sv_policy_c.specs.Engine.{engine_of, explained};
-ghost use Rattle.sv_policy_c.specs.Uncovered.{uncovered_in, Lists};
+ghost use Rattle.sv_policy_c.specs.Uncovered.{Lists, uncovered_in};
 ghost use Rattle.sv_program.specs.declared.command_fault.CommandFault.TheVariants.{Descriptor};
 
-use crate::answer::put;
 use crate::engine::Engine;
 use crate::gaps::uncovered;
 use crate::status::Status;
@@ -218,4 +217,17 @@ fn list_fault(
         Ok(text) => refused(put(answer, length, text.as_str())),
         Err(_) => Status::NoMemory,
     }
+}
+
+/// Writes the text to the front of the buffer if it fits, and returns whether it does. Sets the length in any case. The
+/// bytes after the text are unchanged.
+pub(crate) fn put(answer: &mut [u8], length: &mut usize, text: &str) -> bool
+    ensures { IsPut text.now answer.old answer.new length.new result }
+{
+    *length = text.len();
+    if answer.len() < text.len() {
+        return false;
+    }
+    answer[..text.len()].copy_from_slice(text.as_bytes());
+    true
 }

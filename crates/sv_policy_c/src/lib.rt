@@ -2,7 +2,6 @@
 //! 6.0, section 13.8). `policy.h` documents the calls from C.
 #![tactic(auto)]
 
-mod answer;
 mod effects;
 mod engine;
 mod exports;

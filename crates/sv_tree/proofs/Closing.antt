@@ -17,7 +17,7 @@ use Rattle.sv_tree.specs.Site.{Resource, Site, name_of}
 use Rattle.sv_tree.specs.State.{Exchange, State, counted, is_full}
 use Rattle.sv_tree.specs.Telling.{all_told}
 use Rattle.sv_tree.specs.Tree as tree
-use Rattle.sv_tree.specs.declared.dispatch_fault.DispatchFault.TheVariants.{DispatchLimit}
+use Rattle.sv_tree.specs.declared.finished.DispatchFault.TheVariants.{DispatchLimit}
 use Rattle.sv_tree.specs.declared.finished.Finished.{Finished}
 use Rattle.sv_tree.specs.declared.finished.Finished.TheVariants.{Done}
 use Rattle.sv_tree.proofs.Doing.{absurd_result, becomes_then, chosen_then, not_true, same_result, wants_then}

@@ -23,8 +23,8 @@ use Rattle.sv_tree.specs.Site.{Resource, Servlet, Files, FileAnswer, File, Redir
 use Rattle.sv_tree.specs.State.{Exchange, KeptError, KeptField, State, Standing, Serving, Gone, Away, away_for, counted, is_full, on_exchange, standing_at, with_exchange, with_kept}
 use Rattle.sv_tree.specs.Tree as tree
 use Rattle.sv_tree.specs.Tree.{Tree, asked_for, destroys, last, service_of}
-use Rattle.sv_tree.specs.declared.dispatch_fault.DispatchFault.{DispatchFault}
-use Rattle.sv_tree.specs.declared.dispatch_fault.DispatchFault.TheVariants.{DispatchLimit, MissingInclude, TooLarge}
+use Rattle.sv_tree.specs.declared.finished.DispatchFault.{DispatchFault}
+use Rattle.sv_tree.specs.declared.finished.DispatchFault.TheVariants.{DispatchLimit, MissingInclude, TooLarge}
 use Rattle.sv_tree.specs.declared.finished.Finished.{Finished}
 use Rattle.sv_tree.specs.declared.finished.Finished.TheVariants.{Done, Error, Failed}
 use Rattle.sv_tree.specs.declared.limits.TheConstants.{FOUND, INTERNAL_SERVER_ERROR, METHOD_NOT_ALLOWED, NOT_FOUND, SERVICE_UNAVAILABLE}

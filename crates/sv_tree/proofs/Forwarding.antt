@@ -17,7 +17,7 @@ use Rattle.sv_tree.specs.State.{State, Standing, Serving, Gone, Away, counted, i
 use Rattle.sv_tree.specs.Telling.{all_told}
 use Rattle.sv_tree.specs.Tree as tree
 use Rattle.sv_tree.specs.Tree.{Tree, last, service_of}
-use Rattle.sv_tree.specs.declared.dispatch_fault.DispatchFault.TheVariants.{DispatchLimit}
+use Rattle.sv_tree.specs.declared.finished.DispatchFault.TheVariants.{DispatchLimit}
 use Rattle.sv_tree.specs.declared.finished.Finished.{Finished}
 use Rattle.sv_tree.specs.declared.limits.TheConstants.{NOT_FOUND, SERVICE_UNAVAILABLE}
 use Rattle.sv_tree.proofs.Doing.{absurd_result, becomes_then, chosen_then, same_result, tries_then, wants_then}

@@ -14,8 +14,8 @@ use Rattle.sv_tree.specs.Filters as filters
 use Rattle.sv_tree.specs.Site.{Resource, Files, FileAnswer, File, Redirect, Missing, NotAllowed, Site, name_of}
 use Rattle.sv_tree.specs.State.{KeptError, KeptField, State, on_exchange, with_kept}
 use Rattle.sv_tree.specs.Tree.{last}
-use Rattle.sv_tree.specs.declared.dispatch_fault.DispatchFault.{DispatchFault}
-use Rattle.sv_tree.specs.declared.dispatch_fault.DispatchFault.TheVariants.{MissingInclude, TooLarge}
+use Rattle.sv_tree.specs.declared.finished.DispatchFault.{DispatchFault}
+use Rattle.sv_tree.specs.declared.finished.DispatchFault.TheVariants.{MissingInclude, TooLarge}
 use Rattle.sv_tree.specs.declared.finished.Finished.{Finished}
 use Rattle.sv_tree.specs.declared.finished.Finished.TheVariants.{Done, Error, Failed}
 use Rattle.sv_tree.specs.declared.limits.TheConstants.{FOUND, INTERNAL_SERVER_ERROR, METHOD_NOT_ALLOWED, NOT_FOUND}

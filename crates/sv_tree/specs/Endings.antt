@@ -5,7 +5,7 @@ use Rattle.sv_tree.specs.Does.{Does, ◌>>◌, choose, gives, sees, tries}
 use Rattle.sv_tree.specs.Faults.{fault_name}
 use Rattle.sv_tree.specs.Site.{Resource, Site, name_of}
 use Rattle.sv_tree.specs.State.{KeptError, KeptField, with_kept}
-use Rattle.sv_tree.specs.declared.dispatch_fault.DispatchFault.{DispatchFault}
+use Rattle.sv_tree.specs.declared.finished.DispatchFault.{DispatchFault}
 use Rattle.sv_tree.specs.declared.finished.Finished.{Finished}
 use Rattle.sv_tree.specs.declared.finished.Finished.TheVariants.{Done, Error, Failed}
 use Rattle.sv_tree.specs.declared.limits.TheConstants.{INTERNAL_SERVER_ERROR, LEAST_ERROR, MAX_ERROR, METHOD_NOT_ALLOWED, NOT_FOUND, SERVICE_UNAVAILABLE}

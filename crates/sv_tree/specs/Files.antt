@@ -7,7 +7,7 @@ use Rattle.sv_tree.specs.Does.{Does, ◌>>◌, becomes, choose, gives, makes, se
 use Rattle.sv_tree.specs.Endings.{faults, is_missing, is_not_allowed}
 use Rattle.sv_tree.specs.Site.{Files, Site, FileAnswer, File, Redirect, Missing, NotAllowed}
 use Rattle.sv_tree.specs.State.{Exchange, on_exchange}
-use Rattle.sv_tree.specs.declared.dispatch_fault.DispatchFault.TheVariants.{MissingInclude, TooLarge}
+use Rattle.sv_tree.specs.declared.finished.DispatchFault.TheVariants.{MissingInclude, TooLarge}
 use Rattle.sv_tree.specs.declared.finished.Finished.{Finished}
 use Rattle.sv_tree.specs.declared.finished.Finished.TheVariants.{Done}
 use Rattle.sv_tree.specs.declared.limits.TheConstants.{FOUND}

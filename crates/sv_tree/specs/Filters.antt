@@ -9,7 +9,7 @@ use Rattle.sv_tree.specs.Does.{Does, ◌>>=◌, ◌>>◌, becomes, choose, gives
 use Rattle.sv_tree.specs.Endings.{fails, faults}
 use Rattle.sv_tree.specs.Site.{Resource, Site}
 use Rattle.sv_tree.specs.State.{Exchange, counted, is_full}
-use Rattle.sv_tree.specs.declared.dispatch_fault.DispatchFault.TheVariants.{DispatchLimit}
+use Rattle.sv_tree.specs.declared.finished.DispatchFault.TheVariants.{DispatchLimit}
 use Rattle.sv_tree.specs.declared.finished.Finished.{Finished}
 use Rattle.sv_tree.specs.declared.finished.Finished.TheVariants.{Done}
 

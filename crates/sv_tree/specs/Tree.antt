@@ -13,8 +13,8 @@ use Rattle.sv_tree.specs.Files.{Filed}
 use Rattle.sv_tree.specs.Filters.{Afters, Befores, within_limit}
 use Rattle.sv_tree.specs.Site.{Resource, Servlet, Files, Site, begun, chosen, name_of}
 use Rattle.sv_tree.specs.State.{Exchange, Standing, Serving, Gone, Away, away_for, on_exchange, standing_at, with_standing}
-use Rattle.sv_tree.specs.declared.dispatch_fault.DispatchFault.{DispatchFault}
-use Rattle.sv_tree.specs.declared.dispatch_fault.DispatchFault.TheVariants.{BadDispatchPath, Committed, DispatchLimit}
+use Rattle.sv_tree.specs.declared.finished.DispatchFault.{DispatchFault}
+use Rattle.sv_tree.specs.declared.finished.DispatchFault.TheVariants.{BadDispatchPath, Committed, DispatchLimit}
 use Rattle.sv_tree.specs.declared.finished.Finished.{Finished}
 use Rattle.sv_tree.specs.declared.finished.Finished.TheVariants.{Done, Error, Failed}
 use Rattle.sv_uri.specs.Canonical.{canonical}

@@ -2,7 +2,6 @@
 //! dispatch uses them. The code that makes dispatches is verified against it (Jakarta Servlet 6.0, chapters 6 and 9).
 #![tactic(auto)]
 
-mod dispatch_fault;
 mod file_found;
 mod finished;
 mod laws;
@@ -12,9 +11,8 @@ mod redirect;
 mod servlet_patterns;
 mod site;
 
-pub use dispatch_fault::DispatchFault;
 pub use file_found::FileFound;
-pub use finished::Finished;
+pub use finished::{DispatchFault, Finished};
 pub use laws::{
     answers_have_one_page, answers_move_the_sessions, calls_are_counted, calls_decide,
     dispatches_end, dispatches_nest, endings_are_kept, events_are_told, filters_are_closed,
