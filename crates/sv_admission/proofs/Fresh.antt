@@ -3,7 +3,7 @@ use Rattle.std.proofs.Common.{◌≡◌, ℕ, ◌+◌, false, not, List, [], ◌
 use Rattle.std.specs.Option.{option_map, option_map_or}
 use Rattle.std.proofs.lemmas.Bool.{cases_Bool, eqb-true, not-false}
 use Rattle.sv_admission.specs.Admission.{outcome_in, settled_in, store_accessed}
-use Rattle.sv_admission.specs.Asked.{Asked}
+use Rattle.sv_exchange.specs.Asked.{Asked}
 use Rattle.sv_admission.specs.Held.{accessed, session_held}
 use Rattle.sv_admission.specs.Judged.{left_by_login, post_in}
 use Rattle.sv_admission.proofs.Saving.{no_fault}

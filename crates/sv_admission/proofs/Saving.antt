@@ -3,7 +3,7 @@ use Rattle.std.proofs.Common.{◌≡◌, ℕ, ◌+◌, Bool, true, false, List, 
 use Rattle.std.specs.List.{slice_get}
 use Rattle.std.specs.Str.{bytes_eq}
 use Rattle.std.specs.Prelude.{codes}
-use Rattle.sv_admission.specs.Asked.{Asked}
+use Rattle.sv_exchange.specs.Asked.{Asked}
 use Rattle.sv_admission.specs.Seen.{seen}
 use Rattle.sv_admission.specs.Settled.{Settled, interrupted, opened_with, renewed, saved_in, unchanged}
 use Rattle.sv_admission.specs.declared.sessions.Settled as code

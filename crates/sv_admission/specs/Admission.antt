@@ -8,7 +8,7 @@ use Rattle.sv_realm.specs.declared.account.User.{User}
 use Rattle.sv_session.specs.Store.{Store}
 use Rattle.sv_tree.specs.SiteOfDescriptor.{Content}
 use Rattle.sv_admission.specs.Answer.{answer_to}
-use Rattle.sv_admission.specs.Asked.{Asked}
+use Rattle.sv_exchange.specs.Asked.{Asked}
 use Rattle.sv_admission.specs.Held.{accessed, session_held}
 use Rattle.sv_admission.specs.Judged.{left_by_login, outcome_of}
 use Rattle.sv_admission.specs.Settled.{Settled, session_of, settled_by}

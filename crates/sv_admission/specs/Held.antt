@@ -7,7 +7,7 @@ use Rattle.sv_realm.specs.declared.caller.Caller.{Caller}
 use Rattle.sv_realm.specs.declared.account.User.{User}
 use Rattle.sv_session.specs.Calls.{caller_of, touched}
 use Rattle.sv_session.specs.Store.{Store}
-use Rattle.sv_admission.specs.Asked.{Asked}
+use Rattle.sv_exchange.specs.Asked.{Asked}
 
 -- The session that the message's cookies name. Only cookies with the name of the context's session cookie count.
 abbrev pub session_held : WebApp → Asked → Store → Option ℕ

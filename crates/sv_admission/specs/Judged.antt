@@ -14,7 +14,7 @@ use Rattle.sv_login.specs.declared.outcome.Outcome.{Outcome}
 use Rattle.sv_policy.specs.Compiled.{Standing}
 use Rattle.sv_realm.specs.declared.account.User.{User}
 use Rattle.sv_session.specs.Store.{Store}
-use Rattle.sv_admission.specs.Asked.{Asked}
+use Rattle.sv_exchange.specs.Asked.{Asked}
 use Rattle.sv_admission.specs.Held.{caller_held}
 
 -- The content type of the body.

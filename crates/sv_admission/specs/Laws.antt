@@ -1,7 +1,7 @@
 -- Laws of every message in its context (Jakarta Servlet 6.0, sections 7.5, 10.5, 13.6.3 and 13.8).
 use Rattle.std.specs.Prelude.{◌≡◌, ◌↔◌, List}
 use Rattle.sv_admission.specs.Admission.{admission, settled_in, store_accessed}
-use Rattle.sv_admission.specs.Asked.{Asked}
+use Rattle.sv_exchange.specs.Asked.{Asked}
 use Rattle.sv_admission.specs.Held.{session_held}
 use Rattle.sv_admission.specs.Judged.{findings}
 use Rattle.sv_constraints.specs.declared.owned_decision.OwnedDecision.TheVariants as decisions

@@ -1,6 +1,5 @@
 pub mod Admission
 pub mod Answer
-pub mod Asked
 pub mod Held
 pub mod Judged
 pub mod Laws

@@ -12,7 +12,7 @@ use Rattle.sv_session.specs.Calls.{opened, opening_faults, with_saved}
 use Rattle.sv_session.specs.Runs.{unless}
 use Rattle.sv_session.specs.Store.{Store}
 use Rattle.sv_tree.specs.FileServlet.{sent_to}
-use Rattle.sv_admission.specs.Asked.{Asked}
+use Rattle.sv_exchange.specs.Asked.{Asked}
 use Rattle.sv_admission.specs.Held.{caller_held}
 
 -- The sessions, the session of the message, whether the message opened or renamed it, and the event of doing so.

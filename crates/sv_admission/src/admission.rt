@@ -2,7 +2,7 @@
 
 ghost use Rattle.std.specs.Prelude.{OnOk, ◌≡◌};
 ghost use Rattle.sv_admission.specs.Admission as spec;
-ghost use Rattle.sv_admission.specs.Asked.{asked_in};
+ghost use Rattle.sv_exchange.specs.Asked.{asked_in};
 ghost use Rattle.sv_admission.specs.Held.{accessed, session_held};
 ghost use Rattle.sv_text.specs.Gives.{GivesAnswer};
 
@@ -10,16 +10,14 @@ use crate::answer::{Answer, concluded};
 use crate::judgment::judge;
 use crate::sessions::{session_of, settle};
 use std::alloc::Global;
-use sv_exchange::HeldSession;
+use sv_exchange::{HeldSession, Request};
 use sv_journal::Entry;
 use sv_login::held;
-use sv_message::Message;
 use sv_policy::Policy;
 use sv_realm::Realm;
 use sv_session::{Event, Sessions};
 use sv_text::NoMemory;
 use sv_tree::Site;
-use sv_uri::path::Canon;
 
 /// The admission of a message to its context, before any component is called.
 #[derive(Drop)]
@@ -83,17 +81,4 @@ fn access(site: &Site, request: &Request<'_>, sessions: &mut Sessions) -> Option
         sessions.touch(number, request.moment);
     }
     held
-}
-
-/// A message as its context receives it (Jakarta Servlet 6.0, section 3.5). Contracts name it by `asked_in`.
-#[derive(Drop)]
-pub struct Request<'a> {
-    /// The message. It is lent so that the exchange that answers it can take its parts.
-    pub message: &'a mut Message,
-    /// The canonical path within the context, with the query.
-    pub canon: &'a Canon,
-    /// The time at which the message is handled, in seconds since 1970.
-    pub moment: u64,
-    /// The two random words of the message.
-    pub words: (u64, u64),
 }

@@ -6,14 +6,14 @@ ghost use Rattle.sv_constraints.specs.Verdict.{verdict};
 ghost use Rattle.sv_login.specs.Login.{login};
 ghost use Rattle.sv_login.specs.Outcome.{login_outcome, verdict_outcome};
 ghost use Rattle.sv_text.specs.Gives.{GivesAnswer};
-ghost use Rattle.sv_admission.specs.Asked.{asked_in};
+ghost use Rattle.sv_exchange.specs.Asked.{asked_in};
 ghost use Rattle.sv_admission.specs.Held.{caller_held};
 ghost use Rattle.sv_admission.specs.Judged.{content_type, left_by_login, outcome_of, post_in};
 
-use crate::admission::Request;
 use std::alloc::Global;
 use sv_constraints::OwnedDecision;
 use sv_descriptor::WebApp;
+use sv_exchange::Request;
 use sv_login::{Outcome, login_step};
 use sv_mapping::is_protected;
 use sv_message::Field;

@@ -8,7 +8,7 @@ mod judgment;
 mod laws;
 mod sessions;
 
-pub use admission::{Admission, Request, admit};
+pub use admission::{Admission, admit};
 pub use answer::{Answer, FORBIDDEN, SEE_OTHER};
 pub use laws::{
     an_entry_says_entered_exactly_by_an_open_verdict, limits_are_as_stated,

@@ -4,14 +4,13 @@ ghost use Rattle.std.specs.Prelude.{◌≡◌, IfOk, None, Some, bytes_eq, codes
 ghost use Rattle.std.specs.Option.{option_copied};
 ghost use Rattle.sv_session.specs.Store.{Store};
 ghost use Rattle.sv_text.specs.Gives.{GivesAnswer};
-ghost use Rattle.sv_admission.specs.Asked.{asked_in};
+ghost use Rattle.sv_exchange.specs.Asked.{asked_in};
 ghost use Rattle.sv_admission.specs.Seen.{seen};
 ghost use Rattle.sv_admission.specs.Settled as spec;
 
-use crate::admission::Request;
 use crate::judgment::caller_held;
 use std::alloc::Global;
-use sv_exchange::HeldSession;
+use sv_exchange::{HeldSession, Request};
 use sv_login::Outcome;
 use sv_message::{Message, Rare};
 use sv_realm::{Caller, Realm};

@@ -70,18 +70,14 @@ fn exchange_of(
 ) -> Result<Exchange, NoMemory> {
     let held = held(alloc, session)?;
     let mut sessions = sessions(alloc, if session == "full" { 1 } else { 2 });
-    let words = (0, 1);
-    let mut exchange = Exchange::new(alloc);
-    exchange.begin(
-        &mut message,
+    let request = sv_exchange::Request {
+        message: &mut message,
         canon,
-        "/app",
-        settings,
-        7,
-        words,
-        held,
-        &mut sessions,
-    )?;
+        moment: 7,
+        words: (0, 1),
+    };
+    let mut exchange = Exchange::new(alloc);
+    exchange.begin(request, "/app", settings, held, &mut sessions)?;
     Ok(exchange)
 }
 

@@ -61,16 +61,13 @@ fn begin<S: Sees>(
     } = request;
     let mut sessions = Sessions::new(alloc, 0, 0);
     let mut exchange = Exchange::new(alloc);
-    match exchange.begin(
-        &mut message,
-        &canon,
-        "/app",
-        &cookie_settings,
-        7,
-        (0, 0),
-        None,
-        &mut sessions,
-    ) {
+    let request = sv_exchange::Request {
+        message: &mut message,
+        canon: &canon,
+        moment: 7,
+        words: (0, 0),
+    };
+    match exchange.begin(request, "/app", &cookie_settings, None, &mut sessions) {
         Ok(()) => run(alloc, row, calls, exchange, sees, seen),
         Err(_) => seen.fail(),
     }

@@ -1,7 +1,7 @@
 -- A context as runs see it, by the effects of its calls.
 use Rattle.std.proofs.Common.{◌≡◌, ℕ, true, inl, inr, List, [], ◌∷◌, Option, None, Some, Result, Ok, Err, refl, ap, ◌∙◌, length}
 use Rattle.std.specs.Prelude.{IfErr, IfOk}
-use Rattle.sv_admission.specs.Asked.{Asked}
+use Rattle.sv_exchange.specs.Asked.{Asked}
 use Rattle.sv_component.proofs.Running.{runs_grown, runs_join}
 use Rattle.sv_component.specs.Runs.{IsRun}
 use Rattle.sv_component.specs.Steps.{ComponentSteps}

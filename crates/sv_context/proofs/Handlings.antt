@@ -2,7 +2,7 @@
 use Rattle.std.proofs.Common.{◌≡◌, ℕ, true, inl, inr, List, Option, None, Some, Result, Ok, Err, IfOk, refl, sym, ◌∙◌, ap, ap₂, subst, arith}
 use Rattle.http.specs.StatusCode.{IsStatusCode}
 use Rattle.sv_admission.specs.Admission.{settled_in}
-use Rattle.sv_admission.specs.Asked.{Asked}
+use Rattle.sv_exchange.specs.Asked.{Asked}
 use Rattle.sv_admission.specs.declared.admission.Admission.{Admission}
 use Rattle.sv_admission.specs.declared.answer.Answer.{Answer}
 use Rattle.sv_component.specs.Runs.{IsRun}
@@ -24,7 +24,6 @@ use Rattle.sv_text.specs.declared.no_memory.NoMemory.{NoMemory}
 use Rattle.sv_tree.specs.Site.{Site}
 use Rattle.sv_uri.specs.declared.path.Canon.{Canon}
 use Rattle.sv_message.specs.declared.cookie_settings.CookieSettings.{CookieSettings}
-use Rattle.sv_message.specs.declared.message.Message.{Message}
 use Rattle.sv_message.specs.declared.response.Response.{Response}
 use Rattle.sv_context.specs.Answered.{Answered}
 use Rattle.sv_context.specs.Handled.{GivesResponse, CutShort, HandlesMessage, IsAnswered, admitted, exchange_begun, state_in}
@@ -35,9 +34,9 @@ use Rattle.sv_context.proofs.Journals.{taken}
 use Rattle.sv_context.proofs.Statuses.{answered_code}
 
 -- The status of an exchange that has just begun is a status code.
-pub begun_code : (message : Message) (canon : Canon) (path : List ℕ) (settings : CookieSettings) (moment : ℕ) (words : ℕ × ℕ) (held : Option HeldSession) (store : Store) (x : exchanges.State)
-    → x ≡ begun message canon path settings moment words held store → IsStatusCode x.status
-begun_code message canon path settings moment words held store x began = subst (λ (e : exchanges.State). IsStatusCode e.status) (sym began) (omega arith, omega arith)
+pub begun_code : (asked : Asked) (path : List ℕ) (settings : CookieSettings) (held : Option HeldSession) (store : Store) (x : exchanges.State)
+    → x ≡ begun asked path settings held store → IsStatusCode x.status
+begun_code asked path settings held store x began = subst (λ (e : exchanges.State). IsStatusCode e.status) (sym began) (omega arith, omega arith)
 
 module _ {S F L : Type 0} (moving : ComponentSteps S F L) where
   -- An answer keeps the components of a content.
@@ -81,7 +80,7 @@ module _ {S F L : Type 0} (moving : ComponentSteps S F L) where
     before = context_of content policy users live store
 
     abbrev begun_with : exchanges.State
-    begun_with = begun asked.message asked.canon content.context_path content.app.session.cookie asked.moment asked.words admission.session lent
+    begun_with = begun asked content.context_path content.app.session.cookie admission.session lent
 
     module _ (components : AreComponentsOf content live) (is : admission ≡ admitted before asked) (settled : lent ≡ (settled_in content policy users asked store).store)
         (x : exchanges.State) (began : x ≡ begun_with) (live' : LiveState S F L) (x' : exchanges.State) (store' : Store) (noted noted' : JournalState) where
@@ -90,7 +89,7 @@ module _ {S F L : Type 0} (moving : ComponentSteps S F L) where
 
       begun_so : x ≡ exchange_begun before asked
       begun_so =
-          began ∙ ap₂ (λ session store. begun asked.message asked.canon content.context_path content.app.session.cookie asked.moment asked.words session store) (ap (λ a. a.session) is) settled
+          began ∙ ap₂ (λ session store. begun asked content.context_path content.app.session.cookie session store) (ap (λ a. a.session) is) settled
 
       answered_so : (result : Option (Unit {0}))
           → ServedBy moving (Answered (site_of content) asked.canon admission.event admission.answer) live x (with_entry admission.entry noted) result live' x' noted'

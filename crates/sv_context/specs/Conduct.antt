@@ -1,6 +1,6 @@
 -- A context as runs of a container see it (Jakarta Servlet 6.0, sections 2.3, 3.5, 7.5 and 13.6.3).
 use Rattle.std.specs.Prelude.{List, None, Some}
-use Rattle.sv_admission.specs.Asked.{Asked, asked_by}
+use Rattle.sv_exchange.specs.Asked.{Asked, asked_by}
 use Rattle.sv_admission.specs.Judged.{post_in}
 use Rattle.sv_admission.specs.Laws.{found_of}
 use Rattle.sv_component.specs.Runs.{IsRun, Record}

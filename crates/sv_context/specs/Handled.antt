@@ -1,7 +1,7 @@
 -- Handling a message in its context (Jakarta Servlet 6.0, sections 3.5, 10.9, 11.3 and 13.6.3).
 use Rattle.std.specs.Prelude.{◌≡◌, ◌⊎◌, true, List, Option, None, Some}
 use Rattle.sv_admission.specs.Admission.{admission, settled_in}
-use Rattle.sv_admission.specs.Asked.{Asked}
+use Rattle.sv_exchange.specs.Asked.{Asked}
 use Rattle.sv_admission.specs.declared.admission.Admission.{Admission}
 use Rattle.sv_component.specs.Runs.{IsRun, Record}
 use Rattle.sv_component.specs.Steps.{ComponentSteps}
@@ -32,7 +32,7 @@ module _ {S F L : Type 0} (context : ContextState S F L) (asked : Asked) where
   -- The exchange of the message at its beginning, with the sessions as the admission left them.
   abbrev pub exchange_begun : exchanges.State
   exchange_begun =
-      begun asked.message asked.canon context.content.context_path context.content.app.session.cookie asked.moment asked.words admitted.session
+      begun asked context.content.context_path context.content.app.session.cookie admitted.session
       (settled_in context.content context.policy context.users asked context.store).store
 
 module _ {S F L : Type 0} (moving : ComponentSteps S F L) where

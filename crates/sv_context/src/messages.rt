@@ -3,7 +3,7 @@
 ghost use Rattle.sv_component.specs.Steps.{steps_of};
 ghost use Rattle.std.specs.Prelude.{◌≡◌, IfOk, IsTrue, unwrap_or};
 ghost use Rattle.http.specs.StatusCode.{IsStatusCode};
-ghost use Rattle.sv_admission.specs.Asked.{asked_by};
+ghost use Rattle.sv_exchange.specs.Asked.{asked_by};
 ghost use Rattle.sv_mapping.specs.Within.{path_within};
 ghost use Rattle.sv_dispatch.specs.Did.{seen};
 ghost use Rattle.sv_mapping.specs.Pattern.{is_at_or_below};
@@ -12,8 +12,9 @@ ghost use Rattle.sv_context.specs.Handled.{HandlesMessage, within};
 
 use crate::context::Context;
 use std::alloc::Global;
-use sv_admission::{Request, admit};
+use sv_admission::admit;
 use sv_component::{Filter, Listener, Servlet};
+use sv_exchange::Request;
 use sv_journal::Journal;
 use sv_mapping::path_within;
 use sv_message::{Message, Response};

@@ -5,7 +5,7 @@ ghost use Rattle.std.specs.Prelude.{◌≡◌, IfOk, List, OnErr, OnOk, Some, le
 ghost use Rattle.std.specs.Option.{option_copied};
 ghost use Rattle.http.specs.StatusCode.{IsStatusCode};
 ghost use Rattle.sv_admission.specs.Admission.{settled_in};
-ghost use Rattle.sv_admission.specs.Asked.{asked_in};
+ghost use Rattle.sv_exchange.specs.Asked.{asked_in};
 ghost use Rattle.sv_admission.specs.declared.answer.Answer.TheVariants.{Error};
 ghost use Rattle.sv_dispatch.specs.Did.{seen};
 ghost use Rattle.sv_dispatch.specs.ServedBy.{Alone, ServedBy};
@@ -26,10 +26,10 @@ ghost use Rattle.sv_context.specs.Responding.{EndsExchange, RespondsNoted};
 ghost use Rattle.sv_context.specs.State.{AreComponentsOf, AreCounted, context_of};
 
 use std::alloc::Global;
-use sv_admission::{Admission, Answer, Request, SEE_OTHER};
+use sv_admission::{Admission, Answer, SEE_OTHER};
 use sv_component::{Event, Exchange, Filter, Listener, Servlet};
 use sv_dispatch::{made, serve, show_error};
-use sv_exchange::HeldSession;
+use sv_exchange::{HeldSession, Request};
 use sv_journal::{Entry, Journal};
 use sv_live::Live;
 use sv_mapping::Kind;
@@ -284,27 +284,11 @@ fn begin(
     held: Option<HeldSession>,
     sessions: &mut Sessions,
 ) -> Result<(), NoMemory>
-    ensures begun { let asked = asked_in request.entry in
-        OnOk result (exchange.new ≡ begun asked.message asked.canon site.now.context_path site.now.app.session.cookie asked.moment asked.words held sessions.old) }
+    ensures begun { OnOk result (exchange.new ≡ begun (asked_in request.entry) site.now.context_path site.now.app.session.cookie held sessions.old) }
     ensures kept { OnErr result (sessions.new ≡ sessions.old) }
 {
-    let Request {
-        message,
-        canon,
-        moment,
-        words,
-    } = request;
     let settings = &site.descriptor().web_app().session.cookie;
-    exchange.begin(
-        message,
-        canon,
-        site.context_path(),
-        settings,
-        moment,
-        words,
-        held,
-        sessions,
-    )
+    exchange.begin(request, site.context_path(), settings, held, sessions)
 }
 
 // Notifies the listeners of the admission's session event, if any.

@@ -79,16 +79,13 @@ fn make_on(
     } = request;
     let mut sessions = Sessions::new(alloc, 0, 0);
     let mut exchange = Exchange::new(alloc);
-    match exchange.begin(
-        &mut message,
-        &canon,
-        "",
-        &cookie_settings,
-        7,
-        (0, 0),
-        None,
-        &mut sessions,
-    ) {
+    let request = sv_exchange::Request {
+        message: &mut message,
+        canon: &canon,
+        moment: 7,
+        words: (0, 0),
+    };
+    match exchange.begin(request, "", &cookie_settings, None, &mut sessions) {
         Ok(()) => make_each(alloc, calls, live, exchange, journal, told),
         Err(_) => told.fail(),
     }

@@ -118,17 +118,13 @@ fn begun(
     let (asked, settings) = values;
     let (mut message, held) = asked;
     let mut exchange = Exchange::new(alloc);
-    let begun = exchange.begin(
-        &mut message,
+    let request = sv_exchange::Request {
+        message: &mut message,
         canon,
-        context,
-        &settings,
         moment,
-        (0, 1),
-        held,
-        &mut sessions,
-    );
-    match begun {
+        words: (0, 1),
+    };
+    match exchange.begin(request, context, &settings, held, &mut sessions) {
         Ok(()) => Some(exchange),
         Err(_) => None,
     }

@@ -3,17 +3,16 @@ use Rattle.std.specs.Prelude.{ℕ, ◌==◌, Bool, true, false, List, [], ◌++�
 use Rattle.std.specs.Option.{option_and_then, option_map}
 use Rattle.sv_session.specs.Calls.{id_of}
 use Rattle.sv_session.specs.Store.{Store, empty_store}
-use Rattle.sv_uri.specs.declared.path.Canon.{Canon}
 use Rattle.sv_message.specs.Chunking.{piece_of}
 use Rattle.sv_message.specs.declared.body.Body.{Body}
 use Rattle.sv_message.specs.declared.body.Body.TheVariants.{Whole, Flushed}
 use Rattle.sv_message.specs.declared.cookie_settings.CookieSettings.{CookieSettings}
-use Rattle.sv_message.specs.declared.message.Message.{Message}
 use Rattle.sv_message.specs.declared.response.Cookie.{Cookie}
 use Rattle.sv_message.specs.declared.response.Response.{Response}
 use Rattle.sv_exchange.specs.declared.session_queries.HeldSession.{HeldSession}
 use Rattle.sv_exchange.specs.declared.limits.TheConstants.{OK}
-use Rattle.sv_exchange.specs.Dispatches.{paths_at}
+use Rattle.sv_exchange.specs.Asked.{Asked}
+use Rattle.sv_exchange.specs.Paths.{paths_at}
 use Rattle.sv_exchange.specs.Sessions.{cookie_of}
 use Rattle.sv_exchange.specs.State.{State}
 
@@ -56,16 +55,16 @@ unasked = record {
 }
 
 -- An exchange with a new request: no dispatch is active, the response is empty, and there are no events.
-abbrev pub begun : Message → Canon → List ℕ → CookieSettings → ℕ → ℕ × ℕ → Option HeldSession → Store → State
-begun message canon context_path settings moment words held store = record {
-  method = message.method;
+abbrev pub begun : Asked → List ℕ → CookieSettings → Option HeldSession → Store → State
+begun asked context_path settings held store = record {
+  method = asked.message.method;
   context_path = context_path;
   cookie_settings = settings;
-  request_fields = message.fields;
-  body = message.body;
-  moment = moment;
-  reads_chunks = message.minor == 1;
-  client = paths_at context_path canon.path None None canon.query;
+  request_fields = asked.message.fields;
+  body = asked.message.body;
+  moment = asked.moment;
+  reads_chunks = asked.message.minor == 1;
+  client = paths_at context_path asked.canon.path None None asked.canon.query;
   dispatches = [];
   attributes = [];
   status = OK;
@@ -76,7 +75,7 @@ begun message canon context_path settings moment words held store = record {
   broken = false;
   calls = 0;
   kept = None;
-  words = words;
+  words = asked.words;
   store = store;
   session = option_map (λ session. session.number) held;
   caller = option_and_then (λ session. session.caller) held;

@@ -10,16 +10,6 @@ use Rattle.sv_exchange.specs.declared.error.KeptError.{KeptError}
 use Rattle.sv_exchange.specs.declared.error.ToldError.{ToldError}
 use Rattle.sv_exchange.specs.State.{State}
 
--- The paths for a path in a context.
-abbrev pub paths_at : List ℕ → List ℕ → Option (List ℕ) → Option (List ℕ) → Option (List ℕ) → Paths
-paths_at context_path path servlet_path path_info query = record {
-  uri = context_path ++ path;
-  path = path;
-  servlet_path = servlet_path;
-  path_info = path_info;
-  query = query;
-}
-
 abbrev pub is_include_kind : Kind → Bool
 is_include_kind kinds.Include = true
 is_include_kind kinds.Request = false

@@ -1,4 +1,5 @@
 pub mod Answered
+pub mod Asked
 pub mod Attributes
 pub mod Beginning
 pub mod Changing

@@ -4,7 +4,7 @@ ghost use Rattle.std.specs.Prelude.{◌≡◌, ◌<◌, [], length, OnOk, OnErr,
 ghost use Rattle.std.specs.Option.{option_copied};
 ghost use Rattle.sv_text.specs.Gives.{GivesAnswer};
 
-use crate::dispatch::copied;
+use crate::dispatch::{PathTexts, copied};
 use crate::error::{KeptError, KeptField, ToldError};
 use crate::exchange::Exchange;
 use sv_mapping::Kind;
@@ -12,20 +12,21 @@ use sv_message::Rare;
 use sv_text::{NoMemory, Text};
 
 impl Exchange {
-    ghost use Rattle.sv_exchange.specs.Dispatches.{Leaves, entered, error_in, paths_at};
+    ghost use Rattle.sv_exchange.specs.Dispatches.{Leaves, entered, error_in};
     ghost use Rattle.sv_exchange.specs.Keeping.{broken_off, counted, with_kept};
+    ghost use Rattle.sv_exchange.specs.Paths.{paths_at};
 
     /// Begins a dispatch of a kind to a path in the context. Its kind, paths and attributes are visible until
     /// [`leave`](Exchange::leave) ends it (Jakarta Servlet 6.0, sections 9.3.1, 9.4.2 and 10.9.1). In an include, the
     /// paths of the includer stay visible, and changes of the status and the fields are ignored. An error page gets the
     /// error that is kept when it begins. After [`NoMemory`] nothing has changed.
-    pub fn enter(
+    pub fn enter<'p>(
         &mut self,
         kind: Kind,
-        path: &str,
-        servlet_path: &str,
-        path_info: Option<&str>,
-        query: Option<&str>,
+        path: &'p str,
+        servlet_path: &'p str,
+        path_info: Option<&'p str>,
+        query: Option<&'p str>,
     ) -> Result<(), NoMemory>
         ensures entered { OnOk result (self.new ≡ entered kind
             (paths_at self.old.context_path path.now (Some servlet_path.now) (option_copied path_info.entry) (option_copied query.entry)) self.old) }
@@ -34,17 +35,14 @@ impl Exchange {
         let error = self.error_in(kind)?;
         let servlet_path_of_client = copied(self.alloc, Some(servlet_path))?;
         let path_info_of_client = copied(self.alloc, path_info)?;
-        let context_path = self.context_path.as_str();
-        self.dispatches.push(
-            self.alloc,
-            kind,
-            context_path,
+        let paths = PathTexts {
+            context_path: self.context_path.as_str(),
             path,
-            servlet_path,
+            servlet_path: Some(servlet_path),
             path_info,
             query,
-            error,
-        )?;
+        };
+        self.dispatches.push(self.alloc, kind, &paths, error)?;
         match kind {
             Kind::Request => {
                 self.client.servlet_path = servlet_path_of_client;

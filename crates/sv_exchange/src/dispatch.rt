@@ -3,7 +3,8 @@
 ghost use Rattle.std.specs.Prelude.{◌≡◌, [], ◌++◌, None, OnOk, unwrap_or};
 ghost use Rattle.std.specs.Option.{option_copied};
 ghost use Rattle.sv_text.specs.Gives.{GivesAnswer};
-ghost use Rattle.sv_exchange.specs.Dispatches.{is_include, paths_at};
+ghost use Rattle.sv_exchange.specs.Dispatches.{is_include};
+ghost use Rattle.sv_exchange.specs.Paths.{paths_at};
 
 use crate::error::ToldError;
 use crate::reused_texts::{no_text, set_text};
@@ -66,26 +67,17 @@ impl Paths {
         }
     }
 
-    /// Sets the paths to those of a path in a context. Unchanged texts are not copied, except for the URI outside of
-    /// the root context, which is always built again.
+    /// Sets the paths to those of the texts. Unchanged texts are not copied, except for the URI outside of the root
+    /// context, which is always built again.
     #[inline(always)]
-    pub(crate) fn set(
-        &mut self,
-        alloc: Global,
-        context_path: &str,
-        path: &str,
-        servlet_path: Option<&str>,
-        path_info: Option<&str>,
-        query: Option<&str>,
-    ) -> Result<(), NoMemory>
-        ensures { OnOk result (self.new ≡ paths_at context_path.now path.now
-            (option_copied servlet_path.entry) (option_copied path_info.entry) (option_copied query.entry)) }
+    pub(crate) fn set(&mut self, alloc: Global, texts: &PathTexts<'_, '_>) -> Result<(), NoMemory>
+        ensures { OnOk result (self.new ≡ texts.now) }
     {
-        set_uri(alloc, &mut self.uri, context_path, path)?;
-        set_text(alloc, &mut self.path, path)?;
-        set_option(alloc, &mut self.servlet_path, servlet_path)?;
-        set_option(alloc, &mut self.path_info, path_info)?;
-        set_option(alloc, &mut self.query, query)
+        set_uri(alloc, &mut self.uri, texts.context_path, texts.path)?;
+        set_text(alloc, &mut self.path, texts.path)?;
+        set_option(alloc, &mut self.servlet_path, texts.servlet_path)?;
+        set_option(alloc, &mut self.path_info, texts.path_info)?;
+        set_option(alloc, &mut self.query, texts.query)
     }
 
     /// Returns the query; `None` if there is none.
@@ -106,7 +98,44 @@ impl Paths {
     }
 }
 
+/// The texts from which paths are set, not copied yet. Contracts see the paths.
+#[derive(Drop)]
+pub(crate) struct PathTexts<'c, 'p> {
+    pub context_path: &'c str,
+    /// The canonical path in the context.
+    pub path: &'p str,
+    pub servlet_path: Option<&'p str>,
+    pub path_info: Option<&'p str>,
+    pub query: Option<&'p str>,
+}
+
+impl<'c, 'p> Model for PathTexts<'c, 'p> {
+    ghost use Rattle.std.specs.Option.{option_copied};
+    ghost use Rattle.sv_exchange.specs.Paths.{Paths, paths_at};
+
+    ghost Value = { Paths };
+
+    ghost view = { λ texts. paths_at texts.context_path.now texts.path.now (option_copied texts.servlet_path) (option_copied texts.path_info) (option_copied texts.query) };
+}
+
 impl Dispatch {
+    /// Sets the kind, the paths and the error.
+    #[inline(always)]
+    pub(crate) fn set(
+        &mut self,
+        alloc: Global,
+        kind: Kind,
+        paths: &PathTexts<'_, '_>,
+        error: Rare<ToldError>,
+    ) -> Result<(), NoMemory>
+        ensures { OnOk result (self.new ≡ record { kind = kind; paths = paths.now; error = error }) }
+    {
+        self.paths.set(alloc, paths)?;
+        self.kind = kind;
+        self.error = error;
+        Ok(())
+    }
+
     /// Returns whether the dispatch is an include.
     pub(crate) fn is_include(&self) -> bool
         ensures { result ≡ is_include self.now }

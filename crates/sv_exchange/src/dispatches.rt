@@ -1,10 +1,8 @@
 //! The active dispatches.
 
-ghost use Rattle.std.specs.Prelude.{◌≡◌, ◌≤◌, ◌+◌, [], ◌∷◌, ◌++◌, OnErr, OnOk, Some, take, vec_capacity, vec_len, ◌<◌};
-ghost use Rattle.std.specs.Option.{option_copied};
-ghost use Rattle.sv_exchange.specs.Dispatches.{paths_at};
+ghost use Rattle.std.specs.Prelude.{◌≡◌, ◌≤◌, [], ◌∷◌, ◌++◌, OnErr, OnOk, take, vec_capacity, vec_len, ◌<◌};
 
-use crate::dispatch::{Dispatch, Paths};
+use crate::dispatch::{Dispatch, PathTexts, Paths};
 use crate::error::ToldError;
 use std::alloc::Global;
 use std::marker::Model;
@@ -61,38 +59,20 @@ impl Dispatches {
         self.depth = 0;
     }
 
-    /// Begins a dispatch to a path in a context. After [`NoMemory`] nothing has changed.
+    /// Begins a dispatch to these paths. After [`NoMemory`] nothing has changed.
     #[inline(always)]
     pub(crate) fn push(
         &mut self,
         alloc: Global,
         kind: Kind,
-        context_path: &str,
-        path: &str,
-        servlet_path: &str,
-        path_info: Option<&str>,
-        query: Option<&str>,
+        paths: &PathTexts<'_, '_>,
         error: Rare<ToldError>,
     ) -> Result<(), NoMemory>
-        ensures pushed { OnOk result (self.new ≡ self.old ++ (record {
-          kind = kind;
-          paths = paths_at context_path.now path.now (Some servlet_path.now) (option_copied path_info.entry) (option_copied query.entry);
-          error = error;
-        }) ∷ []) }
+        ensures pushed { OnOk result (self.new ≡ self.old ++ (record { kind = kind; paths = paths.now; error = error }) ∷ []) }
         ensures refused { OnErr result (self.new ≡ self.old) }
     {
-        set_behind(
-            alloc,
-            &mut self.list,
-            self.depth,
-            kind,
-            context_path,
-            path,
-            servlet_path,
-            path_info,
-            query,
-            error,
-        )?;
+        add_slot(alloc, &mut self.list, self.depth)?;
+        self.list[self.depth].set(alloc, kind, paths, error)?;
         self.depth += 1;
         Ok(())
     }
@@ -106,49 +86,22 @@ impl Dispatches {
     }
 }
 
-// Sets the dispatch at index `depth` to one for a path in a context, and adds it if it does not exist.
+// Adds a slot at index `depth`, unless there is one.
 #[inline(always)]
-fn set_behind(
-    alloc: Global,
-    list: &mut Vec<Dispatch>,
-    depth: usize,
-    kind: Kind,
-    context_path: &str,
-    path: &str,
-    servlet_path: &str,
-    path_info: Option<&str>,
-    query: Option<&str>,
-    error: Rare<ToldError>,
-) -> Result<(), NoMemory>
+fn add_slot(alloc: Global, list: &mut Vec<Dispatch>, depth: usize) -> Result<(), NoMemory>
     requires { depth ≤ vec_len list.old }
-    ensures set { OnOk result (take (depth + 1) list.new.items ≡ take depth list.old.items ++ (record {
-      kind = kind;
-      paths = paths_at context_path.now path.now (Some servlet_path.now) (option_copied path_info.entry) (option_copied query.entry);
-      error = error;
-    }) ∷ []) }
-    ensures there { OnOk result (depth + 1 ≤ vec_len list.new) }
-    ensures kept { OnErr result (take depth list.new.items ≡ take depth list.old.items) }
-    ensures still { OnErr result (depth ≤ vec_len list.new) }
+    ensures kept { take depth list.new.items ≡ take depth list.old.items }
+    ensures still { depth ≤ vec_len list.new }
+    ensures there { OnOk result (depth < vec_len list.new) }
 {
     if depth == list.len() {
         make_room(list)?;
         list.push_reserved(Dispatch {
-            kind,
+            kind: Kind::Request,
             paths: Paths::empty(alloc),
             error: Rare::none(),
         });
     }
-    let dispatch = &mut list[depth];
-    dispatch.paths.set(
-        alloc,
-        context_path,
-        path,
-        Some(servlet_path),
-        path_info,
-        query,
-    )?;
-    dispatch.kind = kind;
-    dispatch.error = error;
     Ok(())
 }
 

@@ -1,15 +1,17 @@
 //! An exchange: how it begins and ends.
 
 ghost use Rattle.std.specs.Prelude.{◌≡◌, ◌==◌, [], None, OnErr, OnOk, false};
-ghost use Rattle.sv_exchange.specs.Dispatches.{paths_at};
+ghost use Rattle.sv_exchange.specs.Asked.{asked_in};
+ghost use Rattle.sv_exchange.specs.Paths.{paths_at};
 ghost use Rattle.sv_exchange.specs.declared.limits.TheConstants.{OK};
 
 use crate::attributes::Attribute;
-use crate::dispatch::{Paths, shown};
+use crate::dispatch::{PathTexts, Paths, shown};
 use crate::dispatches::Dispatches;
 use crate::error::KeptError;
 use crate::flushed_body::{Flushed, body_of};
 use crate::limits::{MAX_KEPT_BUFFER_BYTES, MAX_KEPT_FIELDS, OK};
+use crate::request::Request;
 use crate::reused_texts::{no_settings, no_text, set_settings, set_text};
 use crate::session_queries::{HeldSession, held_cookie, parts_of};
 use http::Method;
@@ -124,8 +126,7 @@ impl Exchange {
     }
 
     /// Begins with a request to the context with the path and the settings of its session cookie. The earlier request
-    /// and response are dropped. The path of the `Canon` is the one in the context, the moment is in seconds since
-    /// 1970, and the words are the two random ones of the message.
+    /// and response are dropped.
     ///
     /// The fields and the body are moved out of the message, whose content is then unspecified. The context's sessions
     /// are swapped with those of the exchange until [`finish`](Exchange::finish), and the session that the request
@@ -137,19 +138,22 @@ impl Exchange {
     /// can begin again.
     pub fn begin(
         &mut self,
-        message: &mut Message,
-        canon: &Canon,
+        request: Request<'_>,
         context_path: &str,
         cookie_settings: &CookieSettings,
-        moment: u64,
-        words: (u64, u64),
         held: Option<HeldSession>,
         sessions: &mut Sessions,
     ) -> Result<(), NoMemory>
-        ensures begun { OnOk result (self.new ≡ begun message.old canon.now context_path.now cookie_settings.now moment words held sessions.old) }
+        ensures begun { OnOk result (self.new ≡ begun (asked_in request.entry) context_path.now cookie_settings.now held sessions.old) }
         ensures lent { OnOk result (sessions.new ≡ self.old.store) }
         ensures kept { OnErr result (sessions.new ≡ sessions.old) }
     {
+        let Request {
+            message,
+            canon,
+            moment,
+            words,
+        } = request;
         let cookie = held_cookie(self.alloc, cookie_settings, context_path, sessions, &held)?;
         self.ask(canon, context_path, cookie_settings)?;
         self.take(message);
@@ -196,10 +200,14 @@ impl Exchange {
           client = paths_at context_path.now canon.now.path None None canon.now.query;
         }) }
     {
-        let query = shown(&canon.query);
-        let path = canon.path.as_str();
-        self.client
-            .set(self.alloc, context_path, path, None, None, query)?;
+        let paths = PathTexts {
+            context_path,
+            path: canon.path.as_str(),
+            servlet_path: None,
+            path_info: None,
+            query: shown(&canon.query),
+        };
+        self.client.set(self.alloc, &paths)?;
         set_text(self.alloc, &mut self.context_path, context_path)?;
         set_settings(self.alloc, &mut self.cookie_settings, cookie_settings)
     }

@@ -34,4 +34,5 @@ pub use laws::{
 pub use limits::{
     LEAST_STATUS, MAX_RESPONSE_BODY_LEN, MAX_STATUS, NOT_MODIFIED, OK, RESET_CONTENT,
 };
+pub use request::Request;
 pub use session_queries::HeldSession;

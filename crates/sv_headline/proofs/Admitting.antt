@@ -7,7 +7,7 @@ use Rattle.std.specs.Str.{bytes_eq}
 use Rattle.std.proofs.lemmas.Bool.{cases_Bool, eqb-true, not-false}
 use Rattle.sv_admission.proofs.Saving.{no_fault}
 use Rattle.sv_admission.specs.Admission.{outcome_in, settled_in, store_accessed}
-use Rattle.sv_admission.specs.Asked.{Asked}
+use Rattle.sv_exchange.specs.Asked.{Asked}
 use Rattle.sv_admission.specs.Held.{accessed, caller_held, session_held}
 use Rattle.sv_admission.specs.Judged.{left_by_login, post_in}
 use Rattle.sv_admission.specs.Settled.{interrupted, opened_with, saved_in, settled_by, unchanged}

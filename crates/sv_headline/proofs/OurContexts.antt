@@ -2,7 +2,7 @@
 use Rattle.std.proofs.Common.{◌≡◌, ℕ, ◌*◌, List, [], ◌∷◌, Some, Result, Ok, Err, refl, sym, ap, ◌∙◌, subst, inl, inr}
 use Rattle.std.specs.List.{filter}
 use Rattle.sv_admission.specs.Admission.{outcome_in}
-use Rattle.sv_admission.specs.Asked.{Asked}
+use Rattle.sv_exchange.specs.Asked.{Asked}
 use Rattle.sv_admission.specs.Judged.{post_in}
 use Rattle.sv_admission.specs.Laws.{LeavesNoneExpired}
 use Rattle.sv_component.specs.Laws.{RunsAreJournalled}

@@ -3,6 +3,7 @@
 use http::Method;
 use http_header::{HeaderName, HeaderValue};
 use std::alloc::Global;
+use sv_exchange::Request;
 use sv_message::{CookieSettings, Message, Target};
 use sv_session::Sessions;
 use sv_text::{Bytes, Listed};
@@ -24,18 +25,14 @@ fn exchange_of(
     settings: &CookieSettings,
 ) -> Result<Exchange, NoMemory> {
     let mut sessions = Sessions::new(alloc, 1, 0);
-    let words = (0, 1);
-    let mut exchange = Exchange::new(alloc);
-    exchange.begin(
-        &mut message,
+    let request = Request {
+        message: &mut message,
         canon,
-        "/app",
-        settings,
-        7,
-        words,
-        None,
-        &mut sessions,
-    )?;
+        moment: 7,
+        words: (0, 1),
+    };
+    let mut exchange = Exchange::new(alloc);
+    exchange.begin(request, "/app", settings, None, &mut sessions)?;
     Ok(exchange)
 }
 

@@ -1,7 +1,8 @@
 -- The parts of a context that a dispatch uses and does not change: the resource and the filters for a path (Jakarta
 -- Servlet 6.0, sections 6.2.4, 12.1 and 10.9.2).
 use Rattle.std.specs.Prelude.{ℕ, List, [], codes, find, map, Option, None, Some, slice_index_or}
-use Rattle.sv_exchange.specs.Dispatches.{entered, paths_at}
+use Rattle.sv_exchange.specs.Dispatches.{entered}
+use Rattle.sv_exchange.specs.Paths.{paths_at}
 use Rattle.sv_exchange.specs.Paths.{Paths}
 use Rattle.sv_mapping.specs.BestMatch.{is_best}
 use Rattle.sv_mapping.specs.Split.{path_info, servlet_path}

@@ -1,5 +1,5 @@
 use Rattle.std.proofs.Common.{Option, not, sym, ◌∙◌, ap, subst}
-use Rattle.sv_admission.specs.Asked.{asked_in}
+use Rattle.sv_exchange.specs.Asked.{asked_in}
 use Rattle.sv_admission.specs.Judged.{post_in}
 use Rattle.sv_admission.proofs.Verdicts.{decided_so}
 use Rattle.sv_constraints.specs.Verdict.{verdict}

@@ -1,6 +1,6 @@
 use Rattle.std.proofs.Common.{ℕ, List, ◌∙◌, ap}
 use Rattle.sv_tree.specs.FileServlet.{sent_to}
-use Rattle.sv_admission.specs.Asked.{asked_in}
+use Rattle.sv_exchange.specs.Asked.{asked_in}
 use Rattle.sv_admission.specs.Seen.{seen}
 use Rattle.sv_admission.proofs.Saving.{is_saved, not_saved}
 use Rattle.sv_admission.proofs.sessions.interrupt.Goals as goal

@@ -1,5 +1,5 @@
 use Rattle.sv_admission.proofs.Saving.{held_so}
-use Rattle.sv_admission.specs.Asked.{asked_in}
+use Rattle.sv_exchange.specs.Asked.{asked_in}
 use Rattle.sv_admission.specs.Seen.{seen}
 use Rattle.sv_admission.proofs.sessions.save_in.Goals as goal
 

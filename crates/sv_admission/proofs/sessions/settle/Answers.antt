@@ -1,5 +1,5 @@
 use Rattle.std.proofs.Common.{◌≡◌, sym, subst}
-use Rattle.sv_admission.specs.Asked.{asked_in}
+use Rattle.sv_exchange.specs.Asked.{asked_in}
 use Rattle.sv_admission.specs.Seen.{seen}
 use Rattle.sv_admission.specs.Settled.{settled_by}
 use Rattle.sv_admission.proofs.sessions.settle.Goals as goal

@@ -1,4 +1,4 @@
-use Rattle.sv_admission.specs.Asked.{asked_in}
+use Rattle.sv_exchange.specs.Asked.{asked_in}
 use Rattle.sv_dispatch.specs.Did.{seen}
 use Rattle.sv_tree.specs.SiteOfDescriptor.{site_of}
 use Rattle.sv_context.proofs.Handlings.{begun_code, ended_code, handled_so}
@@ -18,4 +18,4 @@ returns-in-Ok-clause-status g c =
     (site_of c.args.self.now.site) c.args.request.canon.now c.args.admission.entry c.args.admission.event c.args.admission.answer
     c.args.self.now.live c.answer_begun.new.self.live c.begin.new.exchange c.answer_begun.new.sessions c.args.journal.now c.answer_begun.new.journal c.answer_begun.result
     c.answer_begun.ensures.ends
-    (begun_code c.args.request.message.now c.args.request.canon.now c.args.self.now.site.context_path c.args.self.now.site.app.session.cookie c.args.request.moment c.args.request.words c.args.admission.session c.args.sessions.now c.begin.new.exchange c.in-Ok.ensures.begun)
+    (begun_code (asked_in c.args.request) c.args.self.now.site.context_path c.args.self.now.site.app.session.cookie c.args.admission.session c.args.sessions.now c.begin.new.exchange c.in-Ok.ensures.begun)

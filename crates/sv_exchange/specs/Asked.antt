@@ -2,7 +2,7 @@
 use Rattle.std.specs.Prelude.{ℕ}
 use Rattle.sv_uri.specs.declared.path.Canon.{Canon}
 use Rattle.sv_message.specs.declared.message.Message.{Message}
-use Rattle.sv_admission.specs.declared.admission.Request.{Request}
+use Rattle.sv_exchange.specs.declared.request.Request.{Request}
 
 pub record Asked : Type 0 where
   pub message : Message
