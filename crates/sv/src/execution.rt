@@ -8,10 +8,8 @@ use crate::command::Command;
 use crate::policy_command::policy;
 use crate::replay_command::replay;
 use crate::run_command::run;
-use crate::run_options::RunOptions;
 use crate::self_test_command::self_test;
 use crate::serve_command::serve;
-use crate::site::{limits_of, seeding_by};
 use crate::texts::{HELP, VERSION};
 use std::alloc::Global;
 use std::io::{Read, Write};
@@ -53,7 +51,7 @@ pub fn carry_out<
             let count = service.connections.value();
             serve(alloc, store, host, writer, service.config, count)
         }
-        Command::Run(options) => run_asked(alloc, store, host, writer, &options),
+        Command::Run(options) => run(alloc, store, host, writer, &options),
         Command::SelfTest { config } => self_test(alloc, store, host, writer, config),
         Command::Help => print_text(writer, HELP),
         Command::Version => print_text(writer, VERSION),
@@ -73,30 +71,4 @@ fn replay_streams<S: FileStore + FolderStore, R: Read + Drop, W: Write>(
     let mut script = ReadSource::new(reader);
     let mut output = WriteSink::new(writer);
     replay(alloc, store, &mut script, &mut output, config)
-}
-
-/// Runs a server with these options.
-fn run_asked<S: FileStore + FolderStore, H: Net + Clock + RandomSource + Files + Eprint, W: Write>(
-    alloc: Global,
-    store: &mut S,
-    host: &H,
-    writer: &mut W,
-    options: &RunOptions<'_>,
-) -> Result<(), CommandFault>
-    ensures { ReadsFiles S.gives_text S.gives_files options.now.config.now result store.old store.new }
-{
-    let seeding = seeding_by(options.same_seed);
-    let limits = limits_of(options);
-    run(
-        alloc,
-        store,
-        host,
-        writer,
-        options.config,
-        options.listen,
-        seeding,
-        limits,
-        options.control,
-        options.journal,
-    )
 }

@@ -2,9 +2,12 @@
 
 ghost use Rattle.sv_component.specs.Steps.{steps_of};
 ghost use Rattle.sv.specs.Serving.{BeginsWith};
+ghost use Rattle.sv.specs.Site as spec;
 
 use crate::asked_container::AskedContainer;
+use crate::run_options::RunOptions;
 use crate::server_start::{StartedServer, start_server};
+use crate::site::{limits_of, seeding_by};
 use std::alloc::Global;
 use std::io::Write;
 use std::net::{IpAddr, Ipv4Addr, Net, SocketAddr};
@@ -12,16 +15,15 @@ use std::random::RandomSource;
 use std::rt::Files;
 use std::time::Clock;
 use sv_component::{Filter, Listener, Servlet};
-use sv_connection::Limits;
 use sv_deployments::{FolderStore, ProgramFilter, ProgramListener, ProgramServlet};
-use sv_listening::{Seeding, run_plainly, run_recorded};
+use sv_listening::{ListenOptions, run_plainly, run_recorded};
 use sv_program::{CommandFault, FileStore};
 
-/// Starts the container of the server file with the random words of this seeding, and listens at the address. The
-/// default address is 127.0.0.1 with the server file's port. Writes the line `listening ADDRESS:PORT`, and serves all
-/// connections within these limits, none waiting for another. This ends when the control socket, if one is named,
-/// receives `stop`, or when the process is ended from outside. Shuts the container down, even after a fault. If a
-/// journal is named, appends the effects of the events to that file.
+/// Starts the container of the server file with the random words of the options' seeding, and listens at the address.
+/// The default address is 127.0.0.1 with the server file's port. Writes the line `listening ADDRESS:PORT`, and serves
+/// all connections within the options' limits, none waiting for another. This ends when the control socket, if one is
+/// named, receives `stop`, or when the process is ended from outside. Shuts the container down, even after a fault. If
+/// a journal is named, appends the effects of the events to that file.
 ///
 /// # Errors
 /// The first fault: those of [`start_server`], with nothing written; then [`CommandFault::File`] if a journal or a
@@ -32,27 +34,31 @@ pub fn run<S: FileStore + FolderStore, H: Net + Clock + RandomSource + Files + E
     store: &mut S,
     host: &H,
     writer: &mut W,
-    config: &str,
-    address: Option<SocketAddr>,
-    seeding: Seeding,
-    limits: Limits,
-    control: Option<&str>,
-    journal: Option<&str>,
+    options: &RunOptions<'_>,
 ) -> Result<(), CommandFault>
     ensures { BeginsWith (steps_of ⟦<ProgramServlet as Servlet>⟧.servlet_step ⟦<ProgramFilter as Filter>⟧.filter_step ⟦<ProgramListener as Listener>⟧.listener_step)
-        S.gives_text S.gives_files seeding config.now store.old writer.old result store.new writer.new }
+        S.gives_text S.gives_files (spec.seeding_by options.now.same_seed) options.now.config.now store.old writer.old result store.new writer.new }
 {
+    let seeding = seeding_by(options.same_seed);
     let StartedServer { port, container } = match start_server(
-        alloc, store, host, config, seeding,
+        alloc,
+        store,
+        host,
+        options.config,
+        seeding,
     ) {
         Ok(started) => started,
         Err(fault) => return Err(fault),
     };
-    let address = address_or(address, port);
+    let listening = ListenOptions {
+        address: address_or(options.listen, port),
+        limits: limits_of(options),
+        control: options.control,
+    };
     let asked = AskedContainer::new(container);
-    let (served, asked) = match journal {
-        Some(name) => run_recorded(alloc, host, writer, address, limits, control, name, asked),
-        None => run_plainly(alloc, host, writer, address, limits, control, asked),
+    let (served, asked) = match options.journal {
+        Some(name) => run_recorded(alloc, host, writer, listening, name, asked),
+        None => run_plainly(alloc, host, writer, listening, asked),
     };
     asked.into_container().shutdown().let_go();
     served

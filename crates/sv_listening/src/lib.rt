@@ -41,6 +41,6 @@ pub use self_request::own_answer;
 pub use self_test::{SELF_TEST_REQUEST, ask, first_line};
 pub use serial_server::listen_and_serve;
 pub use serve::serve_on;
-pub use server::listen_and_run;
+pub use server::{ListenOptions, listen_and_run};
 pub use socket_acceptor::SocketAcceptor;
 pub use socket_stream::SocketStream;

@@ -5,16 +5,16 @@ ghost use Rattle.sv_run.specs.Contexts.{theory_of};
 
 use crate::record::Record;
 use crate::recorder::{Alarm, Recorder};
-use crate::server::run_controlled;
+use crate::server::{ListenOptions, run_controlled};
 use crate::sockets::file_fault;
 use std::alloc::Global;
 use std::fs::OpenOptions;
 use std::io;
 use std::io::Write;
-use std::net::{Net, SocketAddr};
+use std::net::Net;
 use std::rt::Files;
 use std::time::Clock;
-use sv_connection::{Limits, Queries};
+use sv_connection::Queries;
 use sv_program::CommandFault;
 use sv_run::{Context, EventHandler, Words};
 use sv_streams::{Sink, WriteSink};
@@ -27,9 +27,7 @@ pub fn run_recorded<H: Net + Clock + Files + Eprint, W: Write, R: EventHandler +
     alloc: Global,
     host: &H,
     writer: &mut W,
-    address: SocketAddr,
-    limits: Limits,
-    control: Option<&str>,
+    options: ListenOptions<'_>,
     name: &str,
     handler: R,
 ) -> (Result<(), CommandFault>, R) {
@@ -38,7 +36,7 @@ pub fn run_recorded<H: Net + Clock + Files + Eprint, W: Write, R: EventHandler +
     };
     let record = Record::new(alloc, WriteSink::new(file), StandardError { host });
     let mut recorder = Recorder::new(handler, record);
-    let served = run_controlled(alloc, host, writer, address, limits, control, &mut recorder);
+    let served = run_controlled(alloc, host, writer, options, &mut recorder);
     (served, recorder.into_within())
 }
 
@@ -50,13 +48,11 @@ pub fn run_plainly<H: Net + Clock + Files, W: Write, R: EventHandler + Queries>(
     alloc: Global,
     host: &H,
     writer: &mut W,
-    address: SocketAddr,
-    limits: Limits,
-    control: Option<&str>,
+    options: ListenOptions<'_>,
     handler: R,
 ) -> (Result<(), CommandFault>, R) {
     let mut handler = handler;
-    let served = run_controlled(alloc, host, writer, address, limits, control, &mut handler);
+    let served = run_controlled(alloc, host, writer, options, &mut handler);
     (served, handler)
 }
 

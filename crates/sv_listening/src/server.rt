@@ -12,6 +12,17 @@ use sv_program::{CommandFault, print_line};
 use sv_readiness::{Listening, RoundClock, Sockets};
 use sv_run::EventHandler;
 
+/// The address that a server listens on, the limits of its connections and its control socket.
+#[derive(Clone, Copy)]
+pub struct ListenOptions<'a> {
+    /// The address. Port 0 selects any free port.
+    pub address: SocketAddr,
+    /// The limits of all connections.
+    pub limits: Limits,
+    /// The name of the control socket file, if there is one.
+    pub control: Option<&'a str>,
+}
+
 /// Listens at the address and writes the line `listening ADDRESS:PORT`. Port 0 selects any free port. Then serves all
 /// connections until the process is ended from outside, within the limits of a site that sets none. No connection waits
 /// for another. Returns the handler.
@@ -36,7 +47,7 @@ pub fn listen_and_run<H: Net + Clock, W: Write, R: EventHandler>(
     (served, without_queries.into_within())
 }
 
-/// Serves as [`listen_and_run`] does, within these limits. If a socket file is named, it also answers queries there,
+/// Serves as [`listen_and_run`] does, with these options. If a socket file is named, it also answers queries there,
 /// passes the edits sent there to the handler, and ends when the line `stop` is sent there. Then the bytes that wait
 /// are written for at most 5 seconds, and the bytes that peers still send are read and dropped for 2 more seconds.
 ///
@@ -47,16 +58,14 @@ pub(crate) fn run_controlled<H: Net + Clock + Files, W: Write, R: EventHandler +
     alloc: Global,
     host: &H,
     writer: &mut W,
-    address: SocketAddr,
-    limits: Limits,
-    control: Option<&str>,
+    options: ListenOptions<'_>,
     handler: &mut R,
 ) -> Result<(), CommandFault> {
-    let Ok(mut listening) = Listening::at(host, address) else {
+    let Ok(mut listening) = Listening::at(host, options.address) else {
         return Err(CommandFault::Socket);
     };
-    match take_lines(alloc, host, &mut listening, control) {
-        Ok(()) => tell_and_run(alloc, host, writer, listening, limits, handler),
+    match take_lines(alloc, host, &mut listening, options.control) {
+        Ok(()) => tell_and_run(alloc, host, writer, listening, options.limits, handler),
         Err(fault) => Err(fault),
     }
 }

@@ -177,7 +177,3 @@ module _ {Context : Type 0} (conduct : Conduct Context) where
     pub index_kept : (path_of : Context → List ℕ) → KeepsPath path_of conduct → (index : List (List ℕ)) → index ≡ map path_of held.items
         → MovesAll conduct given after → index ≡ map path_of (with_items held after).items
     index_kept path_of keeps index known moves = known ∙ sym (paths_kept path_of keeps held.items (with_items held after).items (moves_lent moves))
-
-    pub alters_lent : AltersAll conduct given after → AltersAll conduct held.items (with_items held after).items
-    alters_lent alters =
-        subst (λ end. AltersAll conduct held.items end) (sym (with_items_is held after all)) (subst (λ start. AltersAll conduct start after) is alters)

@@ -18,7 +18,6 @@ use crate::connections::Connections;
 use crate::context::{Context, Words};
 use crate::edits::told_of;
 use crate::faults::{fault_of, moment_after};
-use crate::handler::EventHandler;
 use crate::happening::{Happening, Reaction};
 use crate::indexed_contexts::Indexed;
 use crate::items::take_items;
@@ -246,24 +245,5 @@ impl<C: HasContextPath, W: Drop> Host<C, W> {
     {
         let Host { contexts, .. } = self;
         contexts.into_vec()
-    }
-}
-
-impl<C: Context, W: Words> EventHandler for Host<C, W> {
-    ghost steps = { λ before happening result after.
-        StepsSo (theory_of C.path_of C.conduct W.draws) (state_of before) happening result (state_of after) };
-
-    ghost awaited = { λ host connection. awaited_in (state_of host).connections connection };
-
-    fn step(&mut self, happening: Happening) -> Result<Reaction, StepFault> {
-        Host::<C, W>::step(self, happening)
-    }
-
-    fn awaits(&self, connection: u64) -> Awaited {
-        Host::<C, W>::awaits(self, connection)
-    }
-
-    fn recycle(&self, room: Vec<u8>, journal: Journal) {
-        Host::<C, W>::recycle(self, room, journal);
     }
 }

@@ -1,4 +1,4 @@
-//! Contexts that are found by their paths.
+//! Contexts that are found by their paths, and the handling of a message by one of them.
 
 ghost use Rattle.std.specs.Prelude.{◌≡◌, ◌≢◌, ◌<◌, ℕ, true, Err, IfErr, IfOk, IfSome, IsTrue, List, Some, length, map, position, slice_get};
 ghost use Rattle.sv_mapping.specs.Chosen.{is_chosen};
@@ -14,10 +14,10 @@ ghost use Rattle.sv_run.specs.Events.{AltersAll, ExpiresAll, MovesAll};
 ghost use Rattle.sv_run.specs.Items.{Responds};
 ghost use Rattle.sv_run.specs.Messages.{Within};
 
+use crate::answers::{is_head, send};
 use crate::context::{Context, Words, expire_all};
-use crate::edits::edit_context;
+use crate::edits::place_of;
 use crate::output::Output;
-use crate::serving::handle_at;
 use std::alloc::Global;
 use std::marker::Model;
 use sv_journal::Journal;
@@ -91,7 +91,7 @@ impl<C: Context> Indexed<C> {
         expire_all(alloc, self.contexts.as_mut_slice(), moment, journal);
     }
 
-    /// Edits the constraints of the first context that has the path.
+    /// Edits the constraints of the first context that has the path, or fails with `NoSuch` if none has it.
     pub(crate) fn edit<W: Words>(
         &mut self,
         alloc: Global,
@@ -103,10 +103,13 @@ impl<C: Context> Indexed<C> {
         ensures refused { result ≡ Err fault.NoMemory → self.new ≡ self.old }
         ensures alters { AltersAll C.conduct self.old self.new }
     {
-        edit_context::<C, W>(alloc, self.contexts.as_mut_slice(), path, edit)
+        let Some(place) = place_of(self.contexts.as_slice(), path) else {
+            return Err(EditFault::NoSuch);
+        };
+        self.contexts[place].edit(alloc, edit)
     }
 
-    /// Lets the context at a place handle a message.
+    /// Lets the context at a place handle a message, and appends its response to the output.
     pub(crate) fn handle_at<W: Words>(
         &mut self,
         alloc: Global,
@@ -126,15 +129,19 @@ impl<C: Context> Indexed<C> {
             × BreaksAnswer (theory_of C.path_of C.conduct W.draws) date.now (Within place canon.now) message.old words self.old given self.new) }
         ensures moves { MovesAll C.conduct self.old self.new }
     {
-        handle_at::<C, W>(
+        let head_only = is_head(message);
+        let keep = message.keep;
+        let context = &mut self.contexts[place];
+        let response = context.handle(
             alloc,
-            self.contexts.as_mut_slice(),
-            place,
-            date,
             message,
             canon,
+            date.moment(),
             words,
-            output,
-        )
+            &mut output.journal,
+        )?;
+        let sent = send(head_only, keep, &response, date, output);
+        context.recycle(response);
+        sent
     }
 }

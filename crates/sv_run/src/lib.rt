@@ -18,7 +18,6 @@ mod limits;
 mod messages;
 mod output;
 mod seeded_words;
-mod serving;
 mod spare;
 mod step_fault;
 

@@ -1,65 +1,97 @@
-use Rattle.std.proofs.Common.{◌≡◌, ◌<◌, List, length, IfErr, IfOk, slice_get, subst, sym, ap, ◌∙◌, arith}
-use Rattle.std.proofs.lemmas.List.{with_items_is}
-use Rattle.std.specs.Vec.{with_items}
-use Rattle.sv_run.specs.Breaking.{BreaksAnswer, Given}
+use Rattle.std.proofs.Common.{◌≡◌, ◌<◌, ◌++◌, ◌||◌, ℕ, List, length, IfErr, IfOk, Some, slice_get, slice_set, subst, sym, ◌∙◌}
 use Rattle.sv_run.specs.Contexts.{theory_of}
-use Rattle.sv_run.specs.Effect.{Effect}
 use Rattle.sv_run.specs.Events.{MovesAll}
-use Rattle.sv_run.specs.Items.{Responds}
+use Rattle.sv_run.specs.Items.{IsTextAt, closes_behind}
 use Rattle.sv_run.specs.Messages.{Within}
-use Rattle.sv_run.proofs.Contexts.{index_kept, moves_lent}
-use Rattle.sv_run.specs.Output.{Adds}
+use Rattle.sv_run.specs.Output.{reaction_of}
+use Rattle.sv_run.specs.declared.happening.Reaction.{Reaction}
+use Rattle.sv_run.proofs.Contexts.{if_err, moves_next, moves_none, paths_kept}
+use Rattle.sv_run.proofs.Handling.{AnswersMessage, sent, there_at}
+use Rattle.sv_run.proofs.HostBreaking.{Broken, cut_at, unsent}
 use Rattle.sv_run.proofs.indexed_contexts.Indexed.handle_at.Goals as goal
 
-pub handle_at-requires-clause-there : goal.handle_at-requires-clause-there
-handle_at-requires-clause-there g c = subst (λ (cs : List g.row.C.Denot). c.args.place < length cs) (sym (c.as_mut_slice.ensures.value ∙ c.self.view_is)) c.requires.there
-
-pub handle_at-requires-clause-serves : goal.handle_at-requires-clause-serves
-handle_at-requires-clause-serves g c = λ context at. c.requires.serves context (ap (λ cs. slice_get cs c.args.place) (sym (c.as_mut_slice.ensures.value ∙ c.self.view_is)) ∙ at)
+pub handle-requires : goal.handle-requires
+handle-requires g c =
+    let old = c.index_mut-context.result.now in
+    let within = subst (λ (cs : List g.row.C.Denot). c.args.place < length cs) (sym c.self.view_is) c.requires.there in
+    c.requires.serves old (subst (λ (cs : List g.row.C.Denot). slice_get cs c.args.place ≡ Some old) c.self.view_is
+    (there_at c.self.inside.contexts.items c.args.place old within c.index_mut-context.ensures.value))
 
 pub invariant_of-self : goal.invariant_of-self
 invariant_of-self g c =
-    let held = c.self.inside.contexts in
-    let all : length c.handle_at.new.contexts ≡ held.len = omega (arith, c.handle_at.auto.contexts, c.as_mut_slice.ensures.len) in
-    index_kept g.C.Context.conduct held c.as_mut_slice.result.now c.handle_at.new.contexts all c.as_mut_slice.ensures.value
-    g.C.HasContextPath.path_of g.met.C.Context.keeps_path c.self.inside.index c.self.invariant c.handle_at.ensures.moves
+    let conduct = g.C.Context.conduct in
+    let held = c.self.inside.contexts.items in
+    let within = subst (λ (cs : List g.row.C.Denot). c.args.place < length cs) (sym c.self.view_is) c.requires.there in
+    c.self.invariant ∙ sym (paths_kept conduct g.C.HasContextPath.path_of g.met.C.Context.keeps_path held (slice_set held c.args.place c.handle.new.self)
+    (moves_next conduct g.met.C.Context.is_motion c.args.place held held c.index_mut-context.result.now c.handle.new.self within c.index_mut-context.ensures.value
+    (moves_none conduct g.met.C.Context.is_motion held) c.handle.ensures.moves))
+
+pub invariant_of-self-2 : goal.invariant_of-self-2
+invariant_of-self-2 g c =
+    let conduct = g.C.Context.conduct in
+    let held = c.self.inside.contexts.items in
+    let within = subst (λ (cs : List g.row.C.Denot). c.args.place < length cs) (sym c.self.view_is) c.requires.there in
+    rw c.recycle.ensures
+    (c.self.invariant ∙ sym (paths_kept conduct g.C.HasContextPath.path_of g.met.C.Context.keeps_path held (slice_set held c.args.place c.handle.new.self)
+    (moves_next conduct g.met.C.Context.is_motion c.args.place held held c.index_mut-context.result.now c.handle.new.self within c.index_mut-context.ensures.value
+    (moves_none conduct g.met.C.Context.is_motion held) c.handle.ensures.moves)))
+
+pub returns-in_err-response-clause-moves : goal.returns-in_err-response-clause-moves
+returns-in_err-response-clause-moves g c =
+    let conduct = g.C.Context.conduct in
+    let held = c.self.inside.contexts.items in
+    let within = subst (λ (cs : List g.row.C.Denot). c.args.place < length cs) (sym c.self.view_is) c.requires.there in
+    subst (λ before. MovesAll conduct before (slice_set held c.args.place c.handle.new.self)) c.self.view_is
+    (moves_next conduct g.met.C.Context.is_motion c.args.place held held c.index_mut-context.result.now c.handle.new.self within c.index_mut-context.ensures.value
+    (moves_none conduct g.met.C.Context.is_motion held) c.handle.ensures.moves)
 
 pub returns-clause-moves : goal.returns-clause-moves
 returns-clause-moves g c =
     let conduct = g.C.Context.conduct in
-    let held = c.self.inside.contexts in
-    let all : length c.handle_at.new.contexts ≡ held.len = omega (arith, c.handle_at.auto.contexts, c.as_mut_slice.ensures.len) in
-    subst (λ before. MovesAll conduct before (with_items held c.handle_at.new.contexts).items) c.self.view_is
-    (moves_lent conduct held c.as_mut_slice.result.now c.handle_at.new.contexts all c.as_mut_slice.ensures.value c.handle_at.ensures.moves)
+    let held = c.self.inside.contexts.items in
+    let within = subst (λ (cs : List g.row.C.Denot). c.args.place < length cs) (sym c.self.view_is) c.requires.there in
+    rw c.recycle.ensures
+    (subst (λ before. MovesAll conduct before (slice_set held c.args.place c.handle.new.self)) c.self.view_is
+    (moves_next conduct g.met.C.Context.is_motion c.args.place held held c.index_mut-context.result.now c.handle.new.self within c.index_mut-context.ensures.value
+    (moves_none conduct g.met.C.Context.is_motion held) c.handle.ensures.moves))
 
 pub returns-clause-responds : goal.returns-clause-responds
 returns-clause-responds g c =
     let theory = theory_of g.C.HasContextPath.path_of g.C.Context.conduct g.W.Words.draws in
-    let held = c.self.inside.contexts in
-    let after = c.handle_at.new.contexts in
-    let all : length after ≡ held.len = omega (arith, c.handle_at.auto.contexts, c.as_mut_slice.ensures.len) in
-    subst
-    (λ (end : List g.row.C.Denot). IfOk c.handle_at.result (λ _. (effect : Effect g.row.C.Denot)
-    × Responds theory c.args.date.now (Within c.args.place c.args.canon.now) c.args.message.now c.args.words c.args.self.now effect end
-    × Adds c.args.output.now effect c.handle_at.new.output))
-    (sym (with_items_is held after all))
-    (subst
-    (λ (start : List g.row.C.Denot). IfOk c.handle_at.result (λ _. (effect : Effect g.row.C.Denot)
-    × Responds theory c.args.date.now (Within c.args.place c.args.canon.now) c.args.message.now c.args.words start effect after
-    × Adds c.args.output.now effect c.handle_at.new.output))
-    (c.as_mut_slice.ensures.value ∙ c.self.view_is) c.handle_at.ensures.responds)
+    let held = c.self.inside.contexts.items in
+    let within = subst (λ (cs : List g.row.C.Denot). c.args.place < length cs) (sym c.self.view_is) c.requires.there in
+    let handled = rw c.moment.ensures at c.in_ok-response.ensures.handles in
+    let start = reaction_of c.args.output.now in
+    let middle : Reaction = record start { journal = c.handle.new.journal } in
+    rw c.recycle.ensures
+    (subst (λ (before : List g.row.C.Denot). IfOk c.send-sent.result (λ _. AnswersMessage theory c.args.date.now (Within c.args.place c.args.canon.now) c.args.message.now
+    c.args.words before (slice_set held c.args.place c.handle.new.self) start (reaction_of c.send-sent.new.output))) c.self.view_is
+    (sent theory c.args.date.now c.args.message.now c.args.words held start c.send-sent.result c.args.place c.args.canon.now c.index_mut-context.result.now c.handle.new.self
+    c.in_ok-response.response middle (reaction_of c.send-sent.new.output) handled.0 within c.index_mut-context.ensures.value handled.1
+    (λ i. record start { journal = handled.2 i })
+    (subst (λ head_only. IfOk c.send-sent.result (λ _. (text : List ℕ) × IsTextAt c.args.date.now c.in_ok-response.response head_only c.args.message.now.keep text
+    × (reaction_of c.send-sent.new.output ≡ record middle { sends = middle.sends ++ text; closes = middle.closes || closes_behind c.args.message.now c.in_ok-response.response })))
+    c.is_head-head_only.ensures c.send-sent.ensures)))
+
+pub returns-in_err-response-clause-breaks : goal.returns-in_err-response-clause-breaks
+returns-in_err-response-clause-breaks g c =
+    let theory = theory_of g.C.HasContextPath.path_of g.C.Context.conduct g.W.Words.draws in
+    let held = c.self.inside.contexts.items in
+    let within = subst (λ (cs : List g.row.C.Denot). c.args.place < length cs) (sym c.self.view_is) c.requires.there in
+    if_err c.from_residual.result
+    (subst (λ (before : List g.row.C.Denot). Broken theory c.args.date.now c.args.message.now c.args.words before (Within c.args.place c.args.canon.now)
+    (slice_set held c.args.place c.handle.new.self)) c.self.view_is
+    (cut_at theory c.args.date.now c.args.message.now c.args.words held c.args.place c.args.canon.now c.index_mut-context.result.now c.handle.new.self within
+    c.index_mut-context.ensures.value (rw c.moment.ensures at c.in_err-response.ensures.cut_short)))
 
 pub returns-clause-breaks : goal.returns-clause-breaks
 returns-clause-breaks g c =
     let theory = theory_of g.C.HasContextPath.path_of g.C.Context.conduct g.W.Words.draws in
-    let held = c.self.inside.contexts in
-    let after = c.handle_at.new.contexts in
-    let all : length after ≡ held.len = omega (arith, c.handle_at.auto.contexts, c.as_mut_slice.ensures.len) in
-    subst
-    (λ (end : List g.row.C.Denot). IfErr c.handle_at.result (λ _. (given : List (Given g.row.C.Denot))
-    × BreaksAnswer theory c.args.date.now (Within c.args.place c.args.canon.now) c.args.message.now c.args.words c.args.self.now given end))
-    (sym (with_items_is held after all))
-    (subst
-    (λ (start : List g.row.C.Denot). IfErr c.handle_at.result (λ _. (given : List (Given g.row.C.Denot))
-    × BreaksAnswer theory c.args.date.now (Within c.args.place c.args.canon.now) c.args.message.now c.args.words start given after))
-    (c.as_mut_slice.ensures.value ∙ c.self.view_is) c.handle_at.ensures.breaks)
+    let held = c.self.inside.contexts.items in
+    let within = subst (λ (cs : List g.row.C.Denot). c.args.place < length cs) (sym c.self.view_is) c.requires.there in
+    let handled = rw c.moment.ensures at c.in_ok-response.ensures.handles in
+    rw c.recycle.ensures
+    (subst (λ (before : List g.row.C.Denot). IfErr c.send-sent.result (λ _. Broken theory c.args.date.now c.args.message.now c.args.words before
+    (Within c.args.place c.args.canon.now) (slice_set held c.args.place c.handle.new.self))) c.self.view_is
+    (unsent theory c.args.date.now c.args.message.now c.args.words held c.args.place c.args.canon.now c.index_mut-context.result.now c.handle.new.self within
+    c.index_mut-context.ensures.value c.send-sent.result c.in_ok-response.response handled.0 handled.1))
