@@ -78,7 +78,7 @@ Stream | s kind=K kind=L | status 404    | Ready | Failed K | content-type: text
 "#;
 
 #[test]
-fn a_class_answers_as_its_description_says(rt: HostRuntime) -> Result<(), Strays> {
+fn a_class_answers_as_documented(rt: HostRuntime) -> Result<(), Strays> {
     hold(&rt, &[CLASSES], &Classes)
 }
 
@@ -261,7 +261,7 @@ PATH  | -
 "#;
 
 #[test]
-fn a_parameter_is_the_first_of_its_name(rt: HostRuntime) -> Result<(), Strays> {
+fn the_first_parameter_of_a_name_wins(rt: HostRuntime) -> Result<(), Strays> {
     hold(&rt, &[PARAMETERS], &Parameters)
 }
 
@@ -279,7 +279,7 @@ impl Asks for Parameters {
 }
 
 #[test]
-fn log_counts_what_it_hears(rt: HostRuntime) {
+fn log_counts_its_events(rt: HostRuntime) {
     let mut log = Log::new();
     log.hear(&Event::ContextInitialized);
     log.hear(&Event::SessionCreated(1));

@@ -54,7 +54,7 @@ filter destroy  | ""   | ""                 | ""         | called / filter f1 de
 "#;
 
 #[test]
-fn an_entry_has_its_line(rt: HostRuntime) -> Result<(), Strays> {
+fn an_entry_is_printed_as_its_journal_line(rt: HostRuntime) -> Result<(), Strays> {
     hold(&rt, &[LINES], &Lines)
 }
 

@@ -74,12 +74,12 @@ none | count; count                                                             
 "#;
 
 #[test]
-fn a_session_and_an_error_are_those_of_the_calls(rt: HostRuntime) -> Result<(), Strays> {
+fn the_session_and_the_error_match_the_calls(rt: HostRuntime) -> Result<(), Strays> {
     hold(&rt, &[SESSIONS, ERRORS], &Sessions)
 }
 
 #[test]
-fn a_session_cookie_is_set_as_its_context_has_it(rt: HostRuntime) -> Result<(), Strays> {
+fn a_session_cookie_follows_the_settings_of_its_context(rt: HostRuntime) -> Result<(), Strays> {
     hold(&rt, &[COOKIES], &Cookies)
 }
 
@@ -151,7 +151,7 @@ GET  | "" | %6E=%C3%A9+%zz | "" | parameters | (n é %zz)
 "#;
 
 #[test]
-fn a_parameter_is_that_of_the_innermost_query(rt: HostRuntime) -> Result<(), Strays> {
+fn a_parameter_comes_from_the_innermost_query(rt: HostRuntime) -> Result<(), Strays> {
     hold(&rt, &[PARAMETERS], &Parameters)
 }
 

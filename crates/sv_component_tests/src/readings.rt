@@ -111,7 +111,7 @@ flush                         | answer | done
 "#;
 
 #[test]
-fn an_exchange_tells_what_was_asked(rt: HostRuntime) -> Result<(), Strays> {
+fn an_exchange_returns_its_request(rt: HostRuntime) -> Result<(), Strays> {
     hold(&rt, &[REQUESTS, DISPATCHES, ANSWERS], &Readings)
 }
 

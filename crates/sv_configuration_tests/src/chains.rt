@@ -124,7 +124,7 @@ const ALL_ROWS: &str = r#"
 "#;
 
 #[test]
-fn a_star_names_every_servlet(rt: HostRuntime) -> Result<(), Strays> {
+fn a_star_covers_every_servlet(rt: HostRuntime) -> Result<(), Strays> {
     hold_of(&rt, ALL, ALL_ROWS)
 }
 
@@ -256,7 +256,7 @@ const KEPT_ROWS: &str = r#"
 "#;
 
 #[test]
-fn what_is_kept_changes_no_chain(rt: HostRuntime) -> Result<(), Strays> {
+fn the_cache_changes_no_chain(rt: HostRuntime) -> Result<(), Strays> {
     match read_descriptor(rt.alloc(), ALL) {
         Ok(descriptor) => hold(&rt, &[KEPT_ROWS], &KeptChains(descriptor)),
         Err(_) => Err(Strays::NoMemory),

@@ -10,7 +10,7 @@ const OF_2020: u64 = 1_577_836_800;
 const OF_2126: u64 = 4_922_899_200;
 
 #[test]
-fn the_clock_tells_the_seconds_since_1970(rt: HostRuntime) -> Result<(), Fail> {
+fn the_clock_returns_the_seconds_since_1970(rt: HostRuntime) -> Result<(), Fail> {
     let mut clock = SystemClock::new(&rt);
     let now = clock.now();
     assert!(rt; OF_2020 <= now && now < OF_2126, "{now}");

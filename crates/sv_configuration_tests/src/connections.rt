@@ -105,6 +105,6 @@ const MANY: &str = r#"
 "#;
 
 #[test]
-fn a_million_reads_are_made_of_a_connection_and_no_more(rt: HostRuntime) -> Result<(), Strays> {
+fn a_connection_is_read_at_most_a_million_times(rt: HostRuntime) -> Result<(), Strays> {
     hold(&rt, &[MANY], &Connections)
 }

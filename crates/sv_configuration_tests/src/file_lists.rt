@@ -71,6 +71,6 @@ a                       | BadPath
 "#;
 
 #[test]
-fn a_list_of_files_is_taken_or_has_a_first_fault(rt: HostRuntime) -> Result<(), Strays> {
+fn a_list_of_files_is_accepted_or_reports_its_first_fault(rt: HostRuntime) -> Result<(), Strays> {
     hold(&rt, &[ROWS], &Lists)
 }

@@ -162,7 +162,7 @@ close 1          | unreadable
 "##;
 
 #[test]
-fn a_line_is_empty_a_comment_or_begins_with_its_word(rt: HostRuntime) -> Result<(), Strays> {
+fn a_line_is_empty_or_a_comment_or_begins_with_a_keyword(rt: HostRuntime) -> Result<(), Strays> {
     hold(&rt, &[WORDS], &Lines)
 }
 

@@ -41,7 +41,7 @@ a b                             | a%20b
 "#;
 
 #[test]
-fn a_path_is_written_for_a_location_field(rt: HostRuntime) -> Result<(), Strays> {
+fn a_path_is_encoded_for_a_location_header(rt: HostRuntime) -> Result<(), Strays> {
     hold(&rt, &[LOCATIONS], &Locations)
 }
 

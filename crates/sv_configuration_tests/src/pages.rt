@@ -63,7 +63,7 @@ const SEVERAL_ROWS: &str = r#"
 "#;
 
 #[test]
-fn a_page_is_for_a_kind_before_a_status_before_all(rt: HostRuntime) -> Result<(), Strays> {
+fn an_error_page_is_chosen_by_kind_then_status_then_default(rt: HostRuntime) -> Result<(), Strays> {
     hold_of(&rt, SEVERAL, SEVERAL_ROWS)
 }
 

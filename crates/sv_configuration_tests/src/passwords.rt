@@ -23,7 +23,7 @@ bob | bc  | -
 "#;
 
 #[test]
-fn the_user_of_the_demonstration_has_her_password_alone(rt: HostRuntime) -> Result<(), Strays> {
+fn only_her_own_password_admits_the_demo_user(rt: HostRuntime) -> Result<(), Strays> {
     hold(&rt, &[PASSWORDS], &Passwords)
 }
 

@@ -93,7 +93,7 @@ open 1\nopen 2\n                    | 100 | 0 | 4   | 5 | end         | event 1\
 "#;
 
 #[test]
-fn a_script_is_replayed_up_to_what_ends_it(rt: HostRuntime) -> Result<(), Strays> {
+fn a_script_is_replayed_until_it_ends_or_fails(rt: HostRuntime) -> Result<(), Strays> {
     hold(&rt, &[ROWS], &Replays)
 }
 
@@ -104,6 +104,6 @@ open 1\n#\{999991*a}   | 1 | 0 | 100 | 0 | end      | event 1\n | 1000000 | 1
 "#;
 
 #[test]
-fn a_script_is_read_in_a_million_reads_and_no_more(rt: HostRuntime) -> Result<(), Strays> {
+fn a_script_is_read_in_at_most_a_million_reads(rt: HostRuntime) -> Result<(), Strays> {
     hold(&rt, &[MANY], &Replays)
 }

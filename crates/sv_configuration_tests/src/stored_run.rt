@@ -83,7 +83,7 @@ fn entered(alloc: Global) -> Result<Entry, NoMemory> {
 }
 
 #[test]
-fn an_event_may_tell_nothing(rt: HostRuntime) -> Result<(), Strays> {
+fn an_event_may_print_only_its_number(rt: HostRuntime) -> Result<(), Strays> {
     let text = event_text(rt.alloc(), 1, &[], b"", false, None)?;
     expect(&text, "event 1\n")
 }

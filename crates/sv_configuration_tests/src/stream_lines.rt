@@ -78,7 +78,7 @@ ab\nc         | 1   | 6 | <ab><c> end    | 5
 "#;
 
 #[test]
-fn lines_are_the_split_of_what_is_read(rt: HostRuntime) -> Result<(), Strays> {
+fn lines_are_the_input_split_at_line_feeds(rt: HostRuntime) -> Result<(), Strays> {
     hold(&rt, &[ROWS], &Lines)
 }
 
@@ -90,6 +90,6 @@ const MANY: &str = r#"
 "#;
 
 #[test]
-fn a_million_reads_are_made_and_no_more(rt: HostRuntime) -> Result<(), Strays> {
+fn a_stream_is_read_at_most_a_million_times(rt: HostRuntime) -> Result<(), Strays> {
     hold(&rt, &[MANY], &Lines)
 }

@@ -46,6 +46,6 @@ abc | 2   | 2 | ab  | failed  | 2
 "#;
 
 #[test]
-fn a_text_is_written_up_to_the_write_that_fails(rt: HostRuntime) -> Result<(), Strays> {
+fn a_text_is_written_until_a_write_fails(rt: HostRuntime) -> Result<(), Strays> {
     hold(&rt, &[ROWS], &Writes)
 }

@@ -8,7 +8,7 @@ use sv_program::{CommandFault, first};
 const REQUEST: &[u8] = b"GET / HTTP/1.1\r\nHost: h\r\n\r\n";
 
 #[test]
-fn a_broken_input_is_told_and_writes_nothing(rt: HostRuntime) {
+fn a_broken_input_is_reported_and_writes_nothing(rt: HostRuntime) {
     for (place, _) in REQUEST.iter().enumerate() {
         let (front, _) = REQUEST.split_at(place);
         let mut output = Vec::new(rt.alloc());
@@ -22,7 +22,7 @@ fn a_broken_input_is_told_and_writes_nothing(rt: HostRuntime) {
 }
 
 #[test]
-fn a_broken_output_is_told(rt: HostRuntime) {
+fn a_broken_output_is_reported(rt: HostRuntime) {
     for room in 0..b"none\n".len() {
         let input: &[u8] = b"";
         let ended = first(rt.alloc(), input, &mut Filling { room }, false);

@@ -79,6 +79,6 @@ demo@ two@/two | open 1, send 1 GET /keep HTTP/1.1\r\nHost: h\r\n\r\n, send 1 GE
 "#;
 
 #[test]
-fn each_component_is_called_as_often_as_its_entries_say(rt: HostRuntime) -> Result<(), Strays> {
+fn each_component_is_called_once_per_journal_entry(rt: HostRuntime) -> Result<(), Strays> {
     hold(&rt, &[CALLS], &Calls)
 }

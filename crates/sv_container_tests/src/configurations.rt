@@ -74,6 +74,6 @@ in/server.toml | /a.txt          | sv: file in/server.toml | in/server.toml
 "#;
 
 #[test]
-fn a_server_deploys_its_contexts_or_has_a_first_fault(rt: HostRuntime) -> Result<(), Strays> {
+fn a_server_deploys_its_contexts_or_reports_its_first_fault(rt: HostRuntime) -> Result<(), Strays> {
     hold(&rt, &[DEPLOYED], &Deployed)
 }

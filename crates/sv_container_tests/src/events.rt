@@ -150,6 +150,6 @@ edited@ | append, explain, withdraw 1, explain     | 2, open context=/ path=/adm
 "#;
 
 #[test]
-fn an_event_is_taken_or_refused_for_its_connection(rt: HostRuntime) -> Result<(), Strays> {
+fn an_event_is_accepted_or_refused_for_its_connection(rt: HostRuntime) -> Result<(), Strays> {
     hold(&rt, &[ROWS], &Events)
 }

@@ -50,6 +50,6 @@ who@/a bad@ who@/c | InitFailed 12 /           | 3  | told /a 1 ContextInitializ
 "#;
 
 #[test]
-fn a_container_starts_or_all_is_handed_back(rt: HostRuntime) -> Result<(), Strays> {
+fn a_container_starts_or_returns_all_its_parts(rt: HostRuntime) -> Result<(), Strays> {
     hold(&rt, &[ROWS], &Starts)
 }

@@ -12,7 +12,7 @@ fn a_field_is_copied(rt: HostRuntime) {
 }
 
 #[test]
-fn a_field_is_copied_where_one_can_be(rt: HostRuntime) {
+fn a_valid_field_is_copied(rt: HostRuntime) {
     let field = Field::checked_copy_of(rt.alloc(), b"HOST", b"h");
     assert!(rt;
         matches!(&field, Ok(Some(field)) if field.name.as_str() == "host" && field.value.as_bytes() == b"h".as_slice())

@@ -32,7 +32,7 @@ a{3*b}               | a{3*b} | -
 }
 
 #[test]
-fn a_row_with_another_answer_is_told(rt: HostRuntime) {
+fn a_row_with_another_answer_is_reported(rt: HostRuntime) {
     let held = hold(&rt, &["a | a | -\nb | c | -\nb | b", "-- x"], &Echo);
     assert!(rt; matches!(held, Err(Strays::Rows(3))));
 }

@@ -182,6 +182,6 @@ const PIECES: &str = r#"
 "#;
 
 #[test]
-fn a_response_is_written_behind_what_stands_there(rt: HostRuntime) -> Result<(), Strays> {
+fn a_response_is_appended_to_the_existing_text(rt: HostRuntime) -> Result<(), Strays> {
     hold(&rt, &[ROWS, PIECES], &Responses)
 }

@@ -93,6 +93,6 @@ foo/bar/                  | /foo/bar/           | 400 | NoSlash        | -
 "#;
 
 #[test]
-fn each_target_of_the_specification_has_our_stated_answer(rt: HostRuntime) -> Result<(), Strays> {
+fn each_target_of_the_specification_has_a_documented_answer(rt: HostRuntime) -> Result<(), Strays> {
     hold(&rt, &[ROWS], &Compared)
 }

@@ -175,17 +175,17 @@ fn a_cookie_follows_the_grammar(rt: HostRuntime) -> Result<(), Strays> {
 }
 
 #[test]
-fn a_cookie_is_the_first_of_its_name(rt: HostRuntime) -> Result<(), Strays> {
+fn the_first_cookie_of_a_name_wins(rt: HostRuntime) -> Result<(), Strays> {
     hold(&rt, &[SENT_COOKIES], &SentCookies)
 }
 
 #[test]
-fn a_request_asks_for_a_method_that_is_answered(rt: HostRuntime) -> Result<(), Strays> {
+fn a_request_uses_a_supported_method(rt: HostRuntime) -> Result<(), Strays> {
     hold(&rt, &[METHODS], &Methods)
 }
 
 #[test]
-fn an_answer_is_sent_with_its_type(rt: HostRuntime) -> Result<(), Strays> {
+fn a_response_is_sent_with_its_content_type(rt: HostRuntime) -> Result<(), Strays> {
     hold(&rt, &[SENDS], &Sends)
 }
 
@@ -195,12 +195,12 @@ fn a_redirect_stays_on_its_site(rt: HostRuntime) -> Result<(), Strays> {
 }
 
 #[test]
-fn a_link_has_the_path_of_the_context(rt: HostRuntime) -> Result<(), Strays> {
+fn a_link_includes_the_context_path(rt: HostRuntime) -> Result<(), Strays> {
     hold(&rt, &[LINKS], &Links)
 }
 
 #[test]
-fn a_fault_is_a_step(rt: HostRuntime) -> Result<(), Strays> {
+fn a_fault_becomes_a_step(rt: HostRuntime) -> Result<(), Strays> {
     hold(&rt, &[FAULTS], &Faults)
 }
 

@@ -42,7 +42,7 @@ caller | 6      | -   | -
 "#;
 
 #[test]
-fn a_password_gives_the_named_caller_where_its_digest_fits(rt: HostRuntime) -> Result<(), Strays> {
+fn a_password_identifies_the_caller_if_its_digest_matches(rt: HostRuntime) -> Result<(), Strays> {
     hold(&rt, &[ROWS], &Callers(realm(rt.alloc())?))
 }
 

@@ -49,7 +49,7 @@ a on /x | - | append b on /p,/p,/p,/p,/p,/p,/p,/p,/p,/p,/p,/p,/p,/p,/p,/p,/p,/p,
 "#;
 
 #[test]
-fn edits_change_what_they_name_alone(rt: HostRuntime) -> Result<(), Strays> {
+fn edits_change_only_what_they_name(rt: HostRuntime) -> Result<(), Strays> {
     hold(&rt, &[ROWS], &Edits)
 }
 

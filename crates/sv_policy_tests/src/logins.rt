@@ -84,7 +84,7 @@ const FIELDS: &str = r#"
 "#;
 
 #[test]
-fn a_login_enters_its_caller_or_changes_nothing(rt: HostRuntime) -> Result<(), Strays> {
+fn a_login_sets_its_caller_or_changes_nothing(rt: HostRuntime) -> Result<(), Strays> {
     let tables = [SESSIONS, REQUESTS, FIELDS];
     hold(&rt, &tables, &Logins(realm(rt.alloc())?))
 }

@@ -53,7 +53,7 @@ http://h/           | BadPattern
 "#;
 
 #[test]
-fn a_pattern_keeps_its_text_and_another_text_is_refused(rt: HostRuntime) -> Result<(), Strays> {
+fn a_pattern_keeps_its_text_and_an_invalid_text_is_refused(rt: HostRuntime) -> Result<(), Strays> {
     hold(&rt, &[ROWS], &Texts)
 }
 

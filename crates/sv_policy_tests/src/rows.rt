@@ -128,7 +128,7 @@ fn attributes_keep_their_order_and_their_limits(rt: HostRuntime) -> Result<(), S
 }
 
 #[test]
-fn many_calls_are_answered_as_a_plain_list_answers_them(rt: HostRuntime) -> Result<(), Strays> {
+fn many_calls_are_answered_like_those_of_a_plain_list(rt: HostRuntime) -> Result<(), Strays> {
     hold(&rt, &[DRAWN], &Calls)
 }
 
