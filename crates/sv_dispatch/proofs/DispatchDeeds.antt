@@ -105,32 +105,22 @@ module _ {M : Type 0} (state : M → State) (frame : M → Frame) (ran : M → L
             filtered chain a c None is (did_then state frame ran (Befores site resource [] chain) Behind a b c reached None befores
             (did_not state frame ran (tree.Responds site room (Tree site room) resource kind canon ended) (λ result. Afters site.listeners reached.passed >> gives result) b c responds))
 
-        module _ (finished : Finished) (d : M) (responds : Makes state frame ran (tree.Responds site room (Tree site room) resource kind canon ended) b c (Some finished)) where
-          behind : (result : Option Finished) → Makes state frame ran (Afters site.listeners (reverse (take count chain)) >> gives finished) c d result
+        module _ (finished : Finished) (d : M) (responds : Makes state frame ran (tree.Responds site room (Tree site room) resource kind canon ended) b c (Some finished))
+            (hear : site.listeners ≡ (frame a).listeners) where
+          -- The filters are called once more, with the site's number of listeners.
+          heard : (result : Option Finished) → Makes state frame ran (Afters (frame c).listeners (reverse (take count chain)) >> gives finished) c d result
+              → Makes state frame ran (Afters site.listeners (reverse (take count chain)) >> gives finished) c d result
+          heard result afters =
+              did_by state frame ran (λ listeners. Afters listeners (reverse (take count chain)) >> gives finished) (frame c).listeners site.listeners c d result
+              (ap (λ f. f.listeners) (responds.stays ∙ befores.stays) ∙ sym hear) afters
+
+          pub within_ends : (result : Option Finished) → Makes state frame ran (Afters (frame c).listeners (reverse (take count chain)) >> gives finished) c d result
               → Makes state frame ran (tree.Within site room (Tree site room) resource kind canon) a d result
-          behind result afters =
+          within_ends result afters =
               let reached : Reached = record { passed = reverse (take count chain); ended = ended } in
               filtered chain a d result is (did_then state frame ran (Befores site resource [] chain) Behind a b d reached result befores
-              (did_then state frame ran (tree.Responds site room (Tree site room) resource kind canon ended) (λ result. Afters site.listeners reached.passed >> gives result) b c d finished result responds afters))
-
-          module _ (hear : site.listeners ≡ (frame a).listeners) where
-            -- The filters are called once more, with the site's number of listeners.
-            closed : (result : Option (Unit {0})) → Makes state frame ran (Afters (frame c).listeners (reverse (take count chain))) c d result
-                → Makes state frame ran (Afters site.listeners (reverse (take count chain))) c d result
-            closed result afters =
-                did_by state frame ran (λ listeners. Afters listeners (reverse (take count chain))) (frame c).listeners site.listeners c d result
-                (ap (λ f. f.listeners) (responds.stays ∙ befores.stays) ∙ sym hear) afters
-
-            pub within_ends : Makes state frame ran (Afters (frame c).listeners (reverse (take count chain))) c d (Some tt)
-                → Makes state frame ran (tree.Within site room (Tree site room) resource kind canon) a d (Some finished)
-            within_ends afters =
-                behind (Some finished) (did_then state frame ran (Afters site.listeners (reverse (take count chain))) (λ _. gives finished) c d d tt (Some finished)
-                (closed (Some tt) afters) (did_give state frame ran finished d))
-
-            pub within_leaves : Makes state frame ran (Afters (frame c).listeners (reverse (take count chain))) c d None
-                → Makes state frame ran (tree.Within site room (Tree site room) resource kind canon) a d None
-            within_leaves afters =
-                behind None (did_not state frame ran (Afters site.listeners (reverse (take count chain))) (λ _. gives finished) c d (closed None afters))
+              (did_then state frame ran (tree.Responds site room (Tree site room) resource kind canon ended) (λ result. Afters site.listeners reached.passed >> gives result) b c d finished result responds
+              (heard result afters)))
 
   pub responds_ended : (resource : Resource) (kind : Kind) (canon : Canon) (given : Option Finished) (finished : Finished) (a : M) → given ≡ Some finished
       → Makes state frame ran (tree.Responds site room (Tree site room) resource kind canon given) a a (Some finished)
@@ -138,20 +128,24 @@ module _ {M : Type 0} (state : M → State) (frame : M → Frame) (ran : M → L
       did_by state frame ran (λ given. tree.Responds site room (Tree site room) resource kind canon given) (Some finished) given a a (Some finished) (sym is)
       (did_give state frame ran finished a)
 
-  pub responds_served : (resource : Resource) (place : ℕ) (kind : Kind) (canon : Canon) (given : Option Finished) (a b : M) (result : Option Finished)
-      → resource ≡ Servlet place → given ≡ None → Makes state frame ran (tree.Serves site room (Tree site room) place) a b result
+  pub responds_given : (resource : Resource) (kind : Kind) (canon : Canon) (given : Option Finished) (a b : M) (result : Option Finished) → given ≡ None
+      → Makes state frame ran (tree.Responds site room (Tree site room) resource kind canon None) a b result
       → Makes state frame ran (tree.Responds site room (Tree site room) resource kind canon given) a b result
-  responds_served resource place kind canon given a b result is none did =
-      did_by state frame ran (λ given. tree.Responds site room (Tree site room) resource kind canon given) None given a b result (sym none)
-      (did_by state frame ran (λ resource. tree.Responds site room (Tree site room) resource kind canon None) (Servlet place) resource a b result (sym is)
-      (did_so state frame ran (tree.Serves site room (Tree site room) place) (tree.Responds site room (Tree site room) (Servlet place) kind canon None) a b result (λ made h. h) did))
+  responds_given resource kind canon given a b result none did =
+      did_by state frame ran (λ given. tree.Responds site room (Tree site room) resource kind canon given) None given a b result (sym none) did
 
-  pub responds_filed : (resource : Resource) (kind : Kind) (canon : Canon) (given : Option Finished) (a b : M) (result : Option Finished)
-      → resource ≡ Files → given ≡ None → Makes state frame ran (tree.Responds site room (Tree site room) Files kind canon None) a b result
-      → Makes state frame ran (tree.Responds site room (Tree site room) resource kind canon given) a b result
-  responds_filed resource kind canon given a b result is none did =
-      did_by state frame ran (λ given. tree.Responds site room (Tree site room) resource kind canon given) None given a b result (sym none)
-      (did_by state frame ran (λ resource. tree.Responds site room (Tree site room) resource kind canon None) Files resource a b result (sym is) did)
+  pub responds_served : (resource : Resource) (place : ℕ) (kind : Kind) (canon : Canon) (a b : M) (result : Option Finished)
+      → resource ≡ Servlet place → Makes state frame ran (tree.Serves site room (Tree site room) place) a b result
+      → Makes state frame ran (tree.Responds site room (Tree site room) resource kind canon None) a b result
+  responds_served resource place kind canon a b result is did =
+      did_by state frame ran (λ resource. tree.Responds site room (Tree site room) resource kind canon None) (Servlet place) resource a b result (sym is)
+      (did_so state frame ran (tree.Serves site room (Tree site room) place) (tree.Responds site room (Tree site room) (Servlet place) kind canon None) a b result (λ made h. h) did)
+
+  pub responds_filed : (resource : Resource) (kind : Kind) (canon : Canon) (a b : M) (result : Option Finished)
+      → resource ≡ Files → Makes state frame ran (tree.Responds site room (Tree site room) Files kind canon None) a b result
+      → Makes state frame ran (tree.Responds site room (Tree site room) resource kind canon None) a b result
+  responds_filed resource kind canon a b result is did =
+      did_by state frame ran (λ resource. tree.Responds site room (Tree site room) resource kind canon None) Files resource a b result (sym is) did
 
   abbrev File : Kind → Canon → Does Finished
   File kind canon = sees λ state. files.Filed site kind (site.file canon state.exchange.method kind)

@@ -4,49 +4,49 @@ ghost use Rattle.std.specs.Prelude.{◌≡◌, None, IfOk};
 ghost use Rattle.sv_dispatch.specs.Did.{Did, lasting, seen};
 ghost use Rattle.sv_dispatch.specs.Seen.{field_of};
 ghost use Rattle.sv_tree.specs.Endings.{error_status, errs, errs_with, fails, faults, is_away_for, is_missing, is_not_allowed};
+ghost use Rattle.sv_tree.specs.SiteOfDescriptor.{site_of};
 ghost use Rattle.sv_message.specs.Phrases.{phrase_of};
 
 use crate::machine::Machine;
 use crate::parts::ErrorField;
 use crate::plain_answer::phrase_of;
-use crate::tables::Tables;
 use std::alloc::Global;
 use sv_text::{NoMemory, Text};
 use sv_tree::{
     DispatchFault, Finished, INTERNAL_SERVER_ERROR, LEAST_ERROR, MAX_ERROR, METHOD_NOT_ALLOWED,
-    NOT_FOUND, Resource, SERVICE_UNAVAILABLE,
+    NOT_FOUND, Resource, SERVICE_UNAVAILABLE, Site,
 };
 
 /// Ends a dispatch in an error. Within an include the error is ignored, and the dispatch counts as done.
-pub(crate) fn err<M: Machine, T: Tables>(
+pub(crate) fn err<M: Machine>(
     machine: &mut M,
-    tables: &T,
+    site: &Site,
     resource: Resource,
     status: u16,
     text: Text,
     field: ErrorField,
 ) -> Result<Finished, NoMemory>
-    ensures { Did M.state M.frame M.ran (errs (T.site tables.now) resource status text (field_of field)) machine.old machine.new (seen result) }
+    ensures { Did M.state M.frame M.ran (errs (site_of site.now) resource status text (field_of field)) machine.old machine.new (seen result) }
 {
     if machine.is_within_include() {
         return Ok(Finished::Done);
     }
-    let Ok(()) = machine.keep_error(status, text.as_str(), tables.name(resource), field) else {
+    let Ok(()) = machine.keep_error(status, text.as_str(), site.name_of(resource), field) else {
         return Err(NoMemory);
     };
     Ok(Finished::Error(status, text))
 }
 
 /// Ends a dispatch in an error whose text is the reason phrase of its status.
-fn err_with<M: Machine, T: Tables>(
+fn err_with<M: Machine>(
     alloc: Global,
     machine: &mut M,
-    tables: &T,
+    site: &Site,
     resource: Resource,
     status: u16,
     field: ErrorField,
 ) -> Result<Finished, NoMemory>
-    ensures { Did M.state M.frame M.ran (errs_with (T.site tables.now) resource status (field_of field)) machine.old machine.new (seen result) }
+    ensures { Did M.state M.frame M.ran (errs_with (site_of site.now) resource status (field_of field)) machine.old machine.new (seen result) }
 {
     if machine.is_within_include() {
         return Ok(Finished::Done);
@@ -54,22 +54,22 @@ fn err_with<M: Machine, T: Tables>(
     let Ok(text) = phrase(alloc, status) else {
         return Err(NoMemory);
     };
-    err(machine, tables, resource, status, text, field)
+    err(machine, site, resource, status, text, field)
 }
 
 /// Ends a dispatch in a 404 error: nothing is found at the path, or the servlet is gone.
-pub(crate) fn missing<M: Machine, T: Tables>(
+pub(crate) fn missing<M: Machine>(
     alloc: Global,
     machine: &mut M,
-    tables: &T,
+    site: &Site,
     resource: Resource,
 ) -> Result<Finished, NoMemory>
-    ensures { Did M.state M.frame M.ran (is_missing (T.site tables.now) resource) machine.old machine.new (seen result) }
+    ensures { Did M.state M.frame M.ran (is_missing (site_of site.now) resource) machine.old machine.new (seen result) }
 {
     err_with(
         alloc,
         machine,
-        tables,
+        site,
         resource,
         NOT_FOUND,
         ErrorField::Nothing,
@@ -77,18 +77,18 @@ pub(crate) fn missing<M: Machine, T: Tables>(
 }
 
 /// Ends a dispatch in a 405 error: the file servlet does not serve the path by this method.
-pub(crate) fn not_allowed<M: Machine, T: Tables>(
+pub(crate) fn not_allowed<M: Machine>(
     alloc: Global,
     machine: &mut M,
-    tables: &T,
+    site: &Site,
     resource: Resource,
 ) -> Result<Finished, NoMemory>
-    ensures { Did M.state M.frame M.ran (is_not_allowed (T.site tables.now) resource) machine.old machine.new (seen result) }
+    ensures { Did M.state M.frame M.ran (is_not_allowed (site_of site.now) resource) machine.old machine.new (seen result) }
 {
     err_with(
         alloc,
         machine,
-        tables,
+        site,
         resource,
         METHOD_NOT_ALLOWED,
         ErrorField::Allow,
@@ -96,30 +96,30 @@ pub(crate) fn not_allowed<M: Machine, T: Tables>(
 }
 
 /// Ends a dispatch in a 503 error: the servlet is unavailable for this many more seconds.
-pub(crate) fn away_for<M: Machine, T: Tables>(
+pub(crate) fn away_for<M: Machine>(
     alloc: Global,
     machine: &mut M,
-    tables: &T,
+    site: &Site,
     resource: Resource,
     seconds: u64,
 ) -> Result<Finished, NoMemory>
-    ensures { Did M.state M.frame M.ran (is_away_for (T.site tables.now) resource seconds) machine.old machine.new (seen result) }
+    ensures { Did M.state M.frame M.ran (is_away_for (site_of site.now) resource seconds) machine.old machine.new (seen result) }
 {
     let field = ErrorField::RetryAfter(seconds);
-    err_with(alloc, machine, tables, resource, SERVICE_UNAVAILABLE, field)
+    err_with(alloc, machine, site, resource, SERVICE_UNAVAILABLE, field)
 }
 
 /// Ends a dispatch in a failure.
-pub(crate) fn fail<M: Machine, T: Tables>(
+pub(crate) fn fail<M: Machine>(
     machine: &mut M,
-    tables: &T,
+    site: &Site,
     resource: Resource,
     kind: Text,
     text: Text,
 ) -> Result<Finished, NoMemory>
-    ensures { Did M.state M.frame M.ran (fails (T.site tables.now) resource kind text) machine.old machine.new (seen result) }
+    ensures { Did M.state M.frame M.ran (fails (site_of site.now) resource kind text) machine.old machine.new (seen result) }
 {
-    let name = tables.name(resource);
+    let name = site.name_of(resource);
     let Ok(()) = machine.keep_error(
         INTERNAL_SERVER_ERROR,
         text.as_str(),
@@ -132,14 +132,14 @@ pub(crate) fn fail<M: Machine, T: Tables>(
 }
 
 /// Ends a dispatch in a failure that the container itself raises.
-pub(crate) fn fault<M: Machine, T: Tables>(
+pub(crate) fn fault<M: Machine>(
     alloc: Global,
     machine: &mut M,
-    tables: &T,
+    site: &Site,
     resource: Resource,
     fault: DispatchFault,
 ) -> Result<Finished, NoMemory>
-    ensures { Did M.state M.frame M.ran (faults (T.site tables.now) resource fault) machine.old machine.new (seen result) }
+    ensures { Did M.state M.frame M.ran (faults (site_of site.now) resource fault) machine.old machine.new (seen result) }
 {
     let Ok(kind) = Text::copy_of(alloc, fault.name()) else {
         return Err(NoMemory);
@@ -147,7 +147,7 @@ pub(crate) fn fault<M: Machine, T: Tables>(
     let Ok(text) = Text::copy_of(alloc, fault.name()) else {
         return Err(NoMemory);
     };
-    fail(machine, tables, resource, kind, text)
+    fail(machine, site, resource, kind, text)
 }
 
 /// Returns the status for the error code of a servlet: the code if it is an error status, 500 for any other.

@@ -4,45 +4,45 @@ ghost use Rattle.std.specs.Prelude.{◌≡◌, codes};
 ghost use Rattle.sv_dispatch.specs.Did.{Did, seen};
 ghost use Rattle.sv_tree.specs.Seen.{found_seen};
 ghost use Rattle.sv_tree.specs.Files.{Filed, Misses, Sends, SendsTo};
+ghost use Rattle.sv_tree.specs.SiteOfDescriptor.{site_of};
 
 use crate::endings::{fault, missing, not_allowed};
 use crate::machine::Machine;
-use crate::tables::Tables;
 use std::alloc::Global;
 use sv_mapping::Kind;
 use sv_text::NoMemory;
-use sv_tree::{DispatchFault, FOUND, FileFound, Finished, Resource};
+use sv_tree::{DispatchFault, FOUND, FileFound, Finished, Resource, Site};
 
 /// Answers with the file servlet's result (Jakarta Servlet 6.0, section 12.2).
-pub(crate) fn filed<M: Machine, T: Tables>(
+pub(crate) fn filed<M: Machine>(
     alloc: Global,
     machine: &mut M,
-    tables: &T,
+    site: &Site,
     kind: Kind,
     found: FileFound<'_>,
 ) -> Result<Finished, NoMemory>
-    ensures { Did M.state M.frame M.ran (Filed (T.site tables.now) kind (found_seen found.entry)) machine.old machine.new (seen result) }
+    ensures { Did M.state M.frame M.ran (Filed (site_of site.now) kind (found_seen found.entry)) machine.old machine.new (seen result) }
 {
     match found {
         FileFound::File {
             content_type,
             bytes,
-        } => send(alloc, machine, tables, content_type, bytes),
-        FileFound::Redirect(location) => send_to(machine, tables, location.as_str()),
-        FileFound::Missing => miss(alloc, machine, tables, kind),
-        FileFound::NotAllowed => not_allowed(alloc, machine, tables, Resource::Files),
+        } => send(alloc, machine, site, content_type, bytes),
+        FileFound::Redirect(location) => send_to(machine, site, location.as_str()),
+        FileFound::Missing => miss(alloc, machine, site, kind),
+        FileFound::NotAllowed => not_allowed(alloc, machine, site, Resource::Files),
     }
 }
 
 // Sends a file: its content type, and its bytes if the body has room for them.
-fn send<M: Machine, T: Tables>(
+fn send<M: Machine>(
     alloc: Global,
     machine: &mut M,
-    tables: &T,
+    site: &Site,
     content_type: &str,
     bytes: &[u8],
 ) -> Result<Finished, NoMemory>
-    ensures { Did M.state M.frame M.ran (Sends (T.site tables.now) content_type.now bytes.now) machine.old machine.new (seen result) }
+    ensures { Did M.state M.frame M.ran (Sends (site_of site.now) content_type.now bytes.now) machine.old machine.new (seen result) }
 {
     let Ok(()) = machine.set_header("content-type", content_type) else {
         return Err(NoMemory);
@@ -56,19 +56,15 @@ fn send<M: Machine, T: Tables>(
     fault(
         alloc,
         machine,
-        tables,
+        site,
         Resource::Files,
         DispatchFault::TooLarge,
     )
 }
 
 // Redirects the client.
-fn send_to<M: Machine, T: Tables>(
-    machine: &mut M,
-    tables: &T,
-    location: &str,
-) -> Result<Finished, NoMemory>
-    ensures { Did M.state M.frame M.ran (SendsTo (T.site tables.now) location.now) machine.old machine.new (seen result) }
+fn send_to<M: Machine>(machine: &mut M, site: &Site, location: &str) -> Result<Finished, NoMemory>
+    ensures { Did M.state M.frame M.ran (SendsTo (site_of site.now) location.now) machine.old machine.new (seen result) }
 {
     machine.empty();
     let Ok(()) = machine.set_status(FOUND) else {
@@ -81,24 +77,24 @@ fn send_to<M: Machine, T: Tables>(
 }
 
 // Reports that nothing is at the path; an include of it fails.
-fn miss<M: Machine, T: Tables>(
+fn miss<M: Machine>(
     alloc: Global,
     machine: &mut M,
-    tables: &T,
+    site: &Site,
     kind: Kind,
 ) -> Result<Finished, NoMemory>
-    ensures { Did M.state M.frame M.ran (Misses (T.site tables.now) kind) machine.old machine.new (seen result) }
+    ensures { Did M.state M.frame M.ran (Misses (site_of site.now) kind) machine.old machine.new (seen result) }
 {
     match kind {
         Kind::Include => fault(
             alloc,
             machine,
-            tables,
+            site,
             Resource::Files,
             DispatchFault::MissingInclude,
         ),
-        Kind::Request => missing(alloc, machine, tables, Resource::Files),
-        Kind::Forward => missing(alloc, machine, tables, Resource::Files),
-        Kind::Error => missing(alloc, machine, tables, Resource::Files),
+        Kind::Request => missing(alloc, machine, site, Resource::Files),
+        Kind::Forward => missing(alloc, machine, site, Resource::Files),
+        Kind::Error => missing(alloc, machine, site, Resource::Files),
     }
 }

@@ -14,8 +14,6 @@ mod parts;
 mod plain_answer;
 mod response;
 mod session_events;
-mod site_tables;
-mod tables;
 
 pub use live_dispatch::dispatch;
 pub use pages::show_error;

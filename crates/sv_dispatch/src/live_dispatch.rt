@@ -51,7 +51,8 @@ pub fn dispatch<'a, S: Servlet, F: Filter, L: Listener>(
     run(&mut machine, site, kind, canon)
 }
 
-// Runs the dispatch.
+// Runs the dispatch. The contract of `dispatch_by` holds of any machine. This one states it for a started context, and
+// that the machine still holds the values lent to it.
 fn run<S: Servlet, F: Filter, L: Listener>(
     machine: &mut Running<'_, S, F, L>,
     site: &mut Site,

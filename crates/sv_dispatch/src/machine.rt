@@ -7,7 +7,10 @@ use sv_text::NoMemory;
 use sv_tree::Chosen;
 use sv_uri::path::Canon;
 
-/// The exchange of a request, with the components of its context and their journal.
+/// The exchange of a request, with the components of its context and their journal. The contracts of all functions that
+/// make a dispatch (`Did state frame ran ..` of `dispatch_by` and what it calls) hold of every machine: they speak only of
+/// its state, its frame and the runs of its calls. So the recursion over turns and nested dispatches is proved without
+/// the steps of servlets, filters and listeners, and only `Running` relates those steps to the calls.
 pub(crate) trait Machine: Sized {
     ghost use Rattle.std.specs.Prelude.{◌≡◌, ◌<◌, List, Some, false, length};
     ghost use Rattle.sv_component.specs.Runs.{Record};

@@ -1,7 +1,6 @@
 //! The answers of a context to the requests of a row.
 
-use crate::components::TestLive;
-use crate::contexts::{TestContext, context, declared};
+use crate::contexts::{TestApp, TestContext, context, declared};
 use crate::requests::{Request, exchange, path, read_request};
 use crate::results::{beside, nothing_of};
 use std::alloc::Global;
@@ -12,7 +11,7 @@ use sv_message::{Body, Response};
 use sv_rows::Draft;
 use sv_session::Sessions;
 use sv_text::NoMemory;
-use sv_tree::{Finished, Site};
+use sv_tree::Finished;
 use sv_uri::path::Canon;
 use sv_wire::{DateText, write_response};
 
@@ -52,14 +51,8 @@ fn ask_all(
     asking: Asking,
     told: &mut Draft,
 ) {
-    let TestContext {
-        mut live,
-        mut site,
-        sessions,
-    } = context;
-    ask_each(
-        alloc, row, requests, asking, &mut live, &mut site, sessions, told,
-    );
+    let TestContext { mut app, sessions } = context;
+    ask_each(alloc, row, requests, asking, &mut app, sessions, told);
 }
 
 fn ask_each(
@@ -67,8 +60,7 @@ fn ask_each(
     row: &str,
     requests: &str,
     asking: Asking,
-    live: &mut TestLive,
-    site: &mut Site,
+    app: &mut TestApp,
     sessions: Sessions,
     told: &mut Draft,
 ) {
@@ -79,7 +71,7 @@ fn ask_each(
         }
         let request = read_request(part.trim());
         let asked = asked(alloc, row, request, sessions);
-        sessions = ask_one(alloc, request, asking, live, site, asked, told);
+        sessions = ask_one(alloc, request, asking, app, asked, told);
     }
 }
 
@@ -116,13 +108,12 @@ fn ask_one(
     alloc: Global,
     request: Request<'_>,
     asking: Asking,
-    live: &mut TestLive,
-    site: &mut Site,
+    app: &mut TestApp,
     asked: Option<(Canon, Exchange)>,
     told: &mut Draft,
 ) -> Option<Sessions> {
     match asked {
-        Some(asked) => Some(ask(alloc, request, asking, live, site, asked, told)),
+        Some(asked) => Some(ask(alloc, request, asking, app, asked, told)),
         None => {
             told.fail();
             None
@@ -134,8 +125,7 @@ fn ask(
     alloc: Global,
     request: Request<'_>,
     asking: Asking,
-    live: &mut TestLive,
-    site: &mut Site,
+    app: &mut TestApp,
     asked: (Canon, Exchange),
     told: &mut Draft,
 ) -> Sessions {
@@ -145,8 +135,7 @@ fn ask(
         request,
         &canon,
         request.asking(asking),
-        live,
-        site,
+        app,
         &mut exchange,
         told,
     );
@@ -167,22 +156,12 @@ fn make(
     request: Request<'_>,
     canon: &Canon,
     asking: Asking,
-    live: &mut TestLive,
-    site: &mut Site,
+    app: &mut TestApp,
     exchange: &mut Exchange,
     told: &mut Draft,
 ) {
     let mut journal = Journal::new(alloc);
-    match answered(
-        alloc,
-        live,
-        exchange,
-        site,
-        request,
-        canon,
-        asking,
-        &mut journal,
-    ) {
+    match answered(alloc, app, exchange, request, canon, asking, &mut journal) {
         Ok(finished) => {
             add_entries(told, alloc, &journal);
             add_result(told, finished.as_ref(), exchange);
@@ -195,18 +174,18 @@ fn make(
 /// components differ from those of the descriptor, which a started context rules out.
 fn answered(
     alloc: Global,
-    live: &mut TestLive,
+    app: &mut TestApp,
     exchange: &mut Exchange,
-    site: &mut Site,
     request: Request<'_>,
     canon: &Canon,
     asking: Asking,
     journal: &mut Journal,
 ) -> Result<Option<Finished>, NoMemory> {
-    let app = site.descriptor().web_app();
-    if live.servlets() != app.servlets.as_slice().len()
-        || live.filters() != app.filters.as_slice().len()
-        || live.listeners() != app.listeners.as_slice().len()
+    let TestApp { live, site } = app;
+    let declared = site.descriptor().web_app();
+    if live.servlets() != declared.servlets.as_slice().len()
+        || live.filters() != declared.filters.as_slice().len()
+        || live.listeners() != declared.listeners.as_slice().len()
     {
         return Err(NoMemory);
     }

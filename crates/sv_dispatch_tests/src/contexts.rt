@@ -14,11 +14,17 @@ use sv_session::Sessions;
 use sv_text::{Bytes, NoMemory, Text};
 use sv_tree::{ServletPatterns, Site};
 
-/// A started context: its components, its site and its sessions.
+/// The components of a started context and its site.
 #[derive(Drop)]
-pub struct TestContext {
+pub struct TestApp {
     pub live: TestLive,
     pub site: Site,
+}
+
+/// A started context with its sessions.
+#[derive(Drop)]
+pub struct TestContext {
+    pub app: TestApp,
     pub sessions: Sessions,
 }
 
@@ -59,8 +65,7 @@ fn sited(alloc: Global, row: &str, begun: (Descriptor, TestLive)) -> Option<Test
 fn with_sessions(alloc: Global, row: &str, made: (TestLive, Site)) -> TestContext {
     let (live, site) = made;
     TestContext {
-        live,
-        site,
+        app: TestApp { live, site },
         sessions: sessions(alloc, number_of(declared(row, "sessions"))),
     }
 }

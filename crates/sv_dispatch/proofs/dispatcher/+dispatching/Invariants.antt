@@ -1,4 +1,5 @@
 use Rattle.std.proofs.Common.{◌≡◌, ◌+◌, ◌*◌, ◌-◌}
+use Rattle.sv_tree.specs.SiteOfDescriptor.{site_of}
 use Rattle.sv_tree.specs.declared.limits.TheConstants.{MAX_CALLS}
 use Rattle.sv_dispatch.proofs.TurnDeeds.{TurnsOn}
 use Rattle.sv_dispatch.proofs.dispatcher.+dispatching.Given as goal
@@ -27,7 +28,7 @@ decreases-asked_for g l = 7 * l.room
 abbrev pub invariant-turns-loop-ended : goal.invariant-turns-loop-ended
 invariant-turns-loop-ended g l =
     let m = g.M.Machine in
-    TurnsOn m.state m.frame m.ran (g.T.Tables.site l.fn.tables) l.room l.place l.fn.machine l.machine l.number × (l.tables ≡ l.fn.tables)
+    TurnsOn m.state m.frame m.ran (site_of l.fn.site) l.room l.place l.fn.machine l.machine l.number × (l.site ≡ l.fn.site)
 
 abbrev pub decreases-turns-loop-ended : goal.decreases-turns-loop-ended
 decreases-turns-loop-ended g l = MAX_CALLS - (g.M.Machine.state l.machine).exchange.calls
