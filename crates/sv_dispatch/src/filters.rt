@@ -78,6 +78,7 @@ pub(crate) fn befores<M: Machine>(
 }
 
 /// Calls the first `count` filters of a chain once more, in reverse order, and returns the end of the dispatch.
+#[inline(always)]
 pub(crate) fn leave_filters<M: Machine>(
     machine: &mut M,
     chain: &[usize],
