@@ -8,7 +8,8 @@ use Rattle.sv_connection.specs.Alone.{AreTurns, IsAlone, IsUnderWay, cut_calls}
 use Rattle.sv_connection.specs.Course.{Along}
 use Rattle.sv_connection.specs.Notes.{answer_of, event_of, moment_of}
 use Rattle.sv_connection.specs.Phases.{is_closing, is_refusal, phase_by}
-use Rattle.sv_connection.specs.Slots.{Arms, Action, Ends, Hands, Leads, Open, Opens, Over, Blocks, Slot, Reads, ConnectionState, Unused, Writes, fresh}
+use Rattle.sv_connection.specs.Slots.{Accepted, Accepts, Arms, Action, Closes, Ends, Hands, Leads, Open, Opens, Over, Blocks, Slot, Reads, TurnsAway, Unused, Writes, fresh}
+use Rattle.sv_connection.specs.States.{ConnectionState}
 use Rattle.sv_connection.specs.Ways.{Ways}
 use Rattle.sv_connection.specs.declared.phase.Phase.TheVariants.{Closing, Refused}
 use Rattle.sv_journal.specs.declared.entry.Entry.{Entry}
@@ -23,7 +24,7 @@ pub all_join : {A : Type 0} (P : A → Type 0) (xs ys : List A) → AllByRecursi
 all_join P [] ys first second = second
 all_join P (x ∷ xs) ys (here, first) second = (here, all_join P xs ys first second)
 
-flat_join : {A B : Type 0} (f : A → List B) (xs ys : List A) → flat_map f (xs ++ ys) ≡ flat_map f xs ++ flat_map f ys
+pub flat_join : {A B : Type 0} (f : A → List B) (xs ys : List A) → flat_map f (xs ++ ys) ≡ flat_map f xs ++ flat_map f ys
 flat_join f [] ys = refl
 flat_join f (x ∷ xs) ys = ap (λ back. f x ++ back) (flat_join f xs ys) ∙ sym (append_assoc (f x) (flat_map f xs) (flat_map f ys))
 
@@ -37,9 +38,9 @@ concat_one : (parts : List (List ℕ)) (part : List ℕ) → concat (parts ++ pa
 concat_one [] part = append-nil part
 concat_one (first ∷ parts) part = ap (λ back. first ++ back) (concat_one parts part) ∙ sym (append_assoc first (concat parts) part)
 
-module _ (number : ℕ) (actions : List Action) (opening : Reaction) where
+module _ {S : Type 0} (number : ℕ) (actions : List (Action S)) (opening : Reaction) where
   -- An action without an event, and without a call of a turn.
-  quiet_more : (turns : List Turn) (action : Action) → event_of number action ≡ [] → answer_of action ≡ [] → moment_of action ≡ [] → cut_calls action ≡ []
+  quiet_more : (turns : List Turn) (action : Action S) → event_of number action ≡ [] → answer_of action ≡ [] → moment_of action ≡ [] → cut_calls action ≡ []
       → AreTurns number actions opening turns → AreTurns number (actions ++ action ∷ []) opening turns
   quiet_more turns action no_event no_answer no_moment no_call are = record {
     happened = none_more (event_of number) actions action no_event ∙ are.happened;
@@ -116,7 +117,7 @@ module _ {S : Type 0} (ways : Ways S) (number : ℕ) where
       (some, ap (λ rest. concat last.parts ++ rest) unsent ∙ sends, is ∙ sym closes)
   still_under (last ∷ other ∷ more) b c unsent closes is = absurd is
 
-  quiet_step : (actions : List Action) (action : Action) (b c : ConnectionState S) → event_of number action ≡ [] → answer_of action ≡ [] → moment_of action ≡ [] → cut_calls action ≡ []
+  quiet_step : (actions : List (Action S)) (action : Action S) (b c : ConnectionState S) → event_of number action ≡ [] → answer_of action ≡ [] → moment_of action ≡ [] → cut_calls action ≡ []
       → c.unsent ≡ b.unsent → is_closing c.phase ≡ is_closing b.phase → IsAlone number actions b → IsAlone number (actions ++ action ∷ []) c
   quiet_step actions action b c no_event no_answer no_moment no_call unsent closes is = record {
     opening = is.opening;
@@ -127,7 +128,7 @@ module _ {S : Type 0} (ways : Ways S) (number : ℕ) where
     are_turns = quiet_more number actions is.opening (is.turns ++ is.under_way) action no_event no_answer no_moment no_call is.are_turns;
   }
 
-  write_step : (actions : List Action) (b c : ConnectionState S) (part : List ℕ) → 0 < length part → b.unsent ≡ part ++ c.unsent → is_closing c.phase ≡ is_closing b.phase
+  write_step : (actions : List (Action S)) (b c : ConnectionState S) (part : List ℕ) → 0 < length part → b.unsent ≡ part ++ c.unsent → is_closing c.phase ≡ is_closing b.phase
       → (opening : Reaction) (turns : List Turn) → AllByRecursion GoesOn turns → (under : List Turn) → IsUnderWay under b → AreTurns number actions opening (turns ++ under)
       → IsAlone number (actions ++ Writes part ∷ []) c
   write_step actions b c part some front same opening turns all [] (none, still) are =
@@ -149,9 +150,12 @@ module _ {S : Type 0} (ways : Ways S) (number : ℕ) where
   }
   write_step actions b c part some front same opening turns all (last ∷ other ∷ more) is are = absurd is
 
-  alone_step : (actions : List Action) (action : Action) (b c : ConnectionState S) → Leads ways (Open b) action (Open c) → IsAlone number actions b → IsAlone number (actions ++ action ∷ []) c
+  alone_step : (actions : List (Action S)) (action : Action S) (b c : ConnectionState S) → Leads ways (Open b) action (Open c) → IsAlone number actions b → IsAlone number (actions ++ action ∷ []) c
+  alone_step actions (Accepts stream) b c leads is = absurd leads
   alone_step actions (Opens reaction) b c leads is = absurd leads
-  alone_step actions (Ends cause reaction) b c leads is = absurd leads
+  alone_step actions (Ends cause stream closing reaction) b c leads is = absurd leads
+  alone_step actions (TurnsAway stream closing) b c leads is = absurd leads
+  alone_step actions (Closes stream closing) b c leads is = absurd leads
   alone_step actions (Reads bytes) b c (idle, some, made, now) is =
       quiet_step actions (Reads bytes) b c refl refl refl refl (ap (λ (s : ConnectionState S). s.unsent) now) (ap (λ (s : ConnectionState S). is_closing s.phase) now) is
   alone_step actions Blocks b c (needs, blocks, now) is =
@@ -169,24 +173,30 @@ module _ {S : Type 0} (ways : Ways S) (number : ℕ) where
     are_turns = piece_more number actions is.opening (is.turns ++ is.under_way) bytes moment reaction awaited is.are_turns;
   }
 
-  alone_on : (front actions : List Action) (b at : ConnectionState S) → IsAlone number front b → Along ways (Open b) actions (Open at) → IsAlone number (front ++ actions) at
+  not_accepted : (b : ConnectionState S) (action : Action S) (s : S) → Leads ways (Open b) action (Accepted s) → ⊥
+  not_accepted b (Accepts stream) s leads = absurd leads
+  not_accepted b action s leads = absurd leads
+
+  alone_on : (front actions : List (Action S)) (b at : ConnectionState S) → IsAlone number front b → Along ways (Open b) actions (Open at) → IsAlone number (front ++ actions) at
   alone_on front [] b at is same =
-      let P : List Action → Type 0 = λ ds. IsAlone number ds at in
+      let P : List (Action S) → Type 0 = λ ds. IsAlone number ds at in
       let Q : Slot S → Type 0 = here front in
       subst P (sym (append-nil front)) (subst Q (sym same) is)
     where
-      here : List Action → Slot S → Type 0
+      here : List (Action S) → Slot S → Type 0
       here ds Unused = Unit {0}
+      here ds (Accepted s) = Unit {0}
       here ds (Open s) = IsAlone number ds s
       here ds Over = Unit {0}
   alone_on front (action ∷ actions) b at is (Open c, leads, later) =
-      let P : List Action → Type 0 = λ ds. IsAlone number ds at in
+      let P : List (Action S) → Type 0 = λ ds. IsAlone number ds at in
       subst P (append_assoc front (action ∷ []) actions) (alone_on (front ++ action ∷ []) actions c at (alone_step front action b c leads is) later)
+  alone_on front (action ∷ actions) b at is (Accepted s, leads, later) = absurd (not_accepted b action s leads)
   alone_on front (action ∷ actions) b at is (Unused, leads, later) = absurd (no_unused ways (Open b) action leads)
   alone_on front (action ∷ actions) b at is (Over, leads, later) = let no : Open at ≡ Over = (over_stays ways actions (Open at) later).1 in absurd (cc)
 
-  begins : (reaction : Reaction) (b : ConnectionState S) → b ≡ fresh b.stream → IsAlone number (Opens reaction ∷ []) b
-  begins reaction b is = record {
+  begins : (stream : S) (reaction : Reaction) (s : S) (b : ConnectionState S) → b ≡ fresh s → IsAlone number (Accepts stream ∷ Opens reaction ∷ []) b
+  begins stream reaction s b is = record {
     opening = reaction;
     turns = [];
     go_on = tt;
@@ -195,12 +205,35 @@ module _ {S : Type 0} (ways : Ways S) (number : ℕ) where
     are_turns = record { happened = refl; answered = refl; told = refl; called = refl };
   }
 
-  first_step : (action : Action) (actions : List Action) (b at : ConnectionState S) → Leads ways Unused action (Open b) → Along ways (Open b) actions (Open at) → IsAlone number (action ∷ actions) at
-  first_step (Opens reaction) actions b at leads later = alone_on (Opens reaction ∷ []) actions b at (begins reaction b leads) later
-  first_step action actions b at leads later = absurd leads
+  second_step : (stream s : S) (action : Action S) (actions : List (Action S)) (b at : ConnectionState S) → Leads ways (Accepted s) action (Open b) → Along ways (Open b) actions (Open at)
+      → IsAlone number (Accepts stream ∷ action ∷ actions) at
+  second_step stream s (Opens reaction) actions b at leads later =
+      alone_on (Accepts stream ∷ Opens reaction ∷ []) actions b at (begins stream reaction s b leads) later
+  second_step stream s action actions b at leads later = absurd leads
 
-  pub alone : (actions : List Action) (at : ConnectionState S) → Along ways Unused actions (Open at) → IsAlone number actions at
+  not_twice : (s t : S) (action : Action S) → Leads ways (Accepted s) action (Accepted t) → ⊥
+  not_twice s t (Accepts stream) leads = absurd leads
+  not_twice s t action leads = absurd leads
+
+  from_accepted : (stream s : S) (actions : List (Action S)) (at : ConnectionState S) → Along ways (Accepted s) actions (Open at) → IsAlone number (Accepts stream ∷ actions) at
+  from_accepted stream s [] at is = let no : Open at ≡ Accepted s = is in absurd (cc)
+  from_accepted stream s (action ∷ actions) at (Open b, leads, later) = second_step stream s action actions b at leads later
+  from_accepted stream s (action ∷ actions) at (Unused, leads, later) = absurd (no_unused ways (Accepted s) action leads)
+  from_accepted stream s (action ∷ actions) at (Accepted t, leads, later) = absurd (not_twice s t action leads)
+  from_accepted stream s (action ∷ actions) at (Over, leads, later) = let no : Open at ≡ Over = (over_stays ways actions (Open at) later).1 in absurd (cc)
+
+  first_step : (action : Action S) (actions : List (Action S)) (s : S) (at : ConnectionState S) → Leads ways Unused action (Accepted s) → Along ways (Accepted s) actions (Open at)
+      → IsAlone number (action ∷ actions) at
+  first_step (Accepts stream) actions s at leads later = from_accepted stream s actions at later
+  first_step action actions s at leads later = absurd leads
+
+  not_open : (action : Action S) (b : ConnectionState S) → Leads ways Unused action (Open b) → ⊥
+  not_open (Opens reaction) b leads = absurd leads
+  not_open action b leads = absurd leads
+
+  pub alone : (actions : List (Action S)) (at : ConnectionState S) → Along ways Unused actions (Open at) → IsAlone number actions at
   alone [] at is = let no : Open at ≡ Unused = is in absurd (cc)
-  alone (action ∷ actions) at (Open b, leads, later) = first_step action actions b at leads later
+  alone (action ∷ actions) at (Accepted s, leads, later) = first_step action actions s at leads later
+  alone (action ∷ actions) at (Open b, leads, later) = absurd (not_open action b leads)
   alone (action ∷ actions) at (Unused, leads, later) = absurd (no_unused ways Unused action leads)
   alone (action ∷ actions) at (Over, leads, later) = let no : Open at ≡ Over = (over_stays ways actions (Open at) later).1 in absurd (cc)

@@ -1,7 +1,7 @@
 -- The effects of a connection's calls.
 use Rattle.std.proofs.Common.{◌≡◌, ℕ, ◌-◌, ◌<◌, ◌≤◌, Bool, false, List, [], ◌++◌, append-nil, refl, sym, ap, ◌∙◌, subst, length, take, drop, min, arith}
 use Rattle.std.proofs.lemmas.List.{length-take, length-take-le, take-append-drop, take-take}
-use Rattle.sv_connection.specs.Slots.{ConnectionState}
+use Rattle.sv_connection.specs.States.{ConnectionState}
 use Rattle.sv_connection.specs.Steps.{SendsOn}
 use Rattle.sv_connection.specs.Ways.{TriesWrite, Ways}
 use Rattle.sv_connection.specs.declared.allowance.Allowance.{Allowance}

@@ -1,23 +1,44 @@
--- Writing to one connection and to all.
-use Rattle.std.proofs.Common.{◌≡◌, ◌≢◌, ℕ, Bool, true, false, cond, nat_eq, eqb-true, inl, inr, List, [], ◌∷◌, ◌++◌, IsSome, Option, None, Some, refl, sym, ap, ◌∙◌, subst}
-use Rattle.std.proofs.lemmas.Bool.{cond-true, cond-false}
-use Rattle.std.specs.Cmp.{nat_eq_equiv}
+-- The end of the event loop.
+use Rattle.std.proofs.Common.{◌≡◌, ◌≢◌, ◌⊎◌, ◌==◌, IsSome, length, ℕ, ◌+◌, ◌<◌, Bool, true, false, nat_eq, inl, inr, List, [], ◌∷◌, ◌++◌, Option, None, Some, Result, refl, sym, ap, ◌∙◌, subst, flat_map, map, arith}
+use Rattle.std.proofs.lemmas.List.{map-append}
+use Rattle.std.specs.List.{AllByRecursion}
 use Rattle.std.specs.Map.{lookup, set_value}
-use Rattle.std.proofs.lemmas.Map.{lookup-set_value}
-use Rattle.sv_connection.specs.Finishing.{ForgetsOne, IsWriting, OnlyWrites, SendsOut, WritesOn, WritesOutOne}
-use Rattle.sv_connection.specs.Known.{Known, OthersStay, found}
-use Rattle.sv_connection.specs.Slots.{Arms, Action, Leads, Open, Blocks, ConnectionState, Writes}
+use Rattle.sv_connection.specs.Closing.{last_closing}
+use Rattle.sv_connection.specs.Connection.{AreTold}
+use Rattle.sv_connection.specs.Course.{Along}
+use Rattle.sv_connection.specs.Ending.{ClosesLast, Leaves, TurnsOneAway}
+use Rattle.sv_connection.specs.Finishing.{EndsAll, Finishes, IsFinishing, IsWriting, SendsOut, WritesOn, WritesOutOne}
+use Rattle.sv_connection.specs.Known.{AreBelow, Known, OthersStay, found, none_left, place_in}
+use Rattle.sv_connection.specs.Loops.{Goes}
+use Rattle.sv_connection.specs.Notes.{Answers, Note, Of, Reports, TakesAll, Went, moments, poll_of}
+use Rattle.sv_connection.specs.Polling.{Answer, AreCalled, Close, PollerCall, Polling, Wait}
+use Rattle.sv_connection.specs.Rounds.{ServesAll}
+use Rattle.sv_connection.specs.Slots.{Action, Arms, Blocks, Causes, Closes, Leads, Open, Over, Slot, TurnsAway, Writes}
+use Rattle.sv_connection.specs.States.{ConnectionState}
 use Rattle.sv_connection.specs.Steps.{ComesToRest, SendsOn}
 use Rattle.sv_connection.specs.Ways.{Ways}
+use Rattle.sv_connection.specs.Whole.{Serves}
 use Rattle.sv_connection.specs.declared.allowance.Allowance.{Allowance}
 use Rattle.sv_connection.specs.declared.close_reason.CloseReason.{CloseReason}
-use Rattle.sv_connection.specs.declared.close_reason.CloseReason.TheVariants.{GivenUp}
+use Rattle.sv_connection.specs.declared.close_reason.CloseReason.TheVariants.{AnswerCloses, GivenUp, PeerEnded, ReadFails, WriteFails}
+use Rattle.sv_connection.specs.declared.close_reason.Closing.TheVariants.{AtOnce}
+use Rattle.sv_connection.specs.declared.event_loop.EventLoop.{EventLoop}
 use Rattle.sv_connection.specs.declared.pending_bytes.Sent.{Sent}
-use Rattle.sv_connection.specs.declared.pending_bytes.Sent.TheVariants.{Fails, Waits}
+use Rattle.sv_connection.specs.declared.pending_bytes.Sent.TheVariants.{All, Fails, Waits}
+use Rattle.sv_connection.specs.declared.poller.PollEvent.{PollEvent}
+use Rattle.sv_connection.specs.declared.queries.Figures.{Figures}
 use Rattle.sv_connection.specs.declared.step.Step.TheVariants.{GoesOn, Rests, IsOver}
-use Rattle.sv_connection.proofs.AloneLemmas.{all_join}
-use Rattle.sv_connection.proofs.Fronting.{other_number, same_number}
-use Rattle.sv_connection.proofs.Joining.{along_join}
+use Rattle.sv_run.specs.Reacting.{Reacting}
+use Rattle.sv_run.specs.declared.step_fault.StepFault.{StepFault}
+use Rattle.sv_connection.proofs.AloneLemmas.{all_join, flat_one_more}
+use Rattle.sv_connection.proofs.Driving.{away_goes, away_loop}
+use Rattle.sv_connection.proofs.Joining.{along_join, goes_join, went_join}
+use Rattle.sv_connection.proofs.Looping.{goes_by, goes_none, open_silent}
+use Rattle.sv_connection.proofs.Placing.{both_stay, new, old, place_open, place_over, places_stay, set_found, set_stays}
+use Rattle.sv_wire.specs.declared.inbox.Awaited.{Awaited}
+
+some_same : {A : Type 0} (x y : A) → ◌≡◌ {A = Option A} (Some x) (Some y) → x ≡ y
+some_same x y same = cc
 
 module _ {S : Type 0} (ways : Ways S) where
   pub none_written : (at : ConnectionState S) → WritesOn ways at at
@@ -27,118 +48,257 @@ module _ {S : Type 0} (ways : Ways S) where
   writes_join first before after (actions, all, along) (more, all_more, along_more) =
       (actions ++ more, all_join IsWriting actions more all all_more, along_join ways (Open first) (Open before) (Open after) actions more along along_more)
 
-  one_deed : (before after : ConnectionState S) (action : Action) → IsWriting action → Leads ways (Open before) action (Open after) → WritesOn ways before after
-  one_deed before after action is leads = (action ∷ [], (is, tt), (Open after, leads, refl))
+  one_action : (before after : ConnectionState S) (action : Action S) → IsWriting action → Leads ways (Open before) action (Open after) → WritesOn ways before after
+  one_action before after action is leads = (action ∷ [], (is, tt), (Open after, leads, refl))
 
   module _ (first before : ConnectionState S) (so_far : WritesOn ways first before) (left left_after : Allowance) (after : ConnectionState S) where
     pub sent_more : SendsOn ways before left GoesOn after left_after → WritesOn ways first after
-    sent_more (bytes, leads, spends) = writes_join first before after so_far (one_deed before after (Writes bytes) tt leads)
+    sent_more (bytes, leads, spends) = writes_join first before after so_far (one_action before after (Writes bytes) tt leads)
 
     rested : ComesToRest ways before after → SendsOut ways first Waits after
-    rested (inl leads) = (writes_join first before after so_far (one_deed before after Blocks tt leads), ap (λ s. s.rests) leads.2)
-    rested (inr leads) = (writes_join first before after so_far (one_deed before after Arms tt leads), ap (λ s. s.rests) leads.2)
+    rested (inl leads) = (writes_join first before after so_far (one_action before after Blocks tt leads), ap (λ s. s.rests) leads.2)
+    rested (inr leads) = (writes_join first before after so_far (one_action before after Arms tt leads), ap (λ s. s.rests) leads.2)
 
     pub sent_rests : SendsOn ways before left Rests after left_after → SendsOut ways first Waits after
     sent_rests comes = rested comes
 
-    pub sent_over : (cause : CloseReason) → SendsOn ways before left (IsOver cause) after left_after → SendsOut ways first Fails after
-    sent_over cause causes = (before, so_far, (cause, causes))
+    -- Bytes wait to be written, so the connection ended by a write that failed, or was given up.
+    cause_of : (cause : CloseReason) → 0 < length before.unsent → Causes ways before cause after.stream
+        → Causes ways before GivenUp after.stream ⊎ Causes ways before WriteFails after.stream
+    cause_of GivenUp some causes = inl causes
+    cause_of WriteFails some causes = inr causes
+    cause_of PeerEnded some (idle, made) = let none : length before.unsent ≡ 0 = ap length idle.1 in absurd (omega arith)
+    cause_of ReadFails some (idle, made) = let none : length before.unsent ≡ 0 = ap length idle.1 in absurd (omega arith)
+    cause_of AnswerCloses some (empty, closing, same) = let none : length before.unsent ≡ 0 = ap length empty in absurd (omega arith)
+
+    pub sent_over : (cause : CloseReason) → 0 < length before.unsent → SendsOn ways before left (IsOver cause) after left_after → SendsOut ways first Fails after
+    sent_over cause some (causes, same) = (before, so_far, cause_of cause some causes, same)
 
   -- The connection was written to up to the bound of the loop.
   pub sent_out : (first before : ConnectionState S) → WritesOn ways first before → SendsOut ways first Fails before
-  sent_out first before so_far = (before, so_far, (GivenUp, tt))
+  sent_out first before so_far = (before, so_far, inl (inl refl), refl)
 
-  pub only_none : (known : Known S) → OnlyWrites ways known known
-  only_none known number at is = (at, is, none_written at)
-
-  pub only_same : (known known_after : Known S) → ((each : ℕ) → found known_after each ≡ found known each) → OnlyWrites ways known known_after
-  only_same known known_after same number at is = (at, sym (same number) ∙ is, none_written at)
-
-  pub only_join : (known known_between known_after : Known S) → OnlyWrites ways known known_between → OnlyWrites ways known_between known_after
-      → OnlyWrites ways known known_after
-  only_join known known_between known_after first second number at is =
-      let later = second number at is in
-      let sooner = first number later.0 later.1 in
-      (sooner.0, sooner.1, writes_join sooner.0 later.0 at sooner.2 later.2)
-
-  -- The connection of a number is removed, and all others stay.
-  gone : (number : ℕ) (known known_after : Known S) → found known_after number ≡ None
-      → ((other : ℕ) → other ≢ number → found known_after other ≡ found known other) → OnlyWrites ways known known_after
-  gone number known known_after none others other at is = by (nat_eq other number) refl
-    where
-      no_more : found known_after number ≡ Some at → ⊥
-      no_more some = let no : None ≡ Some at = sym none ∙ some in cc
-
-      differ : nat_eq other number ≡ false → other ≢ number
-      differ apart same = let P : ℕ → Type 0 = λ n. nat_eq n number ≡ false in cc (subst P same apart, same_number number)
-
-      by : (b : Bool) → nat_eq other number ≡ b → (before : ConnectionState S) × (found known other ≡ Some before) × WritesOn ways before at
-      by true same = let P : ℕ → Type 0 = λ n. found known_after n ≡ Some at in absurd (no_more (subst P (eqb-true other number same) is))
-      by false apart = (at, sym (others other (differ apart)) ∙ is, none_written at)
-
-  pub forgot : (number : ℕ) (known known_after : Known S) → ForgetsOne number known known_after → OnlyWrites ways known known_after
-  forgot number known known_after (none, stay) = gone number known known_after none stay.others
-
-  pub forgot_then : (number : ℕ) (sent : Sent) (known known_between known_after : Known S) → WritesOutOne ways number known (Some sent) known_between
-      → ForgetsOne number known_between known_after → OnlyWrites ways known known_after
-  forgot_then number sent known known_between known_after (at, at_after, is, is_after, sends, stay) (none, stay_then) =
-      gone number known known_after none (λ other apart. stay_then.others other apart ∙ stay.others other apart)
-
-  -- The bytes of a connection still wait, and all others stay.
-  waits_then : (number : ℕ) (known known_after : Known S) → WritesOutOne ways number known (Some Waits) known_after → OnlyWrites ways known known_after
-  waits_then number known known_after (before, after, was, now, sends, stay) other at is = by (nat_eq other number) refl
-    where
-      differ : nat_eq other number ≡ false → other ≢ number
-      differ apart same = let P : ℕ → Type 0 = λ n. nat_eq n number ≡ false in cc (subst P same apart, same_number number)
-
-      or_after : Option (ConnectionState S) → ConnectionState S
-      or_after None = after
-      or_after (Some it) = it
-
-      by : (b : Bool) → nat_eq other number ≡ b → (it : ConnectionState S) × (found known other ≡ Some it) × WritesOn ways it at
-      by true same =
-          let P : ℕ → Type 0 = λ n. found known n ≡ Some before in
-          let Q : ℕ → Type 0 = λ n. found known_after n ≡ Some at in
-          let W : ConnectionState S → Type 0 = λ s. WritesOn ways before s in
-          (before, subst P (sym (eqb-true other number same)) was, subst W (ap or_after (sym now ∙ subst Q (eqb-true other number same) is)) sends.0)
-      by false apart = (at, sym (stay.others other (differ apart)) ∙ is, none_written at)
-
-  pub waits_when : (number : ℕ) (sent : Sent) → sent ≡ Waits → (known known_after : Known S) → WritesOutOne ways number known (Some sent) known_after
-      → OnlyWrites ways known known_after
-  waits_when number sent is known known_after wrote =
-      let P : Sent → Type 0 = λ s. WritesOutOne ways number known (Some s) known_after in
-      waits_then number known known_after (subst P is wrote)
-
-  module _ (number next : ℕ) (entries entries_after : List (ℕ × ConnectionState S)) where
+  module _ (number next : ℕ) (accepted : Option S) (entries entries_after : List (ℕ × ConnectionState S)) (known : Known S)
+      (view : ◌≡◌ {A = Known S} (record { next = next; accepted = accepted; entries = entries }) known) where
     -- An open connection was written to.
     pub wrote_out : (at at_after : ConnectionState S) → entries_after ≡ set_value (nat_eq number) entries at_after → Some at ≡ lookup (nat_eq number) entries
-        → (known : Known S) → record { next = next; entries = entries } ≡ known → (sent : Sent) → SendsOut ways at sent at_after
-        → WritesOutOne ways number known (Some sent) (record { next = next; entries = entries_after })
-    wrote_out at at_after set is known view sent sends =
-        let P : Known S → Type 0 = λ k. WritesOutOne ways number k (Some sent) new in
-        subst P view (at, at_after, sym is, at_each number ∙ cond-true (nat_eq number number) (Some at_after) (found old number) (same_number number), sends, stays)
-      where
-        old : Known S
-        old = record { next = next; entries = entries }
-
-        new : Known S
-        new = record { next = next; entries = entries_after }
-
-        at_each : (other : ℕ) → found new other ≡ cond (nat_eq number other) (Some at_after) (found old other)
-        at_each other =
-            ap (lookup (nat_eq other)) set
-            ∙ lookup-set_value nat_eq_equiv (nat_eq number) (λ x y same. ap (λ k. nat_eq k y) (eqb-true number x same)) other at_after entries (subst IsSome is refl)
-
-        stays : OthersStay number old new
-        stays = record {
-          next = refl;
-          others = λ other apart.
-              at_each other ∙ cond-false (nat_eq number other) (Some at_after) (found old other) (other_number other number (λ same. apart (sym same)));
-        }
+        → AreBelow next entries → (sent : Sent) → SendsOut ways at sent at_after
+        → WritesOutOne ways number known (Some sent) (record { next = next; accepted = accepted; entries = entries_after })
+    wrote_out at at_after set is below sent sends =
+        let P : Known S → Type 0 = λ k. WritesOutOne ways number k (Some sent) (record { next = next; accepted = accepted; entries = entries_after }) in
+        subst P view (
+          at,
+          at_after,
+          below number (subst IsSome is refl),
+          sym is,
+          set_found number next accepted entries entries_after at at_after set is,
+          sends,
+          set_stays number next accepted entries entries_after at at_after set is,
+        )
 
     -- No open connection has this number.
-    pub wrote_none : (known : Known S) → record { next = next; entries = entries } ≡ known → entries_after ≡ entries
-        → WritesOutOne ways number known None (record { next = next; entries = entries_after })
-    wrote_none known view same =
-        let P : Known S → Type 0 = λ k. WritesOutOne ways number k None (record { next = next; entries = entries_after }) in
-        subst P view (λ each. ap (lookup (nat_eq each)) same)
+    pub wrote_none : entries_after ≡ entries → WritesOutOne ways number known None (record { next = next; accepted = accepted; entries = entries_after })
+    wrote_none same = (λ i. record { next = next; accepted = accepted; entries = same i }) ∙ view
+
+module _ {S : Type 0} (number : ℕ) where
+  -- Writes have no event and no time.
+  writing_moments : (actions : List (Action S)) → AllByRecursion IsWriting actions → moments (map (Of number) actions) ≡ []
+  writing_moments [] all = refl
+  writing_moments (Writes bytes ∷ actions) (is, all) = writing_moments actions all
+  writing_moments (Blocks ∷ actions) (is, all) = writing_moments actions all
+  writing_moments (Arms ∷ actions) (is, all) = writing_moments actions all
+  writing_moments (action ∷ actions) (is, all) = absurd is
+
+  pub writing_notes : (actions : List (Action S)) → AllByRecursion IsWriting actions → AllByRecursion IsFinishing (map (Of number) actions)
+  writing_notes [] all = tt
+  writing_notes (Writes bytes ∷ actions) (is, all) = (tt, writing_notes actions all)
+  writing_notes (Blocks ∷ actions) (is, all) = (tt, writing_notes actions all)
+  writing_notes (Arms ∷ actions) (is, all) = (tt, writing_notes actions all)
+  writing_notes (action ∷ actions) (is, all) = absurd is
+
+module _ {R N C S : Type 0} (ways : Ways S) (steps : Reacting R) (awaits : R → ℕ → Awaited) (tells : C → ℕ → C → Type 0) (polls : Polling N S) where
+  writing_takes : (number : ℕ) (handler : R) (actions : List (Action S)) → AllByRecursion IsWriting actions
+      → TakesAll steps awaits tells handler (map (Of number) actions) handler
+  writing_takes number handler [] all = refl
+  writing_takes number handler (Writes bytes ∷ actions) (is, all) = (handler, refl, writing_takes number handler actions all)
+  writing_takes number handler (Blocks ∷ actions) (is, all) = (handler, refl, writing_takes number handler actions all)
+  writing_takes number handler (Arms ∷ actions) (is, all) = (handler, refl, writing_takes number handler actions all)
+  writing_takes number handler (action ∷ actions) (is, all) = absurd is
+
+  writing_went : (number : ℕ) (handler : R) (clock : C) (actions : List (Action S)) → AllByRecursion IsWriting actions
+      → Went steps awaits tells handler clock (map (Of number) actions) handler clock
+  writing_went number handler clock actions all =
+      let M : List ℕ → Type 0 = λ ms. AreTold tells clock ms clock in
+      record { takes = writing_takes number handler actions all; told = subst M (sym (writing_moments number actions all)) refl }
+
+  pub finishes_none : (loop : EventLoop R N C S) → Finishes ways steps awaits tells polls loop loop
+  finishes_none loop = ([], tt, goes_none ways steps awaits tells polls loop)
+
+  pub finishes_join : (before between after : EventLoop R N C S) → Finishes ways steps awaits tells polls before between → Finishes ways steps awaits tells polls between after
+      → Finishes ways steps awaits tells polls before after
+  finishes_join before between after (notes, all, goes) (more, all_more, goes_on) =
+      (notes ++ more, all_join IsFinishing notes more all all_more, goes_join ways steps awaits tells polls before between after notes more goes goes_on)
+
+  -- The poller reported an event.
+  pub waited : (before : EventLoop R N C S) (poller : N) (event : PollEvent) → polls before.poller (Wait event) poller
+      → Finishes ways steps awaits tells polls before (record before { poller = poller })
+  waited before poller event call = (
+    Reports event ∷ [],
+    (tt, tt),
+    record { went = record { takes = (before.handler, refl, refl); told = refl }; polled = (poller, call, refl); courses = λ number. refl },
+  )
+
+  -- A query was answered.
+  pub told_status : (before : EventLoop R N C S) (poller : N) (figures : Figures) → polls before.poller (Answer figures) poller
+      → Finishes ways steps awaits tells polls before (record before { poller = poller })
+  told_status before poller figures call = (
+    Answers figures ∷ [],
+    (tt, tt),
+    record { went = record { takes = (before.handler, refl, refl); told = refl }; polled = (poller, call, refl); courses = λ number. refl },
+  )
+
+  pub away_last : (before after : EventLoop R N C S) → TurnsOneAway polls before after → Finishes ways steps awaits tells polls before after
+  away_last before after (inl (none, same)) =
+      let P : EventLoop R N C S → Type 0 = λ l. Finishes ways steps awaits tells polls before l in
+      subst P (sym same) (finishes_none before)
+  away_last before after (inr (stream, poller, is, free, closes, same)) =
+      let P : EventLoop R N C S → Type 0 = λ l. Finishes ways steps awaits tells polls before l in
+      subst P (sym same)
+      (Of before.table.next (TurnsAway stream AtOnce) ∷ [], (tt, tt), away_goes ways steps awaits tells polls before stream poller is free closes)
+
+  -- A connection is written to, and then its stream is closed.
+  module _ (number : ℕ) (before : EventLoop R N C S) (at b c : ConnectionState S) (known : Known S) (after : EventLoop R N C S) (actions : List (Action S))
+      (writing : AllByRecursion IsWriting actions) (along : Along ways (Open at) actions (Open b)) (causes : Causes ways b GivenUp c.stream ⊎ Causes ways b WriteFails c.stream)
+      (same : c ≡ record b { stream = c.stream }) (below : number < before.table.next) (was : found before.table number ≡ Some at) (stay : OthersStay number before.table known)
+      (leaves : Leaves polls number c (last_closing c) (record before { table = known }) after) where
+    abbrev last : Action S
+    last = Closes c.stream (last_closing c)
+
+    stays : OthersStay number before.table after.table
+    stays = both_stay number before.table known after.table stay leaves.forgets.1
+
+    over_so : place_in after.table number ≡ Over
+    over_so = let P : ℕ → Type 0 = λ n. number < n in place_over after.table number (subst P (sym stays.next) below) leaves.forgets.0
+
+    went_so : Went steps awaits tells before.handler before.clock (map (Of number) (actions ++ last ∷ [])) after.handler after.clock
+    went_so =
+        let N : List (Note S) → Type 0 = λ notes. Went steps awaits tells before.handler before.clock notes after.handler after.clock in
+        subst N (sym (map-append (Of number) actions (last ∷ [])))
+        (went_join steps awaits tells before.handler before.handler after.handler before.clock before.clock after.clock (map (Of number) actions) (Of number last ∷ [])
+        (writing_went number before.handler before.clock actions writing)
+        (record { takes = (before.handler, refl, leaves.same_handler); told = leaves.same_clock }))
+
+    calls_so : flat_map (poll_of number) (actions ++ last ∷ []) ≡ Close number c.stream (last_closing c) ∷ []
+    calls_so = flat_one_more (poll_of number) actions last ∙ ap (λ front. front ++ poll_of number last) (open_silent ways number actions at b along)
+
+    along_so : Along ways (Open at) (actions ++ last ∷ []) Over
+    along_so =
+        along_join ways (Open at) (Open b) Over actions (last ∷ []) along
+        (Over, (causes, ap (λ (s : ConnectionState S). last_closing s) same), refl)
+
+    notes_so : AllByRecursion IsFinishing (map (Of number) (actions ++ last ∷ []))
+    notes_so =
+        let P : List (Note S) → Type 0 = λ notes. AllByRecursion IsFinishing notes in
+        subst P (sym (map-append (Of number) actions (last ∷ [])))
+        (all_join IsFinishing (map (Of number) actions) (Of number last ∷ []) (writing_notes number actions writing) (tt, tt))
+
+    wrote_and_closed : Finishes ways steps awaits tells polls before after
+    wrote_and_closed =
+        let F : Slot S → Type 0 = λ p. Along ways p (actions ++ last ∷ []) (place_in after.table number) in
+        let T : Slot S → Type 0 = λ p. Along ways (Open at) (actions ++ last ∷ []) p in
+        let A : List (PollerCall S) → Type 0 = λ calls. AreCalled polls before.poller calls after.poller in (
+          map (Of number) (actions ++ last ∷ []),
+          notes_so,
+          goes_by ways steps awaits tells polls number before after (actions ++ last ∷ []) went_so
+              (subst F (sym (place_open before.table number at below was)) (subst T (sym over_so) along_so))
+              (subst A (sym calls_so) (after.poller, leaves.closes, refl))
+              (places_stay number before.table after.table stays),
+        )
+
+  pub closed_last : (number : ℕ) (before after : EventLoop R N C S) → ClosesLast polls number before after → Finishes ways steps awaits tells polls before after
+  closed_last number before after (inl (at, leaves)) =
+      wrote_and_closed number before at at at before.table after [] tt refl (inl (inl refl)) refl leaves.is_used leaves.is_found
+      (record { next = refl; accepted = refl; others = λ other apart. refl }) leaves
+  closed_last number before after (inr (none, same)) =
+      let P : EventLoop R N C S → Type 0 = λ l. Finishes ways steps awaits tells polls before l in
+      subst P (sym same) (finishes_none before)
+
+  -- A connection was written to.
+  wrote_on : (number : ℕ) (before : EventLoop R N C S) (at b : ConnectionState S) (known : Known S) (actions : List (Action S)) → AllByRecursion IsWriting actions
+      → Along ways (Open at) actions (Open b) → number < before.table.next → found before.table number ≡ Some at → found known number ≡ Some b
+      → OthersStay number before.table known → Finishes ways steps awaits tells polls before (record before { table = known })
+  wrote_on number before at b known actions writing along below was now stay =
+      let F : Slot S → Type 0 = λ p. Along ways p actions (place_in known number) in
+      let T : Slot S → Type 0 = λ p. Along ways (Open at) actions p in
+      let P : ℕ → Type 0 = λ n. number < n in
+      let A : List (PollerCall S) → Type 0 = λ calls. AreCalled polls before.poller calls before.poller in (
+        map (Of number) actions,
+        writing_notes number actions writing,
+        goes_by ways steps awaits tells polls number before (record before { table = known }) actions (writing_went number before.handler before.clock actions writing)
+            (subst F (sym (place_open before.table number at below was)) (subst T (sym (place_open known number b (subst P (sym stay.next) below) now)) along))
+            (subst A (sym (open_silent ways number actions at b along)) refl)
+            (places_stay number before.table known stay),
+      )
+
+  pub wrote_nowhere : (number : ℕ) (before : EventLoop R N C S) (known : Known S) → WritesOutOne ways number before.table None known
+      → Finishes ways steps awaits tells polls before (record before { table = known })
+  wrote_nowhere number before known same =
+      let P : Known S → Type 0 = λ k. Finishes ways steps awaits tells polls before (record before { table = k }) in
+      subst P (sym same) (finishes_none before)
+
+  pub wrote_some : (number : ℕ) (before : EventLoop R N C S) (known : Known S) (sent : Sent) → sent ≡ Waits → WritesOutOne ways number before.table (Some sent) known
+      → Finishes ways steps awaits tells polls before (record before { table = known })
+  wrote_some number before known Waits is (at, b, below, was, now, ((actions, writing, along), rests), stay) =
+      wrote_on number before at b known actions writing along below was now stay
+  wrote_some number before known All is wrote = absurd (cc)
+  wrote_some number before known Fails is wrote = absurd (cc)
+
+  pub wrote_last : (number : ℕ) (before after : EventLoop R N C S) (known : Known S) (sent : Sent) → WritesOutOne ways number before.table (Some sent) known
+      → ClosesLast polls number (record before { table = known }) after → Finishes ways steps awaits tells polls before after
+  wrote_last number before after known All (at, b, below, was, now, ((actions, writing, along), none), stay) closes =
+      finishes_join before (record before { table = known }) after (wrote_on number before at b known actions writing along below was now stay)
+      (closed_last number (record before { table = known }) after closes)
+  wrote_last number before after known Waits (at, b, below, was, now, ((actions, writing, along), rests), stay) closes =
+      finishes_join before (record before { table = known }) after (wrote_on number before at b known actions writing along below was now stay)
+      (closed_last number (record before { table = known }) after closes)
+  wrote_last number before after known Fails (at, c, below, was, now, (b, (actions, writing, along), causes, same), stay) (inl (other, leaves)) =
+      let P : ConnectionState S → Type 0 = λ s. Leaves polls number s (last_closing s) (record before { table = known }) after in
+      wrote_and_closed number before at b c known after actions writing along causes same below was stay
+      (subst P (some_same other c (sym leaves.is_found ∙ now)) leaves)
+  wrote_last number before after known Fails (at, c, below, was, now, sends, stay) (inr (none, is_same)) =
+      let never : None ≡ Some c = sym none ∙ now in absurd (cc)
+
+  -- All connections were closed, and then the accepted stream.
+  pub ended_all : (before closed after : EventLoop R N C S) → Finishes ways steps awaits tells polls before closed → closed.table.entries ≡ [] → TurnsOneAway polls closed after
+      → EndsAll ways steps awaits tells polls before after
+  ended_all before closed after finishes none away =
+      (finishes_join before closed after finishes (away_last closed after away), none_open away)
+    where
+      none_open : TurnsOneAway polls closed after → (next : ℕ) × (after.table ≡ none_left next)
+      none_open (inl (no_stream, same)) =
+          (closed.table.next, ap (λ (l : EventLoop R N C S). l.table) same ∙ (λ i. record { next = closed.table.next; accepted = no_stream i; entries = none i }))
+      none_open (inr (stream, poller, is, free, closes, same)) =
+          (closed.table.next + 1, ap (λ (l : EventLoop R N C S). l.table) same ∙ (λ i. record { next = closed.table.next + 1; accepted = None; entries = none i }))
+
+  -- The loop from its start to its end.
+  pub served_whole : (start served finished : EventLoop R N C S) (result : Result (Unit {0}) StepFault) → start.table ≡ none_left 0
+      → ServesAll ways steps awaits tells polls start result served → EndsAll ways steps awaits tells polls served finished
+      → Serves ways steps awaits tells polls start.handler start.poller start.clock result finished.handler finished.poller finished.clock
+  served_whole start served finished result empty serves (finishes, (next, none)) =
+      let P : Known S → Type 0 = λ k. ServesAll ways steps awaits tells polls (record start { table = k }) result served in
+      let Q : Known S → Type 0 = λ k. Finishes ways steps awaits tells polls served (record finished { table = k }) in
+      (served, next, subst P empty serves, subst Q none finishes)
+
+-- A connection that is closed is one fewer.
+pub one_fewer : {R N C S : Type 0} (polls : Polling N S) (number : ℕ) (before after : EventLoop R N C S) → IsSome (found before.table number) → ClosesLast polls number before after
+    → length after.table.entries < length before.table.entries
+one_fewer polls number before after is (inl (at, leaves)) = leaves.fewer
+one_fewer {S = S} polls number before after is (inr (none, same)) = absurd (no_more (found before.table number) none is)
+  where
+    no_more : (held : Option (ConnectionState S)) → held ≡ None → IsSome held → ⊥
+    no_more held none some = let P : Option (ConnectionState S) → Type 0 = λ o. IsSome o in cc (subst P none some)
+
+-- What waits to be written is not empty.
+pub some_unsent : (bytes : List ℕ) (b : Bool) → b ≡ (length bytes == 0) → b ≡ false → 0 < length bytes
+some_unsent [] b is not_so = let never : true ≡ false = sym is ∙ not_so in absurd (cc)
+some_unsent (byte ∷ bytes) b is not_so = omega arith

@@ -2,8 +2,9 @@
 use Rattle.std.proofs.Common.{◌≡◌, ℕ, ◌+◌, ◌≤◌, List, [], ◌∷◌, ◌++◌, None, Some, Ok, Err, inl, inr, refl, sym, ap, ◌∙◌, subst, append-nil, flat_map, length, length-append, arith}
 use Rattle.sv_connection.specs.LoopLaws.{calls_of}
 use Rattle.sv_connection.specs.Notes.{Talks}
-use Rattle.sv_connection.specs.Slots.{Arms, Action, Hands, Open, Blocks, Reads, ConnectionState, Writes}
-use Rattle.sv_connection.specs.Steps.{ComesToRest, Drives, HandsOn, IsTurn, SendsOn, Spends, StepsOnce, TakesIn}
+use Rattle.sv_connection.specs.Slots.{Arms, Action, Hands, Open, Blocks, Reads, Writes}
+use Rattle.sv_connection.specs.States.{ConnectionState}
+use Rattle.sv_connection.specs.Steps.{ComesToRest, Drives, FailsAt, HandsOn, IsTurn, SendsOn, Spends, StepsOnce, TakesIn}
 use Rattle.sv_connection.specs.Ways.{Ways}
 use Rattle.sv_connection.specs.declared.allowance.Allowance.{Allowance}
 use Rattle.sv_connection.specs.declared.close_reason.CloseReason.{CloseReason}
@@ -20,28 +21,28 @@ use Rattle.sv_connection.proofs.Joining.{talks_join}
 use Rattle.sv_wire.specs.declared.inbox.Awaited.{Awaited}
 
 -- The allowance that is left in a turn after these actions.
-abbrev pub Leaves : List Action → Allowance → Type 0
+abbrev pub Leaves : {S : Type 0} → List (Action S) → Allowance → Type 0
 Leaves actions left =
     (length (flat_map calls_of actions) + left.calls ≤ CALLS_AT_ONCE) × (length (taken (flat_map calls_of actions)) + left.bytes ≤ BYTES_AT_ONCE)
 
-long_calls : (actions : List Action) (action : Action) → length (flat_map calls_of (actions ++ action ∷ [])) ≡ length (flat_map calls_of actions) + length (calls_of action)
+long_calls : {S : Type 0} (actions : List (Action S)) (action : Action S) → length (flat_map calls_of (actions ++ action ∷ [])) ≡ length (flat_map calls_of actions) + length (calls_of action)
 long_calls actions action = ap length (flat_one_more calls_of actions action) ∙ length-append (flat_map calls_of actions) (calls_of action)
 
-long_bytes : (actions : List Action) (action : Action)
+long_bytes : {S : Type 0} (actions : List (Action S)) (action : Action S)
     → length (taken (flat_map calls_of (actions ++ action ∷ []))) ≡ length (taken (flat_map calls_of actions)) + length (taken (calls_of action))
 long_bytes actions action =
     ap (λ calls. length (taken calls)) (flat_one_more calls_of actions action) ∙ ap length (taken_join (flat_map calls_of actions) (calls_of action))
     ∙ length-append (taken (flat_map calls_of actions)) (taken (calls_of action))
 
-leaves_more : (actions : List Action) (action : Action) (before after : Allowance) → Leaves actions before → Spends before action after → Leaves (actions ++ action ∷ []) after
+leaves_more : {S : Type 0} (actions : List (Action S)) (action : Action S) (before after : Allowance) → Leaves actions before → Spends before action after → Leaves (actions ++ action ∷ []) after
 leaves_more actions action before after leaves spends =
     let calls = long_calls actions action in let bytes = long_bytes actions action in (omega arith, omega arith)
 
-is_turn : (actions : List Action) (left : Allowance) → Leaves actions left → IsTurn actions
+is_turn : {S : Type 0} (actions : List (Action S)) (left : Allowance) → Leaves actions left → IsTurn actions
 is_turn actions left leaves = (omega arith, omega arith)
 
 -- An action without a call is of the same turn.
-is_turn_more : (actions : List Action) (action : Action) (left : Allowance) → Leaves actions left → calls_of action ≡ [] → IsTurn (actions ++ action ∷ [])
+is_turn_more : {S : Type 0} (actions : List (Action S)) (action : Action S) (left : Allowance) → Leaves actions left → calls_of action ≡ [] → IsTurn (actions ++ action ∷ [])
 is_turn_more actions action left leaves none =
     let same = flat_one_more calls_of actions action ∙ ap (λ back. flat_map calls_of actions ++ back) none ∙ append-nil (flat_map calls_of actions) in
     let P : List Call → Type 0 = λ calls. (length calls ≤ CALLS_AT_ONCE) × (length (taken calls) ≤ BYTES_AT_ONCE) in
@@ -85,7 +86,7 @@ module _ {R C S : Type 0} (steps : Reacting R) (awaits : R → ℕ → Awaited) 
   -- The actions since the connection began to be driven, and the allowance that is left.
   abbrev pub Driven : R → C → ConnectionState S → R → C → ConnectionState S → Allowance → Type 0
   Driven first clock_first at_first before clock at left =
-      (actions : List Action) × Talks steps awaits tells ways number first clock_first (Open at_first) actions before clock (Open at) × Leaves actions left
+      (actions : List (Action S)) × Talks steps awaits tells ways number first clock_first (Open at_first) actions before clock (Open at) × Leaves actions left
 
   pub not_driven : (first : R) (clock_first : C) (at_first : ConnectionState S) (left : Allowance) → left ≡ record { calls = CALLS_AT_ONCE; bytes = BYTES_AT_ONCE }
       → Driven first clock_first at_first first clock_first at_first left
@@ -124,7 +125,10 @@ module _ {R C S : Type 0} (steps : Reacting R) (awaits : R → ℕ → Awaited) 
 
     pub fails_then : (fault : StepFault) → StepsOnce ways steps awaits tells number before clock at left (Err fault) after clock_after at_after left_after
         → Drives ways steps awaits tells number first clock_first at_first (Err fault) after clock_after at_after
-    fails_then fault fails = (driven.0, before, clock, at, driven.1, is_turn driven.0 left driven.2, fails)
+    fails_then fault (fails, same) =
+        let P : ConnectionState S → Type 0 = λ s. Talks steps awaits tells ways number first clock_first (Open at_first) driven.0 before clock (Open s) in
+        let Q : ConnectionState S → Type 0 = λ s. FailsAt steps tells number s fault before clock after clock_after in
+        (driven.0, before, clock, subst P (sym same) driven.1, is_turn driven.0 left driven.2, subst Q (sym same) fails)
 
   module _ (first : R) (clock_first : C) (at_first : ConnectionState S) (before : R) (clock : C) (at : ConnectionState S) (left : Allowance)
       (driven : Driven first clock_first at_first before clock at left) (cause : CloseReason) (after : R) (clock_after : C) (at_after : ConnectionState S) (left_after : Allowance) where
@@ -145,4 +149,4 @@ module _ {R C S : Type 0} (steps : Reacting R) (awaits : R → ℕ → Awaited) 
   pub driven_out : (first : R) (clock_first : C) (at_first : ConnectionState S) (before : R) (clock : C) (at : ConnectionState S) (left : Allowance)
       → Driven first clock_first at_first before clock at left
       → Drives ways steps awaits tells number first clock_first at_first (Ok (Some GivenUp)) before clock at
-  driven_out first clock_first at_first before clock at left driven = (driven.0, at, driven.1, is_turn driven.0 left driven.2, tt)
+  driven_out first clock_first at_first before clock at left driven = (driven.0, at, driven.1, is_turn driven.0 left driven.2, (inl refl, refl))

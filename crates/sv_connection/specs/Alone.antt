@@ -7,7 +7,8 @@ use Rattle.sv_connection.specs.Course.{Along}
 use Rattle.sv_connection.specs.LoopLaws.{end_calls}
 use Rattle.sv_connection.specs.Notes.{answer_of, event_of, moment_of}
 use Rattle.sv_connection.specs.Phases.{is_closing}
-use Rattle.sv_connection.specs.Slots.{Action, Ends, Hands, Open, ConnectionState, Unused, Writes}
+use Rattle.sv_connection.specs.Slots.{Action, Ends, Hands, Open, Unused, Writes}
+use Rattle.sv_connection.specs.States.{ConnectionState}
 use Rattle.sv_connection.specs.Ways.{Ways}
 use Rattle.sv_run.specs.Events.{Opened}
 use Rattle.sv_run.specs.declared.happening.Reaction.{Reaction}
@@ -15,10 +16,10 @@ use Rattle.sv_streams.specs.Calls.{Call, Gave, Took}
 
 -- The stream calls of an action, with each read cut into its pieces: a piece that is passed to the handler counts as a
 -- read of its own.
-abbrev pub cut_calls : Action → List Call
+abbrev pub cut_calls : {S : Type 0} → Action S → List Call
 cut_calls (Hands bytes moment reaction awaited) = Gave bytes ∷ []
 cut_calls (Writes bytes) = Took bytes ∷ []
-cut_calls (Ends cause reaction) = end_calls cause
+cut_calls (Ends cause stream closing reaction) = end_calls cause
 cut_calls other = []
 
 module _ {S : Type 0} where
@@ -31,14 +32,14 @@ module _ {S : Type 0} where
   IsUnderWay (turn ∷ other ∷ turns) at = ⊥
 
 -- These turns of a connection by itself have the events, results, times and calls of the actions.
-pub record AreTurns (number : ℕ) (actions : List Action) (opening : Reaction) (turns : List Turn) : Type 0 where
+pub record AreTurns {S : Type 0} (number : ℕ) (actions : List (Action S)) (opening : Reaction) (turns : List Turn) : Type 0 where
   pub happened : flat_map (event_of number) actions ≡ Opened number ∷ map (piece_of number) turns
   pub answered : flat_map answer_of actions ≡ Ok opening ∷ map brought turns
   pub told : flat_map moment_of actions ≡ map turn.moment_of turns
   pub called : flat_map cut_calls actions ≡ flat_map calls_of turns
 
 -- An open connection has completed turns that go on, and is in at most one more.
-pub record IsAlone {S : Type 0} (number : ℕ) (actions : List Action) (at : ConnectionState S) : Type 0 where
+pub record IsAlone {S : Type 0} (number : ℕ) (actions : List (Action S)) (at : ConnectionState S) : Type 0 where
   pub opening : Reaction
   pub turns : List Turn
   pub go_on : AllByRecursion GoesOn turns
@@ -47,4 +48,4 @@ pub record IsAlone {S : Type 0} (number : ℕ) (actions : List Action) (at : Con
   pub are_turns : AreTurns number actions opening (turns ++ under_way)
 
 abbrev pub ServedAsIfAlone : {S : Type 0} → Ways S → Type 0
-ServedAsIfAlone {S} ways = (number : ℕ) (actions : List Action) (at : ConnectionState S) → Along ways Unused actions (Open at) → IsAlone number actions at
+ServedAsIfAlone {S} ways = (number : ℕ) (actions : List (Action S)) (at : ConnectionState S) → Along ways Unused actions (Open at) → IsAlone number actions at

@@ -1,7 +1,7 @@
 -- How a connection that has ended is closed (RFC 9112, section 9.6).
 use Rattle.std.specs.Prelude.{◌||◌, cond, length, nat_eq, not}
 use Rattle.sv_connection.specs.Phases.{is_refused}
-use Rattle.sv_connection.specs.Slots.{ConnectionState}
+use Rattle.sv_connection.specs.States.{ConnectionState, is_writing}
 use Rattle.sv_connection.specs.declared.close_reason.CloseReason.{CloseReason}
 use Rattle.sv_connection.specs.declared.close_reason.CloseReason.TheVariants.{PeerEnded, AnswerCloses, ReadFails, WriteFails, GivenUp}
 use Rattle.sv_connection.specs.declared.close_reason.Closing.{Closing}
@@ -21,3 +21,8 @@ module _ {S : Type 0} where
   closing_of at ReadFails = AtOnce
   closing_of at WriteFails = AtOnce
   closing_of at GivenUp = InStages
+
+  -- When the loop ends: at once if bytes still wait to be written, and in stages otherwise, so that the peer reads the
+  -- last response.
+  abbrev pub last_closing : ConnectionState S → Closing
+  last_closing at = cond (is_writing at) AtOnce InStages

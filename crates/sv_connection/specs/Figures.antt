@@ -1,9 +1,8 @@
 -- The figures of the connections.
 use Rattle.std.specs.Prelude.{ℕ, List, filter, length, map}
-use Rattle.sv_connection.specs.Finishing.{is_writing}
+use Rattle.sv_connection.specs.States.{ConnectionState, is_writing}
 use Rattle.sv_connection.specs.Holding.{held}
 use Rattle.sv_connection.specs.Known.{Known}
-use Rattle.sv_connection.specs.Slots.{ConnectionState}
 use Rattle.sv_connection.specs.declared.queries.Figures.{Figures}
 
 module _ {S : Type 0} where
@@ -16,7 +15,7 @@ module _ {S : Type 0} where
   writing known = length (filter is_writing (standings known))
 
   -- How many connections are open, how many of them have bytes to write, how many bytes all hold, and how many were
-  -- opened.
+  -- accepted.
   abbrev pub figures_of : Known S → Figures
   figures_of known = record {
     connections = length known.entries;

@@ -3,7 +3,7 @@
 use Rattle.std.specs.Prelude.{◌⊎◌, ℕ, ◌+◌, ◌-◌, ◌≤◌, ◌^◌, length, map, min, Option, None, Some}
 use Rattle.std.specs.List.{fold}
 use Rattle.sv_connection.specs.Known.{Known, found}
-use Rattle.sv_connection.specs.Slots.{ConnectionState}
+use Rattle.sv_connection.specs.States.{ConnectionState}
 
 -- The sum of two counts, at most 2^64 - 1.
 abbrev pub together : ℕ → ℕ → ℕ

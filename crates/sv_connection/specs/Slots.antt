@@ -1,10 +1,14 @@
--- The state of a connection, and its possible actions.
+-- The actions of a connection, and where they lead.
 use Rattle.std.specs.Prelude.{◌≡◌, ◌⊎◌, ℕ, ◌<◌, Bool, false, true, List, [], ◌++◌, length}
+use Rattle.sv_connection.specs.Closing.{closing_of, last_closing}
 use Rattle.sv_connection.specs.Phases.{is_closing, phase_after, under_way_after}
 use Rattle.sv_connection.specs.Pieces.{IsPiece}
+use Rattle.sv_connection.specs.States.{ConnectionState}
 use Rattle.sv_connection.specs.Ways.{Ways}
 use Rattle.sv_connection.specs.declared.close_reason.CloseReason.{CloseReason}
 use Rattle.sv_connection.specs.declared.close_reason.CloseReason.TheVariants.{AnswerCloses, GivenUp, PeerEnded, ReadFails, WriteFails}
+use Rattle.sv_connection.specs.declared.close_reason.Closing.{Closing}
+use Rattle.sv_connection.specs.declared.close_reason.Closing.TheVariants.{AtOnce}
 use Rattle.sv_connection.specs.declared.phase.Phase.{Phase}
 use Rattle.sv_connection.specs.declared.phase.Phase.TheVariants as phase
 use Rattle.sv_run.specs.declared.happening.Reaction.{Reaction}
@@ -12,39 +16,36 @@ use Rattle.sv_streams.specs.Calls.{Gave, ReadFailed, Took, WriteFailed}
 use Rattle.sv_wire.specs.declared.inbox.Awaited.{Awaited}
 use Rattle.sv_wire.specs.declared.inbox.Awaited.TheVariants.{Message}
 
--- The state of an open connection. It has bytes that wait to be passed to the handler (`ahead`) or to be written
--- (`unsent`). It rests if its next call would block or it was armed, and nothing was done since. `under_way` counts the
--- bytes of the message under way that were passed to the handler.
-pub record ConnectionState (S : Type 0) : Type 0 where
-  pub stream : S
-  pub ahead : List ℕ
-  pub unsent : List ℕ
-  pub phase : Phase
-  pub rests : Bool
-  pub under_way : ℕ
-
--- The state of a number: no connection had it, one has it, or its connection has ended.
+-- The state of a number: no connection had it; a stream was accepted under it; its connection is open; or its stream
+-- was closed.
 pub data Slot (S : Type 0) : Type 0 where
   Unused : Slot S
+  Accepted : S → Slot S
   Open : ConnectionState S → Slot S
   Over : Slot S
 
 -- One thing done of a connection.
-pub data Action : Type 0 where
+pub data Action (S : Type 0) : Type 0 where
+  -- Its stream is accepted.
+  Accepts : S → Action S
   -- It is opened.
-  Opens : Reaction → Action
+  Opens : Reaction → Action S
   -- A read gives these bytes.
-  Reads : List ℕ → Action
+  Reads : List ℕ → Action S
   -- A piece is passed to the handler at this time, with its reaction and what the container then awaits.
-  Hands : List ℕ → ℕ → Reaction → Awaited → Action
+  Hands : List ℕ → ℕ → Reaction → Awaited → Action S
   -- A write takes these bytes.
-  Writes : List ℕ → Action
+  Writes : List ℕ → Action S
   -- The next call would block.
-  Blocks : Action
+  Blocks : Action S
   -- The stream is armed.
-  Arms : Action
-  -- It ends for this reason, and the handler takes the event.
-  Ends : CloseReason → Reaction → Action
+  Arms : Action S
+  -- It ends for this reason: its stream is closed in this way, and the handler takes the event.
+  Ends : CloseReason → S → Closing → Reaction → Action S
+  -- Its stream is closed before it was opened.
+  TurnsAway : S → Closing → Action S
+  -- Its stream is closed in this way, and the handler takes no event.
+  Closes : S → Closing → Action S
 
 -- The phase before the first byte.
 abbrev pub first_phase : Phase
@@ -74,12 +75,16 @@ module _ {S : Type 0} where
     Causes at ReadFails stream = IsIdle at × ways.makes at.stream ReadFailed stream
     Causes at WriteFails stream = (0 < length at.unsent) × ways.makes at.stream WriteFailed stream
     Causes at AnswerCloses stream = (at.unsent ≡ []) × (is_closing at.phase ≡ true) × (stream ≡ at.stream)
-    Causes at GivenUp stream = Unit {0}
+    Causes at GivenUp stream = (stream ≡ at.stream) ⊎ ways.arms at.stream stream
 
     -- An action leads from one slot of a number to the next. None leads on from the end.
-    abbrev pub Leads : Slot S → Action → Slot S → Type 0
-    Leads Unused (Opens reaction) (Open after) =
-        after ≡ fresh after.stream
+    abbrev pub Leads : Slot S → Action S → Slot S → Type 0
+    Leads Unused (Accepts stream) (Accepted accepted) =
+        accepted ≡ stream
+    Leads (Accepted stream) (Opens reaction) (Open after) =
+        after ≡ fresh stream
+    Leads (Accepted stream) (TurnsAway closed closing) Over =
+        (closed ≡ stream) × (closing ≡ AtOnce)
     Leads (Open at) (Reads bytes) (Open after) =
         IsIdle at × (0 < length bytes) × ways.makes at.stream (Gave bytes) after.stream
         × (after ≡ record at { stream = after.stream; ahead = bytes; rests = false })
@@ -99,5 +104,8 @@ module _ {S : Type 0} where
         Needs at × ways.blocks at.stream after.stream × (after ≡ record at { stream = after.stream; rests = true })
     Leads (Open at) Arms (Open after) =
         Needs at × ways.arms at.stream after.stream × (after ≡ record at { stream = after.stream; rests = true })
-    Leads (Open at) (Ends cause reaction) Over = (stream : S) × Causes at cause stream
+    Leads (Open at) (Ends cause stream closing reaction) Over =
+        Causes at cause stream × (closing ≡ closing_of at cause)
+    Leads (Open at) (Closes stream closing) Over =
+        (Causes at GivenUp stream ⊎ Causes at WriteFails stream) × (closing ≡ last_closing at)
     Leads other action place = ⊥

@@ -1,74 +1,138 @@
-//! The table of open connections.
+//! The table of connections.
 
 ghost use Rattle.std.specs.Prelude.{◌≡◌};
-ghost use Rattle.sv_connection.specs.Fronts.{Moves};
-ghost use Rattle.sv_connection.specs.Turns.{over_event};
 ghost use Rattle.sv_connection.specs.Figures.{figures_of, writing};
-ghost use Rattle.sv_connection.specs.Finishing.{ForgetsOne, OnlyWrites, WritesOutOne};
-ghost use Rattle.sv_connection.specs.Holding.{HoldsWithin, held, weight_in};
-ghost use Rattle.sv_connection.specs.Known.{DrivesOne, EndsOne, OpensNext};
-ghost use Rattle.sv_connection.specs.Notes.{over_by};
-ghost use Rattle.sv_run.specs.Seen.{happening_of};
+ghost use Rattle.sv_connection.specs.Finishing.{WritesOutOne};
+ghost use Rattle.sv_connection.specs.Holding.{held, weight_in};
+ghost use Rattle.sv_connection.specs.Known.{DropsAccepted, ForgetsOne, OpensNext, found, none_left};
+ghost use Rattle.sv_connection.specs.Steps.{DrivesOne};
 
 use crate::close_reason::CloseReason;
 use crate::limits::Limits;
 use crate::open_connection::Connection;
 use crate::peer::Peer;
 use crate::pending_bytes::Sent;
-use crate::poller::Poller;
 use crate::queries::Figures;
 use std::alloc::Global;
 use std::collections::HashMap;
 use std::marker::Model;
-use sv_run::{EventHandler, Happening, MAX_CONNECTIONS, StepFault};
+use sv_run::{EventHandler, MAX_CONNECTIONS, StepFault};
 use sv_streams::Clock;
+use sv_text::NoMemory;
 
-/// The open connections by number, their limits, the next number, and how often a connection was opened or driven. This
-/// count orders the turns within a second. No number is used twice.
+/// The open connections by number, their limits, the next number, the stream that was accepted under it, and how often
+/// a connection was opened or driven. This count orders the turns within a second. No number is used twice.
 #[derive(Drop)]
 pub(crate) struct ConnectionTable<P> {
     alloc: Global,
     limits: Limits,
     next: u64,
+    accepted: Option<P>,
     turns: u64,
     connections: HashMap<u64, Connection<P>>,
 }
 
 impl<P> Model for ConnectionTable<P> {
-    ghost use Rattle.sv_connection.specs.Known.{Known};
+    ghost use Rattle.std.specs.Prelude.{◌<◌, ◌-◌, ◌^◌, IsSome};
+    ghost use Rattle.sv_connection.specs.Known.{AreBelow, Known};
 
     ghost Value = { Known P };
 
-    ghost view = { λ f. record { next = f.next; entries = f.connections.entries } };
+    ghost view = { λ f. record { next = f.next; accepted = f.accepted; entries = f.connections.entries } };
+
+    ghost invariant = { λ f. (IsSome f.accepted → f.next < 2 ^ 64 - 1) × AreBelow f.next f.connections.entries };
 }
 
 impl<P: Peer + Drop> ConnectionTable<P> {
-    ghost use Rattle.sv_connection.specs.Known as spec;
-    ghost use Rattle.std.specs.Prelude.{[], ◌<◌, ◌≤◌, ◌-◌, ◌^◌, IfOk, IsTrue, OnOk, false};
+    ghost use Rattle.std.specs.Prelude.{[], ◌<◌, ◌≤◌, ◌-◌, ◌^◌, IfNone, IfSome, IsTrue, IsSome, Some, None, is_some, false, length};
 
     /// Creates an empty table.
     pub fn new(alloc: Global, limits: Limits) -> ConnectionTable<P>
-        ensures { result ≡ record { next = 0; entries = [] } }
+        ensures { result ≡ none_left 0 }
     {
         ConnectionTable {
             alloc,
             limits,
             next: 0,
+            accepted: None,
             turns: 0,
             connections: HashMap::new(alloc),
         }
     }
 
-    /// Returns whether one more connection may be opened.
-    pub fn has_room(&self) -> bool
+    /// Returns the number of bytes that all connections may hold together.
+    pub fn most_held(&self) -> u64 {
+        self.limits.held_bytes
+    }
+
+    /// Returns whether one more connection may be open.
+    pub fn has_room(&self) -> bool {
+        let most = self.limits.connections.min(MAX_CONNECTIONS);
+        self.connections.len() < most
+    }
+
+    /// Returns whether one more stream may be accepted: there is room for its connection, or an idle connection can
+    /// make room.
+    pub fn may_accept(&self) -> bool
         ensures { IsTrue result → self.now.next < 2 ^ 64 - 1 }
     {
-        let most = self.limits.connections.min(MAX_CONNECTIONS);
-        self.connections.len() < most && self.next < u64::MAX
+        self.next < u64::MAX && (self.has_room() || self.longest_idle().is_some())
+    }
+
+    /// Returns whether a stream was accepted whose connection is not opened yet.
+    pub fn has_accepted(&self) -> bool
+        ensures { result ≡ is_some self.now.accepted }
+    {
+        self.accepted.is_some()
+    }
+
+    /// Keeps the stream that was accepted under the next number.
+    pub fn keep_accepted(&mut self, stream: P)
+        requires free { self.old.accepted ≡ None }
+        requires unused { self.old.next < 2 ^ 64 - 1 }
+        ensures { self.new ≡ record self.old { accepted = Some stream } }
+    {
+        self.accepted = Some(stream);
+    }
+
+    /// Takes out the accepted stream, if any, whose connection will not be opened. Its number is used.
+    pub fn drop_accepted(&mut self) -> Option<P>
+        ensures { DropsAccepted self.old result self.new }
+    {
+        let stream = self.accepted.take()?;
+        self.next += 1;
+        Some(stream)
+    }
+
+    /// Opens the connection of the accepted stream in second `now`, if there is such a stream. Returns whether there
+    /// was one.
+    ///
+    /// # Errors
+    /// Memory ran out. Nothing has changed.
+    pub fn open(&mut self, now: u64) -> Result<bool, NoMemory>
+        ensures { OpensNext self.old result self.new }
+    {
+        let Some(stream) = self.accepted.take() else {
+            return Ok(false);
+        };
+        self.turns = self.turns.saturating_add(1);
+        let idle_seconds = self.limits.idle_seconds;
+        let connection = Connection::new(self.alloc, stream, now, idle_seconds, self.turns);
+        match self.connections.insert(self.next, connection) {
+            Ok(_) => {}
+            Err(failed) => {
+                self.accepted = Some(failed.value.1.into_stream());
+                return Err(NoMemory);
+            }
+        }
+        self.next += 1;
+        Ok(true)
     }
 
     /// Returns whether no connection is open.
-    pub fn is_empty(&self) -> bool {
+    pub fn is_empty(&self) -> bool
+        ensures { IsTrue result → self.now.entries ≡ [] }
+    {
         self.connections.is_empty()
     }
 
@@ -101,73 +165,8 @@ impl<P: Peer + Drop> ConnectionTable<P> {
         self.next
     }
 
-    /// Drives the connection of a number, if it is open, and ends it if it is over. If it then holds more bytes than
-    /// before, and all connections together more than their limit, connections are given up until they are within it,
-    /// in the order of their timeouts.
-    ///
-    /// # Errors
-    /// The fault of a refused event, or out of memory.
-    pub fn serve<R: EventHandler, C: Clock, N: Poller<Peer = P>>(
-        &mut self,
-        number: u64,
-        handler: &mut R,
-        clock: &mut C,
-        poller: &mut N,
-    ) -> Result<(), StepFault>
-        ensures { Moves P.ways R.steps R.awaited C.tells handler.old clock.old self.old result handler.new clock.new self.new }
-    {
-        let most = self.limits.held_bytes;
-        self.serve_within(most, number, handler, clock, poller)
-    }
-
-    // Serves the connection of a number. All connections together may hold `most` bytes.
-    fn serve_within<R: EventHandler, C: Clock, N: Poller<Peer = P>>(
-        &mut self,
-        most: u64,
-        number: u64,
-        handler: &mut R,
-        clock: &mut C,
-        poller: &mut N,
-    ) -> Result<(), StepFault>
-        ensures moves { Moves P.ways R.steps R.awaited C.tells handler.old clock.old self.old result handler.new clock.new self.new }
-        ensures within { OnOk result (HoldsWithin most number self.old self.new) }
-    {
-        match self.serve_one(number, handler, clock, poller) {
-            Ok(true) => {}
-            Ok(false) => return Ok(()),
-            Err(fault) => return Err(fault),
-        }
-        self.ease(most, handler, clock, poller)
-    }
-
-    // Gives up connections until all together hold at most `most` bytes.
-    fn ease<R: EventHandler, C: Clock, N: Poller<Peer = P>>(
-        &mut self,
-        most: u64,
-        handler: &mut R,
-        clock: &mut C,
-        poller: &mut N,
-    ) -> Result<(), StepFault>
-        ensures moves { Moves P.ways R.steps R.awaited C.tells handler.old clock.old self.old result handler.new clock.new self.new }
-        ensures within { OnOk result (held self.new ≤ most) }
-    {
-        for _ in 0..u64::MAX {
-            if self.held() <= most {
-                return Ok(());
-            }
-            let Some(number) = self.slowest() else {
-                return Err(StepFault::NoMemory);
-            };
-            match self.give_up(number, handler, clock, poller) {
-                Ok(()) => {}
-                Err(fault) => return Err(fault),
-            }
-        }
-        Err(StepFault::NoMemory)
-    }
-
-    // Returns the number of bytes that all connections hold together.
-    fn held(&self) -> u64
+    /// Returns the number of bytes that all connections hold together.
+    pub fn held(&self) -> u64
         ensures { result ≡ held self.now }
     {
         self.connections
@@ -175,8 +174,8 @@ impl<P: Peer + Drop> ConnectionTable<P> {
             .fold(0, |sum: u64, it| sum.saturating_add(it.weight()))
     }
 
-    // Returns the connection whose timeout expires first, among those that hold bytes.
-    fn slowest(&self) -> Option<u64> {
+    /// Returns the connection whose timeout expires first, among those that hold bytes.
+    pub fn slowest(&self) -> Option<u64> {
         let mut found = None;
         let mut least = u64::MAX;
         for (number, connection) in self.connections.iter() {
@@ -188,31 +187,11 @@ impl<P: Peer + Drop> ConnectionTable<P> {
         found
     }
 
-    // Drives the connection of a number, if it is open, and ends it if it is over. Returns whether it then holds more
-    // bytes than before.
-    fn serve_one<R: EventHandler, C: Clock, N: Poller<Peer = P>>(
-        &mut self,
-        number: u64,
-        handler: &mut R,
-        clock: &mut C,
-        poller: &mut N,
-    ) -> Result<bool, StepFault>
-        ensures moves { Moves P.ways R.steps R.awaited C.tells handler.old clock.old self.old result handler.new clock.new self.new }
-        ensures grows { IfOk result (λ grows. grows ≡ false → weight_in self.new number ≤ weight_in self.old number) }
-    {
-        let mut grows = false;
-        match self.drive(number, handler, clock, poller.seconds(), &mut grows) {
-            Ok(None) => Ok(grows),
-            Ok(Some(cause)) => match self.end(number, cause, handler, poller) {
-                Ok(()) => Ok(false),
-                Err(fault) => Err(fault),
-            },
-            Err(fault) => Err(fault),
-        }
-    }
-
-    // Drives the connection of a number, if it is open. Sets `grows` to whether it then holds more bytes than before.
-    fn drive<R: EventHandler, C: Clock>(
+    /// Drives the connection of a number, if it is open. Sets `grows` to whether it then holds more bytes than before.
+    ///
+    /// # Errors
+    /// The fault of a refused piece, or out of memory.
+    pub fn drive<R: EventHandler, C: Clock>(
         &mut self,
         number: u64,
         handler: &mut R,
@@ -224,9 +203,6 @@ impl<P: Peer + Drop> ConnectionTable<P> {
         ensures grows { grows.new ≡ false → weight_in self.new number ≤ weight_in self.old number }
     {
         *grows = false;
-        if number >= self.next {
-            return Ok(None);
-        }
         self.turns = self.turns.saturating_add(1);
         let turn = self.turns;
         match self.connections.get_mut(&number) {
@@ -241,121 +217,20 @@ impl<P: Peer + Drop> ConnectionTable<P> {
         Ok(None)
     }
 
-    /// Removes the connection of a number, if it is open, and closes its stream as this reason requires.
-    pub fn forget<N: Poller<Peer = P>>(&mut self, number: u64, cause: CloseReason, poller: &mut N)
-        ensures { ForgetsOne number self.old self.new }
+    /// Removes the connection of a number, if it is open.
+    pub fn remove(&mut self, number: u64) -> Option<Connection<P>>
+        ensures gives { result ≡ found self.old number }
+        ensures below { IsSome result → number < self.old.next }
+        ensures none { IfNone result (self.new ≡ self.old) }
+        ensures fewer { IfSome result (λ _. length self.new.entries < length self.old.entries) }
+        ensures forgets { ForgetsOne number self.old self.new }
     {
-        if let Some(connection) = self.connections.remove(&number) {
-            let closing = connection.closing(cause);
-            poller.close(number, connection.into_stream(), closing);
-        }
-    }
-
-    // Removes the connection of a number, and passes the event of its end to the handler.
-    fn end<R: EventHandler, N: Poller<Peer = P>>(
-        &mut self,
-        number: u64,
-        cause: CloseReason,
-        handler: &mut R,
-        poller: &mut N,
-    ) -> Result<(), StepFault>
-        ensures { EndsOne R.steps number cause handler.old self.old result handler.new self.new }
-    {
-        self.forget(number, cause, poller);
-        match handler.step(over_event(number, cause)) {
-            Ok(_) => Ok(()),
-            Err(fault) => Err(fault),
-        }
-    }
-
-    // Returns whether an open connection has this number.
-    fn knows(&self, number: u64) -> bool
-        ensures { result ≡ spec.knows self.now number }
-    {
-        number < self.next && self.connections.contains_key(&number)
-    }
-
-    /// Gives up the connection of a number, if it is open.
-    ///
-    /// # Errors
-    /// The fault of the refused event.
-    pub fn give_up<R: EventHandler, C: Clock, N: Poller<Peer = P>>(
-        &mut self,
-        number: u64,
-        handler: &mut R,
-        clock: &mut C,
-        poller: &mut N,
-    ) -> Result<(), StepFault>
-        ensures { Moves P.ways R.steps R.awaited C.tells handler.old clock.old self.old result handler.new clock.new self.new }
-    {
-        if !self.knows(number) {
-            return Ok(());
-        }
-        self.end(number, CloseReason::GivenUp, handler, poller)
-    }
-
-    /// Opens the next connection, whose stream is armed, if there is room. Otherwise its stream is dropped.
-    ///
-    /// # Errors
-    /// The fault of a refused event, or out of memory.
-    pub fn open<R: EventHandler, C: Clock>(
-        &mut self,
-        stream: P,
-        now: u64,
-        handler: &mut R,
-        clock: &mut C,
-    ) -> Result<bool, StepFault>
-        ensures { Moves P.ways R.steps R.awaited C.tells handler.old clock.old self.old result handler.new clock.new self.new }
-    {
-        if !self.has_room() {
-            return Ok(false);
-        }
-        match self.open_next(stream, now, handler) {
-            Ok(()) => Ok(true),
-            Err(fault) => Err(fault),
-        }
-    }
-
-    fn open_next<R: EventHandler>(
-        &mut self,
-        stream: P,
-        now: u64,
-        handler: &mut R,
-    ) -> Result<(), StepFault>
-        requires { self.old.next < 2 ^ 64 - 1 }
-        ensures { OpensNext R.steps stream handler.old self.old result handler.new self.new }
-    {
-        match handler.step(Happening::Opened {
-            connection: self.next,
-        }) {
-            Ok(_) => {}
-            Err(fault) => return Err(fault),
-        }
-        self.turns = self.turns.saturating_add(1);
-        let idle_seconds = self.limits.idle_seconds;
-        let connection = Connection::new(self.alloc, stream, now, idle_seconds, self.turns);
-        match self.connections.insert(self.next, connection) {
-            Ok(_) => {}
-            Err(_) => return Err(StepFault::NoMemory),
-        }
-        self.next += 1;
-        Ok(())
+        self.connections.remove(&number)
     }
 
     /// Writes the bytes that wait to the connection of a number, if it is open, as far as this is possible without
-    /// blocking. The connection is dropped when no bytes wait or a write fails.
-    pub fn send_out<N: Poller<Peer = P>>(&mut self, number: u64, poller: &mut N)
-        ensures { OnlyWrites P.ways self.old self.new }
-    {
-        match self.write_out(number) {
-            None => {}
-            Some(Sent::Waits) => {}
-            Some(_) => self.forget(number, CloseReason::GivenUp, poller),
-        }
-    }
-
-    // Writes the bytes that wait to the connection of a number, if it is open.
-    fn write_out(&mut self, number: u64) -> Option<Sent>
+    /// blocking.
+    pub fn write_out(&mut self, number: u64) -> Option<Sent>
         ensures { WritesOutOne P.ways number self.old result self.new }
     {
         match self.connections.get_mut(&number) {
@@ -363,6 +238,17 @@ impl<P: Peer + Drop> ConnectionTable<P> {
             None => {}
         }
         None
+    }
+
+    /// Returns the number of an open connection, if any.
+    pub fn any(&self) -> Option<u64>
+        ensures open { IfSome result (λ number. IsSome (found self.now number)) }
+        ensures none { IfNone result (self.now.entries ≡ []) }
+    {
+        match self.connections.keys().next() {
+            Some(number) => Some(*number),
+            None => None,
+        }
     }
 
     /// Returns a connection that has nothing to write.
@@ -396,17 +282,5 @@ impl<P: Peer + Drop> ConnectionTable<P> {
             }
         }
         found
-    }
-}
-
-// Returns the event of a connection's end.
-fn over_event(connection: u64, cause: CloseReason) -> Happening<'static>
-    ensures { happening_of result ≡ over_event connection (over_by cause) }
-{
-    match cause {
-        CloseReason::PeerEnded | CloseReason::AnswerCloses => Happening::Ended { connection },
-        CloseReason::ReadFails | CloseReason::WriteFails | CloseReason::GivenUp => Happening::Lost {
-            connection,
-        },
     }
 }

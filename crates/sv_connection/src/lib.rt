@@ -6,6 +6,7 @@ mod acceptor;
 mod allowance;
 mod close_reason;
 mod connection;
+mod connection_service;
 mod connection_table;
 mod event_loop;
 mod laws;
@@ -30,7 +31,7 @@ mod without_queries;
 pub use acceptor::{AcceptFailed, Acceptor};
 pub use close_reason::{CloseReason, Closing};
 pub use connection::run_connection;
-pub use event_loop::run_event_loop;
+pub use event_loop::{LoopEnd, run_event_loop};
 pub use laws::{
     a_connection_is_a_run, only_pieces_send, pieces_are_what_is_read, the_end_has_a_cause,
     what_is_sent_is_written,

@@ -2,15 +2,15 @@
 
 ghost use Rattle.std.specs.Prelude.{◌≡◌};
 ghost use Rattle.sv_connection.specs.Alone.{ServedAsIfAlone};
-ghost use Rattle.sv_connection.specs.Fronts.{RoundsAreOne};
-ghost use Rattle.sv_connection.specs.Notes.{NotesAreReactions};
 ghost use Rattle.sv_connection.specs.LoopLaws.{BytesAreKept, EndsHaveACause, NumbersAreNotUsedAgain, RestIsForSomething};
+ghost use Rattle.sv_connection.specs.LoopRuns.{NotesAreReactions, RoundsAreOne};
 
 use crate::limits::{
     ACCEPTED_AT_ONCE, BYTES_A_PIECE, BYTES_A_WINDOW, BYTES_AT_ONCE, CALLS_AT_ONCE, FINISH_SECONDS,
     FIRST_READ_BYTES, MAX_HELD_BYTES, MAX_IDLE_SECONDS, MAX_UNDER_WAY, READ_BYTES, WINDOW_SECONDS,
 };
 use crate::peer::Peer;
+use crate::poller::Poller;
 use sv_run::EventHandler;
 use sv_streams::{Clock, MAX_READS};
 
@@ -38,13 +38,13 @@ pub fn bytes_are_kept<P: Peer>()
 {}
 
 /// Rounds form one sequence: the events of all connections are taken one after another, and each number has one course.
-pub fn rounds_are_one<P: Peer, R: EventHandler, C: Clock>()
-    ensures { RoundsAreOne P.ways R.steps R.awaited C.tells }
+pub fn rounds_are_one<R: EventHandler, N: Poller, C: Clock>()
+    ensures { RoundsAreOne N.Peer.ways R.steps R.awaited C.tells N.polls }
 {}
 
 /// The notes of all connections are events that the handler takes one after another, each with its reaction.
-pub fn what_is_done_is_events<R: EventHandler, C: Clock>()
-    ensures { NotesAreReactions R.steps R.awaited C.tells }
+pub fn what_is_done_is_events<R: EventHandler, N: Poller, C: Clock>()
+    ensures { NotesAreReactions N.Peer.ways R.steps R.awaited C.tells N.polls }
 {}
 
 /// Each connection is served as if it were the only one. Its events, their results and times, and the calls of its
@@ -55,7 +55,7 @@ pub fn each_is_served_as_if_alone<P: Peer>()
 {}
 
 /// A connection ends only for a cause that its stream or its reaction shows, or because it was given up. If a reaction
-/// closes it, all bytes were written.
+/// closes it, all bytes were written. Its stream is closed as this cause requires.
 pub fn ends_have_a_cause<P: Peer>()
     ensures { EndsHaveACause P.ways }
 {}

@@ -49,7 +49,7 @@ enum NextRead {
 }
 
 impl<P> Model for Connection<P> {
-    ghost use Rattle.sv_connection.specs.Slots.{ConnectionState};
+    ghost use Rattle.sv_connection.specs.States.{ConnectionState};
 
     ghost Value = { ConnectionState P };
 
@@ -58,8 +58,8 @@ impl<P> Model for Connection<P> {
 
 impl<P: Peer> Connection<P> {
     ghost use Rattle.std.specs.Prelude.{◌≡◌, [], false, true, IsTrue, ◌↔◌};
-    ghost use Rattle.sv_connection.specs.Closing.{behind_answer, closing_of};
-    ghost use Rattle.sv_connection.specs.Finishing.{is_writing};
+    ghost use Rattle.sv_connection.specs.Closing.{behind_answer, closing_of, last_closing};
+    ghost use Rattle.sv_connection.specs.States.{is_writing};
     ghost use Rattle.sv_connection.specs.Holding.{weight};
     ghost use Rattle.sv_connection.specs.Phases.{phase_after, under_way_after};
     ghost use Rattle.sv_connection.specs.Slots.{first_phase};
@@ -98,6 +98,17 @@ impl<P: Peer> Connection<P> {
                 Closing::AtOnce,
             CloseReason::AnswerCloses => self.closing_behind_answer(),
             CloseReason::GivenUp => Closing::InStages,
+        }
+    }
+
+    /// Returns how the connection is closed when the loop ends.
+    pub fn last_closing(&self) -> Closing
+        ensures { result ≡ last_closing self.now }
+    {
+        if self.is_writing() {
+            Closing::AtOnce
+        } else {
+            Closing::InStages
         }
     }
 

@@ -1,6 +1,6 @@
 //! Nonblocking streams.
 
-ghost use Rattle.std.specs.Prelude.{◌<◌, length, IsTrue};
+ghost use Rattle.std.specs.Prelude.{◌<◌, length};
 ghost use Rattle.sv_connection.specs.Ways.{TellsWait, TriesRead, TriesWrite, Ways};
 
 /// The result of a nonblocking call.
@@ -35,5 +35,5 @@ pub trait Peer {
 
     /// Asks for readiness to be reported again, also if the stream was ready before. Returns whether this succeeded.
     fn arm(&mut self) -> bool
-        ensures { IsTrue result → ways.arms self.old self.new };
+        ensures { ways.arms self.old self.new };
 }

@@ -1,6 +1,8 @@
 //! Readiness, new connections and time.
 
+ghost use Rattle.std.specs.Prelude.{◌≡◌};
 ghost use Rattle.sv_connection.specs.Asking.{EditsOnce};
+ghost use Rattle.sv_connection.specs.Polling.{Accept, Answer, Close, Polling, Wait};
 
 use crate::close_reason::Closing;
 use crate::peer::Peer;
@@ -31,15 +33,21 @@ pub trait Poller {
     /// The stream of a connection.
     type Peer: Peer + Drop;
 
+    /// The model of its calls. By default a call may do anything.
+    ghost polls: { Polling Self Self.Peer } = { λ _ _ _. Unit {0} };
+
     /// Waits for the next event.
-    fn wait(&mut self) -> PollEvent;
+    fn wait(&mut self) -> PollEvent
+        ensures { polls self.old (Wait result) self.new };
 
     /// Accepts a connection under this number, if one waits. Its stream is armed: readiness is reported, also if it was
     /// ready before.
-    fn accept(&mut self, number: u64) -> Option<Self::Peer>;
+    fn accept(&mut self, number: u64) -> Option<Self::Peer>
+        ensures { polls self.old (Accept number result) self.new };
 
     /// Takes the stream of a connection that has ended, and closes it in this way.
-    fn close(&mut self, number: u64, peer: Self::Peer, closing: Closing);
+    fn close(&mut self, number: u64, peer: Self::Peer, closing: Closing)
+        ensures { polls self.old (Close number peer closing) self.new };
 
     /// Answers the query that was reported, by the figures and by the handler. For an edit of the constraints of a
     /// context, the handler takes one event. It takes no other.
@@ -51,11 +59,13 @@ pub trait Poller {
         figures: Figures,
         handler: &mut R,
     ) -> Result<(), StepFault>
-        ensures { EditsOnce R.steps handler.old result handler.new };
+        ensures edits { EditsOnce R.steps handler.old result handler.new }
+        ensures answers { polls self.old (Answer figures) self.new };
 
     /// Answers the query that was reported, by the figures only, once the handler takes no more events.
-    fn answer_status(&mut self, figures: Figures);
+    fn answer_status(&mut self, figures: Figures)
+        ensures { polls self.old (Answer figures) self.new };
 
     /// Returns the time in seconds since any fixed point. It should never go back.
-    fn seconds(&mut self) -> u64;
+    fn seconds(&self) -> u64;
 }

@@ -60,6 +60,6 @@ pub struct Figures {
     /// The number of bytes that all of them hold: bytes of messages without a response, and bytes that wait to be
     /// written.
     pub held: u64,
-    /// The number of connections opened since the start, including those that have ended.
+    /// The number of connections accepted since the start, including those that have ended.
     pub opened: u64,
 }

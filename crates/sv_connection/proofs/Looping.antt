@@ -1,0 +1,163 @@
+-- One step of the event loop after another.
+use Rattle.std.proofs.Common.{◌≡◌, ◌≢◌, ◌⊎◌, ℕ, ◌+◌, ◌<◌, Bool, true, false, cond, nat_eq, eqb-true, inl, inr, List, [], ◌∷◌, ◌++◌, None, Some, Result, Ok, Err, refl, sym, ap, ◌∙◌, subst, flat_map, map, append-nil, arith}
+use Rattle.std.proofs.lemmas.Bool.{cond-true, cond-false}
+use Rattle.std.specs.List.{AllByRecursion}
+use Rattle.std.specs.Prelude.{IsErrAnd}
+use Rattle.sv_connection.specs.Course.{Along}
+use Rattle.sv_connection.specs.Known.{AreAtRest, place_in}
+use Rattle.sv_connection.specs.Loops.{Goes, Refuses}
+use Rattle.sv_connection.specs.Notes.{NoneWaits, Note, Of, Went, action_in, actions_of, poll_in, poll_of, poller_calls}
+use Rattle.sv_connection.specs.Polling.{AreCalled, Close, PollerCall, Polling}
+use Rattle.sv_connection.specs.Rounds.{IsOfConnection, IsOfConnections, Moves}
+use Rattle.sv_connection.specs.Slots.{Accepted, Accepts, Action, Arms, Blocks, Closes, Ends, Hands, Leads, Open, Opens, Over, Reads, Slot, TurnsAway, Unused, Writes}
+use Rattle.sv_connection.specs.States.{ConnectionState}
+use Rattle.sv_connection.specs.Ways.{Ways}
+use Rattle.sv_connection.specs.declared.event_loop.EventLoop.{EventLoop}
+use Rattle.sv_run.specs.Events.{Happening}
+use Rattle.sv_run.specs.Reacting.{Reacting}
+use Rattle.sv_run.specs.declared.step_fault.StepFault.{StepFault}
+use Rattle.sv_run.specs.declared.step_fault.StepFault.TheVariants.{NoMemory}
+use Rattle.sv_connection.proofs.AloneLemmas.{all_join}
+use Rattle.sv_connection.proofs.Joining.{goes_join}
+use Rattle.sv_connection.proofs.LawLemmas.{no_unused, over_stays}
+use Rattle.sv_connection.proofs.Placing.{other_number, same_number}
+use Rattle.sv_wire.specs.declared.inbox.Awaited.{Awaited}
+
+-- A result that `?` returns.
+pub refused_as : {A : Type 0} (fault : StepFault) (result : Result A StepFault) → IsErrAnd result (λ e. e ≡ fault) → result ≡ Err fault
+refused_as fault (Ok done) is = absurd is
+refused_as fault (Err e) is = ap Err is
+
+module _ {S : Type 0} where
+  actions_same : (number : ℕ) (actions : List (Action S)) → actions_of number (map (Of number) actions) ≡ actions
+  actions_same number [] = refl
+  actions_same number (action ∷ actions) =
+      ap (λ first. first ++ actions_of number (map (Of number) actions)) (cond-true (nat_eq number number) (action ∷ []) [] (same_number number))
+      ∙ ap (λ rest. action ∷ rest) (actions_same number actions)
+
+  actions_other : (number other : ℕ) (actions : List (Action S)) → other ≢ number → actions_of other (map (Of number) actions) ≡ []
+  actions_other number other [] apart = refl
+  actions_other number other (action ∷ actions) apart =
+      ap (λ first. first ++ actions_of other (map (Of number) actions)) (cond-false (nat_eq other number) (action ∷ []) [] (other_number number other apart))
+      ∙ actions_other number other actions apart
+
+  calls_same : (number : ℕ) (actions : List (Action S)) → poller_calls (map (Of number) actions) ≡ flat_map (poll_of number) actions
+  calls_same number [] = refl
+  calls_same number (action ∷ actions) = ap (λ rest. poll_of number action ++ rest) (calls_same number actions)
+
+module _ {S : Type 0} (ways : Ways S) where
+  pub not_accepted : (b : ConnectionState S) (action : Action S) (s : S) → Leads ways (Open b) action (Accepted s) → ⊥
+  not_accepted b (Accepts stream) s leads = absurd leads
+  not_accepted b action s leads = absurd leads
+
+  not_over : (actions : List (Action S)) (b : ConnectionState S) → Along ways Over actions (Open b) → ⊥
+  not_over actions b later = let no : Open b ≡ Over = (over_stays ways actions (Open b) later).1 in absurd (cc)
+
+  step_silent : (number : ℕ) (action : Action S) (at b : ConnectionState S) (rest : List (PollerCall S)) → Leads ways (Open at) action (Open b) → rest ≡ []
+      → poll_of number action ++ rest ≡ []
+  step_silent number (Reads bytes) at b rest leads is = is
+  step_silent number (Hands bytes moment reaction awaited) at b rest leads is = is
+  step_silent number (Writes bytes) at b rest leads is = is
+  step_silent number Blocks at b rest leads is = is
+  step_silent number Arms at b rest leads is = is
+  step_silent number action at b rest leads is = absurd leads
+
+  -- While a connection stays open, nothing is asked of the poller for it.
+  pub open_silent : (number : ℕ) (actions : List (Action S)) (at b : ConnectionState S) → Along ways (Open at) actions (Open b) → flat_map (poll_of number) actions ≡ []
+  open_silent number [] at b is = refl
+  open_silent number (action ∷ actions) at b (Open c, leads, later) =
+      step_silent number action at c (flat_map (poll_of number) actions) leads (open_silent number actions c b later)
+  open_silent number (action ∷ actions) at b (Unused, leads, later) = absurd (no_unused ways (Open at) action leads)
+  open_silent number (action ∷ actions) at b (Accepted s, leads, later) = absurd (not_accepted at action s leads)
+  open_silent number (action ∷ actions) at b (Over, leads, later) = absurd (not_over actions b later)
+
+  step_of : (number : ℕ) (action : Action S) (at b : ConnectionState S) → Leads ways (Open at) action (Open b) → IsOfConnections (Of number action)
+  step_of number (Reads bytes) at b leads = tt
+  step_of number (Hands bytes moment reaction awaited) at b leads = tt
+  step_of number (Writes bytes) at b leads = tt
+  step_of number Blocks at b leads = tt
+  step_of number Arms at b leads = tt
+  step_of number action at b leads = absurd leads
+
+  pub open_notes : (number : ℕ) (actions : List (Action S)) (at b : ConnectionState S) → Along ways (Open at) actions (Open b)
+      → AllByRecursion IsOfConnections (map (Of number) actions)
+  open_notes number [] at b is = tt
+  open_notes number (action ∷ actions) at b (Open c, leads, later) = (step_of number action at c leads, open_notes number actions c b later)
+  open_notes number (action ∷ actions) at b (Unused, leads, later) = absurd (no_unused ways (Open at) action leads)
+  open_notes number (action ∷ actions) at b (Accepted s, leads, later) = absurd (not_accepted at action s leads)
+  open_notes number (action ∷ actions) at b (Over, leads, later) = absurd (not_over actions b later)
+
+module _ {R N C S : Type 0} (ways : Ways S) (steps : Reacting R) (awaits : R → ℕ → Awaited) (tells : C → ℕ → C → Type 0) (polls : Polling N S) where
+  pub goes_none : (loop : EventLoop R N C S) → Goes ways steps awaits tells polls loop [] loop
+  goes_none loop = record { went = record { takes = refl; told = refl }; polled = refl; courses = λ number. refl }
+
+  -- Actions of only one number.
+  pub goes_by : (number : ℕ) (before after : EventLoop R N C S) (actions : List (Action S))
+      → Went steps awaits tells before.handler before.clock (map (Of number) actions) after.handler after.clock
+      → Along ways (place_in before.table number) actions (place_in after.table number)
+      → AreCalled polls before.poller (flat_map (poll_of number) actions) after.poller
+      → ((other : ℕ) → other ≢ number → place_in after.table other ≡ place_in before.table other)
+      → Goes ways steps awaits tells polls before (map (Of number) actions) after
+  goes_by number before after actions went along called others =
+      let A : List (PollerCall S) → Type 0 = λ calls. AreCalled polls before.poller calls after.poller in
+      record { went = went; polled = subst A (sym (calls_same number actions)) called; courses = λ other. by other (nat_eq other number) refl }
+    where
+      differ : (other : ℕ) → nat_eq other number ≡ false → other ≡ number → ⊥
+      differ other is same = let P : ℕ → Type 0 = λ n. nat_eq n number ≡ false in absurd (cc (subst P same is, same_number number))
+
+      by : (other : ℕ) (b : Bool) → nat_eq other number ≡ b → Along ways (place_in before.table other) (actions_of other (map (Of number) actions)) (place_in after.table other)
+      by other true is =
+          let same : other ≡ number = eqb-true other number is in
+          let P : ℕ → Type 0 = λ n. Along ways (place_in before.table n) (actions_of n (map (Of number) actions)) (place_in after.table n) in
+          let Q : List (Action S) → Type 0 = λ ds. Along ways (place_in before.table number) ds (place_in after.table number) in
+          subst P (sym same) (subst Q (sym (actions_same number actions)) along)
+      by other false is =
+          let apart : other ≢ number = λ same. differ other is same in
+          let Q : List (Action S) → Type 0 = λ ds. Along ways (place_in before.table other) ds (place_in after.table other) in
+          subst Q (sym (actions_other number other actions apart)) (others other apart)
+
+  pub moves_none : {A : Type 0} (done : A) (loop : EventLoop R N C S) → Moves ways steps awaits tells polls loop (Ok done) loop
+  moves_none done loop = ([], tt, goes_none loop, λ rest. rest)
+
+  pub moves_same : {A : Type 0} (done : A) (loop after : EventLoop R N C S) → after ≡ loop → Moves ways steps awaits tells polls loop (Ok done) after
+  moves_same done loop after same =
+      let P : EventLoop R N C S → Type 0 = λ l. Moves ways steps awaits tells polls loop (Ok done) l in
+      subst P (sym same) (moves_none done loop)
+
+  pub moves_join : {A B : Type 0} (done : A) (before between after : EventLoop R N C S) → Moves ways steps awaits tells polls before (Ok done) between
+      → (result : Result B StepFault) → Moves ways steps awaits tells polls between result after → Moves ways steps awaits tells polls before result after
+  moves_join done before between after (notes, of, goes, rests) (Ok last) (more, of_more, goes_on, rests_on) = (
+    notes ++ more,
+    all_join IsOfConnections notes more of of_more,
+    goes_join ways steps awaits tells polls before between after notes more goes goes_on,
+    λ at_rest. rests_on (rests at_rest),
+  )
+  moves_join done before between after (notes, of, goes, rests) (Err fault) (more, middle, of_more, goes_on, fails) = (
+    notes ++ more,
+    middle,
+    all_join IsOfConnections notes more of of_more,
+    goes_join ways steps awaits tells polls before between middle notes more goes goes_on,
+    fails,
+  )
+
+  -- The fault of moves, as `?` returns it.
+  pub moves_as : {B D : Type 0} (before after : EventLoop R N C S) (other : Result D StepFault) (fault : StepFault) → other ≡ Err fault
+      → (result : Result B StepFault) → IsErrAnd result (λ e. e ≡ fault)
+      → Moves ways steps awaits tells polls before other after → Moves ways steps awaits tells polls before result after
+  moves_as {B = B} {D = D} before after other fault is result same moves =
+      let P : Result B StepFault → Type 0 = λ r. Moves ways steps awaits tells polls before r after in
+      let Q : Result D StepFault → Type 0 = λ r. Moves ways steps awaits tells polls before r after in
+      let failed : Moves ways steps awaits tells polls {A = B} before (Err fault) after = subst Q is moves in
+      subst P (sym (refused_as fault result same)) failed
+
+  -- The fault of later moves, as `?` returns it.
+  pub moves_broken : {A B D : Type 0} (done : A) (before between after : EventLoop R N C S) → Moves ways steps awaits tells polls before (Ok done) between
+      → (other : Result D StepFault) (fault : StepFault) → other ≡ Err fault → (result : Result B StepFault) → IsErrAnd result (λ e. e ≡ fault)
+      → Moves ways steps awaits tells polls between other after → Moves ways steps awaits tells polls before result after
+  moves_broken {B = B} done before between after first other fault is result same later =
+      moves_join {B = B} done before between after first result (moves_as between after other fault is result same later)
+
+  -- Memory ran out after moves.
+  pub starved : {A : Type 0} (B : Type 0) (done : A) (before after : EventLoop R N C S) → Moves ways steps awaits tells polls before (Ok done) after
+      → Moves ways steps awaits tells polls {A = B} before (Err NoMemory) after
+  starved B done before after (notes, of, goes, rests) = (notes, after, of, goes, inl (refl, refl))

@@ -1,0 +1,156 @@
+-- What is done for an event of the poller.
+use Rattle.std.proofs.Common.{◌≡◌, ◌⊎◌, ℕ, inl, inr, List, [], ◌∷◌, ◌++◌, Result, Ok, Err, refl, sym, ap, ◌∙◌, subst}
+use Rattle.std.specs.List.{AllByRecursion}
+use Rattle.std.specs.Prelude.{IsErrAnd}
+use Rattle.sv_connection.specs.Asking.{EditsOnce}
+use Rattle.sv_connection.specs.Figures.{figures_of}
+use Rattle.sv_connection.specs.Known.{AreAtRest, place_in}
+use Rattle.sv_connection.specs.Loops.{Goes, Refuses}
+use Rattle.sv_connection.specs.Notes.{Answers, Edits, Note, Ticks}
+use Rattle.sv_connection.specs.Polling.{Answer, Polling}
+use Rattle.sv_connection.specs.Rounds.{AsksOnce, FailsIn, IsOfConnection, IsOfConnections, IsRound, MayBeRefused, Moves, TakesEvent, TicksOnce}
+use Rattle.sv_connection.specs.Ways.{Ways}
+use Rattle.sv_connection.specs.declared.event_loop.EventLoop.{EventLoop}
+use Rattle.sv_connection.specs.declared.poller.PollEvent.{PollEvent}
+use Rattle.sv_connection.specs.declared.poller.PollEvent.TheVariants.{Asked, Crowded, Incoming, Ready, Second, Stop}
+use Rattle.sv_policy.specs.declared.edit.Edit.{Edit}
+use Rattle.sv_run.specs.Events.{Edited, Ended, Happening, Lost, Opened, Piece, Tick}
+use Rattle.sv_run.specs.Reacting.{Reacting}
+use Rattle.sv_run.specs.declared.happening.Reaction.{Reaction}
+use Rattle.sv_run.specs.declared.step_fault.StepFault.{StepFault}
+use Rattle.sv_connection.proofs.Joining.{goes_join}
+use Rattle.sv_connection.proofs.Looping.{goes_none, refused_as}
+use Rattle.sv_wire.specs.declared.inbox.Awaited.{Awaited}
+
+-- An event for which only connections are served.
+abbrev pub IsPlain : PollEvent → Type 0
+IsPlain (Ready number) = Unit {0}
+IsPlain Incoming = Unit {0}
+IsPlain Crowded = Unit {0}
+IsPlain Second = ⊥
+IsPlain Asked = ⊥
+IsPlain Stop = ⊥
+
+module _ {R N C S : Type 0} (ways : Ways S) (steps : Reacting R) (awaits : R → ℕ → Awaited) (tells : C → ℕ → C → Type 0) (polls : Polling N S) where
+  taken_of : (event : PollEvent) → IsPlain event → (before after : EventLoop R N C S) (result : Result (Unit {0}) StepFault)
+      → Moves ways steps awaits tells polls before result after → TakesEvent ways steps awaits tells polls event before result after
+  taken_of (Ready number) plain before after (Ok done) (notes, of, goes, rests) = (notes, of, goes, rests)
+  taken_of (Ready number) plain before after (Err fault) (notes, middle, of, goes, inl (is, same)) = (notes, middle, goes, inl (is, same, of))
+  taken_of (Ready number) plain before after (Err fault) (notes, middle, of, goes, inr (happening, its, refuses)) =
+      (notes, middle, goes, inr (happening, (of, its), refuses))
+  taken_of Incoming plain before after (Ok done) (notes, of, goes, rests) = (notes, of, goes, rests)
+  taken_of Incoming plain before after (Err fault) (notes, middle, of, goes, inl (is, same)) = (notes, middle, goes, inl (is, same, of))
+  taken_of Incoming plain before after (Err fault) (notes, middle, of, goes, inr (happening, its, refuses)) =
+      (notes, middle, goes, inr (happening, (of, its), refuses))
+  taken_of Crowded plain before after (Ok done) (notes, of, goes, rests) = (notes, of, goes, rests)
+  taken_of Crowded plain before after (Err fault) (notes, middle, of, goes, inl (is, same)) = (notes, middle, goes, inl (is, same, of))
+  taken_of Crowded plain before after (Err fault) (notes, middle, of, goes, inr (happening, its, refuses)) =
+      (notes, middle, goes, inr (happening, (of, its), refuses))
+  taken_of Second plain before after result moves = absurd plain
+  taken_of Asked plain before after result moves = absurd plain
+  taken_of Stop plain before after result moves = absurd plain
+
+  pub taken_as : (told event : PollEvent) → told ≡ event → IsPlain event → (before after : EventLoop R N C S) (result : Result (Unit {0}) StepFault)
+      → Moves ways steps awaits tells polls before result after → TakesEvent ways steps awaits tells polls told before result after
+  taken_as told event is plain before after result moves =
+      let P : PollEvent → Type 0 = λ e. TakesEvent ways steps awaits tells polls e before result after in
+      subst P (sym is) (taken_of event plain before after result moves)
+
+  -- A query: it is answered, and brings at most an edit.
+  asked_goes : (before : EventLoop R N C S) (handler : R) (poller : N) (path : List ℕ) (edit : Edit) (reaction : Reaction) → polls before.poller (Answer (figures_of before.table)) poller
+      → steps before.handler (Edited path edit) (Ok reaction) handler
+      → Goes ways steps awaits tells polls before (Answers (figures_of before.table) ∷ Edits path edit reaction ∷ []) (record before { handler = handler; poller = poller })
+  asked_goes before handler poller path edit reaction call step = record {
+    went = record { takes = (before.handler, refl, (handler, step, refl)); told = refl };
+    polled = (poller, call, refl);
+    courses = λ number. refl;
+  }
+
+  answered_goes : (before : EventLoop R N C S) (handler : R) (poller : N) → handler ≡ before.handler → polls before.poller (Answer (figures_of before.table)) poller
+      → Goes ways steps awaits tells polls before (Answers (figures_of before.table) ∷ []) (record before { handler = handler; poller = poller })
+  answered_goes before handler poller same call = record {
+    went = record { takes = (before.handler, refl, same); told = refl };
+    polled = (poller, call, refl);
+    courses = λ number. refl;
+  }
+
+  asked_now : (before : EventLoop R N C S) (handler : R) (poller : N) (result : Result (Unit {0}) StepFault) → EditsOnce steps before.handler result handler
+      → polls before.poller (Answer (figures_of before.table)) poller
+      → TakesEvent ways steps awaits tells polls Asked before result (record before { handler = handler; poller = poller })
+  asked_now before handler poller (Ok done) (inl same) call =
+      (Answers (figures_of before.table) ∷ [], inl refl, answered_goes before handler poller same call, λ rest. rest)
+  asked_now before handler poller (Ok done) (inr (path, edit, reaction, step)) call = (
+    Answers (figures_of before.table) ∷ Edits path edit reaction ∷ [],
+    inr (path, edit, reaction, refl),
+    asked_goes before handler poller path edit reaction call step,
+    λ rest. rest,
+  )
+  asked_now before handler poller (Err fault) (path, edit, step) call = (
+    Answers (figures_of before.table) ∷ [],
+    record before { poller = poller },
+    answered_goes before before.handler poller refl call,
+    inr (Edited path edit, refl, (step, (refl, refl, refl))),
+  )
+
+  pub asked_as : (told : PollEvent) → told ≡ Asked → (before after : EventLoop R N C S) (result : Result (Unit {0}) StepFault)
+      → AsksOnce steps polls before result after → TakesEvent ways steps awaits tells polls told before result after
+  asked_as told is before after result (edits, call, same) =
+      let P : PollEvent → Type 0 = λ e. TakesEvent ways steps awaits tells polls e before result after in
+      let Q : EventLoop R N C S → Type 0 = λ l. TakesEvent ways steps awaits tells polls Asked before result l in
+      subst P (sym is) (subst Q (sym same) (asked_now before after.handler after.poller result edits call))
+
+  -- A second: a tick, and then what is done of connections.
+  tick_goes : (before : EventLoop R N C S) (handler : R) (clock : C) (moment : ℕ) (reaction : Reaction) → tells before.clock moment clock
+      → steps before.handler (Tick moment) (Ok reaction) handler
+      → Goes ways steps awaits tells polls before (Ticks moment reaction ∷ []) (record before { handler = handler; clock = clock })
+  tick_goes before handler clock moment reaction told step =
+      record { went = record { takes = (handler, step, refl); told = (clock, told, refl) }; polled = refl; courses = λ number. refl }
+
+  may_be_refused : (before : EventLoop R N C S) (moment : ℕ) (reaction : Reaction) (more : List (Note S)) → AllByRecursion IsOfConnections more
+      → (happening : Happening) → IsOfConnection happening → MayBeRefused Second before.table (Ticks moment reaction ∷ more) happening
+  may_be_refused before moment reaction more of (Opened number) its = ((moment, reaction, more, refl, of), tt)
+  may_be_refused before moment reaction more of (Piece number bytes time) its = ((moment, reaction, more, refl, of), tt)
+  may_be_refused before moment reaction more of (Ended number) its = ((moment, reaction, more, refl, of), tt)
+  may_be_refused before moment reaction more of (Lost number) its = ((moment, reaction, more, refl, of), tt)
+  may_be_refused before moment reaction more of (Tick time) its = absurd its
+  may_be_refused before moment reaction more of (Edited path edit) its = absurd its
+
+  second_now : (before after : EventLoop R N C S) (handler : R) (clock : C) (moment : ℕ) (reaction : Reaction) → tells before.clock moment clock
+      → steps before.handler (Tick moment) (Ok reaction) handler → (result : Result (Unit {0}) StepFault)
+      → Moves ways steps awaits tells polls (record before { handler = handler; clock = clock }) result after
+      → TakesEvent ways steps awaits tells polls Second before result after
+  second_now before after handler clock moment reaction told step (Ok done) (notes, of, goes, rests) = (
+    Ticks moment reaction ∷ notes,
+    (moment, reaction, notes, refl, of),
+    goes_join ways steps awaits tells polls before (record before { handler = handler; clock = clock }) after (Ticks moment reaction ∷ []) notes
+        (tick_goes before handler clock moment reaction told step) goes,
+    rests,
+  )
+  second_now before after handler clock moment reaction told step (Err fault) (notes, middle, of, goes, inl (is, same)) = (
+    Ticks moment reaction ∷ notes,
+    middle,
+    goes_join ways steps awaits tells polls before (record before { handler = handler; clock = clock }) middle (Ticks moment reaction ∷ []) notes
+        (tick_goes before handler clock moment reaction told step) goes,
+    inl (is, same, (moment, reaction, notes, refl, of)),
+  )
+  second_now before after handler clock moment reaction told step (Err fault) (notes, middle, of, goes, inr (happening, its, refuses)) = (
+    Ticks moment reaction ∷ notes,
+    middle,
+    goes_join ways steps awaits tells polls before (record before { handler = handler; clock = clock }) middle (Ticks moment reaction ∷ []) notes
+        (tick_goes before handler clock moment reaction told step) goes,
+    inr (happening, may_be_refused before moment reaction notes of happening its, refuses),
+  )
+
+  pub second_passed : (before ticked after : EventLoop R N C S) (done : Unit {0}) → TicksOnce steps tells before (Ok done) ticked → (result : Result (Unit {0}) StepFault)
+      → Moves ways steps awaits tells polls ticked result after → TakesEvent ways steps awaits tells polls Second before result after
+  second_passed before ticked after done (moment, reaction, told, step, same) result moves =
+      let P : EventLoop R N C S → Type 0 = λ l. Moves ways steps awaits tells polls l result after in
+      second_now before after ticked.handler ticked.clock moment reaction told step result (subst P same moves)
+
+  pub tick_refused : (before after : EventLoop R N C S) (fault : StepFault) → TicksOnce steps tells before (Err fault) after
+      → (result : Result (Unit {0}) StepFault) → IsErrAnd result (λ e. e ≡ fault) → TakesEvent ways steps awaits tells polls Second before result after
+  tick_refused before after fault (moment, told, step, same) result refused =
+      let P : EventLoop R N C S → Type 0 = λ l. TakesEvent ways steps awaits tells polls Second before (Err fault) l in
+      let Q : Result (Unit {0}) StepFault → Type 0 = λ r. TakesEvent ways steps awaits tells polls Second before r after in
+      subst Q (sym (refused_as fault result refused))
+      (subst P (sym same) ([], before, goes_none ways steps awaits tells polls before, inr (Tick moment, refl, (step, (told, refl, refl)))))

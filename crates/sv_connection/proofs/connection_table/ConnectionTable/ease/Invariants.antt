@@ -1,7 +1,0 @@
-use Rattle.std.proofs.Common.{Ok}
-use Rattle.sv_connection.specs.Fronts.{Moves}
-use Rattle.sv_connection.proofs.connection_table.ConnectionTable.ease.Given as goal
-
-abbrev pub invariant-loop : goal.invariant-loop
-invariant-loop g l =
-    Moves g.P.Peer.ways g.R.EventHandler.steps g.R.EventHandler.awaited g.C.Clock.tells {A = Unit {0}} l.fn.handler l.fn.clock l.fn.self (Ok tt) l.handler l.clock l.self

@@ -1,0 +1,127 @@
+-- The rounds of the event loop: an event of the poller, and what is done for it.
+use Rattle.std.specs.Prelude.{◌≡◌, ◌⊎◌, ℕ, ◌-◌, ◌^◌, List, [], ◌∷◌, length, Result, Ok, Err}
+use Rattle.std.specs.List.{AllByRecursion}
+use Rattle.sv_connection.specs.Asking.{EditsOnce}
+use Rattle.sv_connection.specs.Figures.{figures_of}
+use Rattle.sv_connection.specs.Known.{AreAtRest, Known, place_in}
+use Rattle.sv_connection.specs.Loops.{Goes, Refuses}
+use Rattle.sv_connection.specs.Notes.{Answers, Edits, NoneWaits, Note, Of, Reports, Ticks}
+use Rattle.sv_connection.specs.Polling.{Answer, Polling}
+use Rattle.sv_connection.specs.Slots.{Action, Closes}
+use Rattle.sv_connection.specs.Ways.{Ways}
+use Rattle.sv_connection.specs.declared.event_loop.EventLoop.{EventLoop}
+use Rattle.sv_connection.specs.declared.poller.PollEvent.{PollEvent}
+use Rattle.sv_connection.specs.declared.poller.PollEvent.TheVariants.{Asked, Crowded, Incoming, Ready, Second, Stop}
+use Rattle.sv_policy.specs.declared.edit.Edit.{Edit}
+use Rattle.sv_run.specs.Events.{Edited, Happening, Tick}
+use Rattle.sv_run.specs.Reacting.{Reacting}
+use Rattle.sv_run.specs.declared.happening.Reaction.{Reaction}
+use Rattle.sv_run.specs.declared.step_fault.StepFault.{StepFault}
+use Rattle.sv_run.specs.declared.step_fault.StepFault.TheVariants.{NoMemory}
+use Rattle.sv_wire.specs.declared.inbox.Awaited.{Awaited}
+
+-- What is done of connections. None is closed without its event.
+abbrev pub IsOfConnections : {S : Type 0} → Note S → Type 0
+IsOfConnections (Of number (Closes stream closing)) = ⊥
+IsOfConnections (Of number action) = Unit {0}
+IsOfConnections (NoneWaits number) = Unit {0}
+IsOfConnections other = ⊥
+
+-- An event of a connection.
+abbrev pub IsOfConnection : Happening → Type 0
+IsOfConnection (Tick moment) = ⊥
+IsOfConnection (Edited path edit) = ⊥
+IsOfConnection other = Unit {0}
+
+-- A round: the event that the poller reports, and what is done for it.
+pub record Round (S : Type 0) : Type 0 where
+  pub event : PollEvent
+  pub notes : List (Note S)
+
+module _ {S : Type 0} where
+  -- A query is answered by the figures, and brings at most an edit.
+  abbrev pub IsQuery : Known S → List (Note S) → Type 0
+  IsQuery known notes =
+      (notes ≡ Answers (figures_of known) ∷ [])
+      ⊎ ((path : List ℕ) × (edit : Edit) × (reaction : Reaction) × (notes ≡ Answers (figures_of known) ∷ Edits path edit reaction ∷ []))
+
+  -- What is done for an event of the poller: an edit only for a query, a tick only for a second that has passed, and
+  -- nothing after a stop.
+  abbrev pub IsRound : PollEvent → Known S → List (Note S) → Type 0
+  IsRound (Ready number) known notes = AllByRecursion IsOfConnections notes
+  IsRound Incoming known notes = AllByRecursion IsOfConnections notes
+  IsRound Crowded known notes = AllByRecursion IsOfConnections notes
+  IsRound Second known notes =
+      (moment : ℕ) × (reaction : Reaction) × (more : List (Note S)) × (notes ≡ Ticks moment reaction ∷ more) × AllByRecursion IsOfConnections more
+  IsRound Asked known notes = IsQuery known notes
+  IsRound Stop known notes = ⊥
+
+  -- Which event may be refused after these notes.
+  abbrev pub MayBeRefused : PollEvent → Known S → List (Note S) → Happening → Type 0
+  MayBeRefused Second known notes (Tick moment) = notes ≡ []
+  MayBeRefused Asked known notes (Edited path edit) = notes ≡ Answers (figures_of known) ∷ []
+  MayBeRefused Asked known notes other = ⊥
+  MayBeRefused event known notes happening = IsRound event known notes × IsOfConnection happening
+
+module _ {R N C S : Type 0} (ways : Ways S) (steps : Reacting R) (awaits : R → ℕ → Awaited) (tells : C → ℕ → C → Type 0) (polls : Polling N S) where
+  -- Notes of connections lead from the loop before to the loop after, whose connections are at rest if they were
+  -- before. On a fault, they lead to the event that was refused, or until memory ran out.
+  abbrev pub Moves : {A : Type 0} → EventLoop R N C S → Result A StepFault → EventLoop R N C S → Type 0
+  Moves before (Ok done) after =
+      (notes : List (Note S)) × AllByRecursion IsOfConnections notes × Goes ways steps awaits tells polls before notes after
+      × (AreAtRest (place_in before.table) → AreAtRest (place_in after.table))
+  Moves before (Err fault) after =
+      (notes : List (Note S)) × (middle : EventLoop R N C S) × AllByRecursion IsOfConnections notes × Goes ways steps awaits tells polls before notes middle
+      × (((fault ≡ NoMemory) × (after ≡ middle))
+      ⊎ ((happening : Happening) × IsOfConnection happening × Refuses ways steps awaits tells polls middle happening fault after))
+
+  -- A round ends with a fault: after these notes an event was refused, or memory ran out.
+  abbrev pub FailsIn : PollEvent → Known S → List (Note S) → StepFault → EventLoop R N C S → EventLoop R N C S → Type 0
+  FailsIn event known notes fault middle after =
+      ((fault ≡ NoMemory) × (after ≡ middle) × IsRound event known notes)
+      ⊎ ((happening : Happening) × MayBeRefused event known notes happening × Refuses ways steps awaits tells polls middle happening fault after)
+
+  -- What is done for an event of the poller.
+  abbrev pub TakesEvent : PollEvent → EventLoop R N C S → Result (Unit {0}) StepFault → EventLoop R N C S → Type 0
+  TakesEvent event before (Ok done) after =
+      (notes : List (Note S)) × IsRound event before.table notes × Goes ways steps awaits tells polls before notes after
+      × (AreAtRest (place_in before.table) → AreAtRest (place_in after.table))
+  TakesEvent event before (Err fault) after =
+      (notes : List (Note S)) × (middle : EventLoop R N C S) × Goes ways steps awaits tells polls before notes middle
+      × FailsIn event before.table notes fault middle after
+
+  abbrev pub PassesSecond : EventLoop R N C S → Result (Unit {0}) StepFault → EventLoop R N C S → Type 0
+  PassesSecond before result after = TakesEvent Second before result after
+
+  -- Rounds that each leave all connections at rest.
+  abbrev pub Rounds : EventLoop R N C S → List (Round S) → EventLoop R N C S → Type 0
+  Rounds before [] after = after ≡ before
+  Rounds before (round ∷ rounds) after =
+      (between : EventLoop R N C S) × IsRound round.event before.table round.notes
+      × Goes ways steps awaits tells polls before (Reports round.event ∷ round.notes) between × AreAtRest (place_in between.table)
+      × Rounds between rounds after
+
+  -- Rounds until the poller reports a stop, or 2^64 - 1 of them; or until an event is refused or memory runs out.
+  abbrev pub ServesAll : EventLoop R N C S → Result (Unit {0}) StepFault → EventLoop R N C S → Type 0
+  ServesAll before (Ok done) after =
+      (rounds : List (Round S)) × (between : EventLoop R N C S) × Rounds before rounds between
+      × (Goes ways steps awaits tells polls between (Reports Stop ∷ []) after ⊎ ((length rounds ≡ 2 ^ 64 - 1) × (after ≡ between)))
+  ServesAll before (Err fault) after =
+      (rounds : List (Round S)) × (between : EventLoop R N C S) × Rounds before rounds between
+      × (event : PollEvent) × (notes : List (Note S)) × (middle : EventLoop R N C S)
+      × Goes ways steps awaits tells polls between (Reports event ∷ notes) middle × FailsIn event between.table notes fault middle after
+
+-- A tick: the clock gives its time, and the handler takes or refuses it.
+abbrev pub TicksOnce : {R N C S : Type 0} → Reacting R → (C → ℕ → C → Type 0) → EventLoop R N C S → Result (Unit {0}) StepFault → EventLoop R N C S → Type 0
+TicksOnce steps tells before (Ok done) after =
+    (moment : ℕ) × (reaction : Reaction) × tells before.clock moment after.clock × steps before.handler (Tick moment) (Ok reaction) after.handler
+    × (after ≡ record before { handler = after.handler; clock = after.clock })
+TicksOnce steps tells before (Err fault) after =
+    (moment : ℕ) × tells before.clock moment after.clock × steps before.handler (Tick moment) (Err fault) after.handler
+    × (after ≡ record before { handler = after.handler; clock = after.clock })
+
+-- A query: the poller answers it by the figures, and the handler takes at most an edit.
+abbrev pub AsksOnce : {R N C S : Type 0} → Reacting R → Polling N S → EventLoop R N C S → Result (Unit {0}) StepFault → EventLoop R N C S → Type 0
+AsksOnce steps polls before result after =
+    EditsOnce steps before.handler result after.handler × polls before.poller (Answer (figures_of before.table)) after.poller
+    × (after ≡ record before { handler = after.handler; poller = after.poller })
