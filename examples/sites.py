@@ -4,6 +4,7 @@ import contextlib
 import http.client
 import os
 import re
+import shutil
 import signal
 import socket
 import ssl
@@ -26,7 +27,7 @@ LOGIN_PAGE, SECRET = "login\n", "secret\n"
 UNAVAILABLE, TOO_MANY = 503, 429
 # How many sessions a context holds with a descriptor of version 1: MAX_SESSIONS_OF_VERSION_1 of sv_descriptor.
 MOST_SESSIONS = 1_000
-# What the configurations of HAProxy let an address take within a minute; that of nginx lets it take less at once.
+# How many sessions HAProxy's configurations give an address within a minute. nginx's lets it send as many requests at once.
 MOST_OF_AN_ADDRESS = 100
 
 
@@ -53,13 +54,19 @@ def accepts(port):
 
 @contextlib.contextmanager
 def room(*programs):
-    """A folder that is gone afterwards, with a certificate for localhost that is its own authority. Where a program is not there, the script says so and ends."""
+    """A temporary folder with a certificate for localhost that is its own authority. If a program is not installed, the script says so and ends.
+
+    The key is in its folder `keys`, which only the caller may read; `proxy` is the folder in which a proxy writes. Others may pass through
+    the temporary folder, since a proxy that is started by root has workers of another user."""
     for program in programs:
         if not has(program):
             sys.exit(f"{program} is not installed: nothing was tried")
     end_in_order()
     with tempfile.TemporaryDirectory(prefix="sv-example-") as folder:
-        words = "openssl req -x509 -newkey rsa:2048 -nodes -days 1 -subj /CN=localhost -addext subjectAltName=DNS:localhost -keyout key.pem -out certificate.pem"
+        for path, mode in (folder, 0o711), (f"{folder}/keys", 0o700), (f"{folder}/proxy", 0o755):
+            os.makedirs(path, exist_ok=True)
+            os.chmod(path, mode)
+        words = "openssl req -x509 -newkey rsa:2048 -nodes -days 1 -subj /CN=localhost -addext subjectAltName=DNS:localhost -keyout keys/key.pem -out certificate.pem"
         subprocess.run(
             words.split(),
             cwd=folder,
@@ -68,40 +75,42 @@ def room(*programs):
             timeout=SECONDS,
             check=True,
         )
-        with open(f"{folder}/both.pem", "w") as both:
+        shutil.copy(f"{folder}/certificate.pem", f"{folder}/keys")
+        with open(f"{folder}/keys/both.pem", "w") as both:
             for name in ("certificate.pem", "key.pem"):
-                with open(f"{folder}/{name}") as part:
+                with open(f"{folder}/keys/{name}") as part:
                     both.write(part.read())
         yield folder
 
 
-@contextlib.contextmanager
-def proxy(name, source, folder, **places):
-    """nginx or HAProxy by a configuration of these examples, in which the words in capitals are filled in. It is up, and goes when its user does."""
-    places["FOLDER"] = folder
+def configured(source, folder, **places):
+    """The file of a configuration of these examples, in which the words in capitals are filled in."""
+    places.update(FOLDER=f"{folder}/proxy", KEYS=f"{folder}/keys")
     with open(source) as file:
         text = re.sub(rf"\b({'|'.join(places)})\b", lambda it: str(places[it[1]]), file.read())
-    with open(f"{folder}/configuration", "w") as file:
+    path = f"{folder}/configuration"
+    with open(path, "w") as file:
         file.write(text)
+    return path
+
+
+def command_of(name, folder):
+    """The command that starts nginx or HAProxy by the configuration of a folder."""
     words = {
-        "nginx": [
-            "nginx",
-            "-p",
-            folder,
-            "-e",
-            f"{folder}/nginx.log",
-            "-c",
-            f"{folder}/configuration",
-        ],
-        "haproxy": ["haproxy", "-f", f"{folder}/configuration"],
+        "nginx": ["nginx", "-p", f"{folder}/proxy", "-e", f"{folder}/proxy/nginx.log", "-c"],
+        "haproxy": ["haproxy", "-f"],
     }
+    return [*words[name], f"{folder}/configuration"]
+
+
+@contextlib.contextmanager
+def started(name, folder, port):
+    """nginx or HAProxy by the configuration of a folder, at a port. It ends when its caller is done."""
     with open(f"{folder}/told", "w+") as told, subprocess.Popen(
-        words[name], stdin=subprocess.DEVNULL, stderr=told, start_new_session=True
+        command_of(name, folder), stdin=subprocess.DEVNULL, stderr=told, start_new_session=True
     ) as server:
         try:
-            wait_until(
-                f"{name} listens", lambda: server.poll() is not None or accepts(places["TLS_PORT"])
-            )
+            wait_until(f"{name} listens", lambda: server.poll() is not None or accepts(port))
             if server.poll() is not None:
                 told.seek(0)
                 sys.exit(f"{name} ends: {told.read()}")
@@ -109,6 +118,14 @@ def proxy(name, source, folder, **places):
         finally:
             # nginx has a process of its own for its work.
             os.killpg(server.pid, signal.SIGKILL)
+
+
+@contextlib.contextmanager
+def proxy(name, source, folder, **places):
+    """nginx or HAProxy by a configuration of these examples, in which the words in capitals are filled in. It ends when its caller is done."""
+    configured(source, folder, **places)
+    with started(name, folder, places["TLS_PORT"]) as server:
+        yield server
 
 
 class Browser:
