@@ -1,6 +1,6 @@
 //! Reads the clocks of the system.
 
-use crate::slewed_clock::Reading;
+use crate::slewed_clock::{MILLISECONDS_A_SECOND, Reading};
 use libc::types::timespec;
 use std::time::{Clock, Duration};
 
@@ -34,6 +34,6 @@ fn boot_time() -> Option<Duration> {
 }
 
 fn milliseconds_of(time: Duration) -> u64 {
-    let rest = u64::from(time.subsec_millis());
-    time.as_secs().saturating_mul(1000).saturating_add(rest)
+    let whole = time.as_secs().saturating_mul(MILLISECONDS_A_SECOND);
+    whole.saturating_add(u64::from(time.subsec_millis()))
 }

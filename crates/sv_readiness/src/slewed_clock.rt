@@ -5,7 +5,8 @@ ghost use Rattle.sv_readiness.specs.Slewing as spec;
 
 use crate::limits::SLEW_DIVISOR;
 
-const MILLISECONDS_A_SECOND: u64 = 1000;
+/// The number of milliseconds in a second.
+pub(crate) const MILLISECONDS_A_SECOND: u64 = 1000;
 
 /// One reading of the clocks of the system, in milliseconds.
 #[derive(Clone, Copy)]
