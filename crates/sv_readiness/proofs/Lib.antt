@@ -1,1 +1,2 @@
 mod DroppingLemmas
+mod SlewingLemmas

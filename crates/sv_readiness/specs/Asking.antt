@@ -1,6 +1,6 @@
 -- The commands at the control socket.
-use Rattle.std.specs.Prelude.{◌≡◌, ◌==◌, ℕ, ◌++◌, Bool, List, [], bytes_eq, codes, position, take, Option, None, Some, Result, Ok, Err, if◌then◌else◌}
-use Rattle.std.specs.Fmt.{decimal}
+use Rattle.std.specs.Prelude.{◌≡◌, ◌==◌, ℕ, ℤ, ◌++◌, Bool, List, [], bytes_eq, codes, position, take, Option, None, Some, Result, Ok, Err, if◌then◌else◌}
+use Rattle.std.specs.Fmt.{decimal, signed_decimal}
 use Rattle.std.specs.Option.{option_and_then, option_map}
 use Rattle.sv_connection.specs.Asking.{Explaining, Saying}
 use Rattle.sv_connection.specs.declared.queries.Figures.{Figures}
@@ -57,11 +57,13 @@ ask_of line =
     if bytes_eq line (codes "status") then Status else
     if bytes_eq line (codes "uncovered") then Uncovered else or_edit (explain_of line) line
 
--- the figures of the connections, each after its name
-abbrev pub figures_text : Figures → List ℕ
-figures_text figures =
+-- the figures of the connections, each after its name, and the seconds by which the wall clock is ahead of the time of
+-- the container
+abbrev pub figures_text : Figures → ℤ → List ℕ
+figures_text figures offset =
     codes "connections " ++ decimal figures.connections ++ codes " writing " ++ decimal figures.writing
     ++ codes " held " ++ decimal figures.held ++ codes " opened " ++ decimal figures.opened
+    ++ codes " clock " ++ signed_decimal offset
 
 -- the handler's part of the status line, which follows the figures
 abbrev pub standing_text : Option (List ℕ) → List ℕ
@@ -69,8 +71,8 @@ standing_text None = []
 standing_text (Some text) = text
 
 -- the status line: the figures, then the handler's status
-abbrev pub status_line : Figures → Option (List ℕ) → List ℕ
-status_line figures stands = figures_text figures ++ standing_text stands ++ codes "\n"
+abbrev pub status_line : Figures → ℤ → Option (List ℕ) → List ℕ
+status_line figures offset stands = figures_text figures offset ++ standing_text stands ++ codes "\n"
 
 -- the reply of the handler, or `unknown` if it has none
 abbrev pub known_text : Option (List ℕ) → List ℕ
@@ -78,8 +80,8 @@ known_text None = codes "unknown\n"
 known_text (Some text) = text
 
 -- the reply when the handler takes no more events
-abbrev pub last_text : List ℕ → Figures → List ℕ
-last_text line figures = if bytes_eq line (codes "status") then status_line figures None else codes "stopping\n"
+abbrev pub last_text : List ℕ → Figures → ℤ → List ℕ
+last_text line figures offset = if bytes_eq line (codes "status") then status_line figures offset None else codes "stopping\n"
 
 module _ {R : Type 0} (before : R) where
   -- the reply is this text, unless memory ran out; the handler takes no event
@@ -96,10 +98,10 @@ module _ {R : Type 0} (before : R) where
     EditsTo path edit (Ok (Err refused)) after = after ≡ before
     EditsTo path edit (Err fault) after = steps before (Edited path edit) (Err fault) after
 
-    module _ (explains : Explaining R) (uncovers stands : Saying R) (figures : Figures) where
+    module _ (explains : Explaining R) (uncovers stands : Saying R) (figures : Figures) (offset : ℤ) where
       -- the reply to each command, and the handler's state after it
       abbrev pub RepliesTo : Ask → Result (Result (List ℕ) NoMemory) StepFault → R → Type 0
-      RepliesTo Status result after = SaysAlone (status_line figures (stands before)) result after
+      RepliesTo Status result after = SaysAlone (status_line figures offset (stands before)) result after
       RepliesTo Uncovered result after = SaysAlone (known_text (uncovers before)) result after
       RepliesTo (ask.Edit path edit) result after = EditsTo path edit result after
       RepliesTo (Explain method target user) result after = SaysAlone (known_text (explains before method target user)) result after

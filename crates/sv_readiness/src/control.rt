@@ -39,6 +39,8 @@ pub(crate) struct Control<'a> {
     line: Vec<u8>,
     answer: Vec<u8>,
     until: u64,
+    // The seconds by which the wall clock is ahead of the time of the container.
+    offset: i64,
     has_come: bool,
     has_refused: bool,
     stopper: Option<UnixStream>,
@@ -55,6 +57,7 @@ impl<'a> Control<'a> {
             line: Vec::new(alloc),
             answer: Vec::new(alloc),
             until: 0,
+            offset: 0,
             has_come: false,
             has_refused: false,
             stopper: None,
@@ -165,6 +168,12 @@ impl<'a> Control<'a> {
         PollEvent::Asked
     }
 
+    /// Sets the seconds by which the wall clock is ahead of the time of the container, for the status. They are negative
+    /// if the wall clock is behind.
+    pub fn note_offset(&mut self, offset: i64) {
+        self.offset = offset;
+    }
+
     // Reads once.
     fn read_on(&mut self) -> Heard {
         let mut buffer = [0; ASKED_AT_ONCE];
@@ -217,7 +226,7 @@ impl<'a> Control<'a> {
         ensures { EditsOnce R.steps handler.old result handler.new }
     {
         let line = mem::replace(&mut self.line, Vec::new(self.alloc));
-        match reply(self.alloc, line.as_slice(), figures, handler) {
+        match reply(self.alloc, line.as_slice(), figures, self.offset, handler) {
             Ok(text) => {
                 self.give(text, now);
                 Ok(())
@@ -232,7 +241,7 @@ impl<'a> Control<'a> {
     /// Replies to the whole line when the handler takes no more events, with only the figures.
     pub fn tell(&mut self, figures: Figures, now: u64) {
         let line = mem::replace(&mut self.line, Vec::new(self.alloc));
-        let text = last_text(self.alloc, line.as_slice(), figures);
+        let text = last_text(self.alloc, line.as_slice(), figures, self.offset);
         self.give(text, now);
     }
 

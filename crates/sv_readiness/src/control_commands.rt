@@ -150,23 +150,27 @@ fn script_ask(line: ScriptLine) -> Ask
     }
 }
 
-/// Returns the figures of the connections, each after its name.
+/// Returns the figures of the connections and the offset of the wall clock in seconds, each after its name.
 ///
 /// # Errors
 /// Memory ran out.
-pub(crate) fn figures_text(alloc: Global, figures: Figures) -> Result<String, AllocError>
-    ensures { IfOk result (λ text. string_bytes text ≡ spec.figures_text figures) }
+pub(crate) fn figures_text(
+    alloc: Global,
+    figures: Figures,
+    offset: i64,
+) -> Result<String, AllocError>
+    ensures { IfOk result (λ text. string_bytes text ≡ spec.figures_text figures offset) }
 {
-    let shown = Shown(figures);
+    let shown = Shown(figures, offset);
     format!(in alloc; "{shown}")
 }
 
-// Displays the figures of the connections.
+// Displays the figures of the connections and the offset of the wall clock.
 #[derive(Clone, Copy)]
-struct Shown(Figures);
+struct Shown(Figures, i64);
 
 impl fmt::Display for Shown {
-    ghost output = { λ shown. Some (spec.figures_text shown.0) };
+    ghost output = { λ shown. Some (spec.figures_text shown.0 shown.1) };
 
     fn fmt<W: fmt::Write>(&self, f: &mut fmt::Formatter<W>) -> fmt::Result {
         let Figures {
@@ -175,9 +179,10 @@ impl fmt::Display for Shown {
             held,
             opened,
         } = self.0;
+        let offset = self.1;
         write!(
             f,
-            "connections {connections} writing {writing} held {held} opened {opened}"
+            "connections {connections} writing {writing} held {held} opened {opened} clock {offset}"
         )
     }
 }

@@ -19,8 +19,9 @@ use sv_text::{Bytes, NoMemory, Text};
 const EDITED_ROOM: usize = 64;
 
 /// Returns the reply to a line other than `stop`, given without its line end. The handler takes an edit once, and the
-/// reply is its number or the reason for its refusal. No other line is an event. If memory for the reply runs out, the
-/// inner result is an error and the handler has taken no event.
+/// reply is its number or the reason for its refusal. No other line is an event. The status shows the offset, which is
+/// by how many seconds the wall clock is ahead. If memory for the reply runs out, the inner result is an error and the
+/// handler has taken no event.
 ///
 /// # Errors
 /// The handler's [`StepFault`] for the edit.
@@ -28,13 +29,14 @@ pub(crate) fn reply<R: EventHandler + Queries>(
     alloc: Global,
     line: &[u8],
     figures: Figures,
+    offset: i64,
     handler: &mut R,
 ) -> Result<Result<Bytes, NoMemory>, StepFault>
-    ensures replies { spec.RepliesTo handler.old R.steps R.explains R.uncovers R.stands figures (spec.ask_of line.now) result handler.new }
+    ensures replies { spec.RepliesTo handler.old R.steps R.explains R.uncovers R.stands figures offset (spec.ask_of line.now) result handler.new }
     ensures once { EditsOnce R.steps handler.old result handler.new }
 {
     match ask_of(alloc, line) {
-        Ok(Ask::Status) => Ok(standing_text(alloc, figures, handler)),
+        Ok(Ask::Status) => Ok(standing_text(alloc, figures, offset, handler)),
         Ok(Ask::Uncovered) => Ok(uncovered_text(alloc, handler)),
         Ok(Ask::Edit(path, edit)) => edit_reply(alloc, path.as_str(), &edit, handler),
         Ok(Ask::Explain(method, target, user)) => Ok(explain_text(
@@ -49,32 +51,43 @@ pub(crate) fn reply<R: EventHandler + Queries>(
 ///
 /// # Errors
 /// Memory ran out.
-pub(crate) fn last_text(alloc: Global, line: &[u8], figures: Figures) -> Result<Bytes, NoMemory>
-    ensures { GivesAnswer result (spec.last_text line.now figures) }
+pub(crate) fn last_text(
+    alloc: Global,
+    line: &[u8],
+    figures: Figures,
+    offset: i64,
+) -> Result<Bytes, NoMemory>
+    ensures { GivesAnswer result (spec.last_text line.now figures offset) }
 {
     if line == b"status".as_slice() {
-        return status_text(alloc, figures, &None);
+        return status_text(alloc, figures, offset, &None);
     }
     Bytes::copy_of(alloc, b"stopping\n")
 }
 
-// Returns the status of the connections and of the handler.
+// Returns the status of the connections, of the clock and of the handler.
 fn standing_text<R: Queries>(
     alloc: Global,
     figures: Figures,
+    offset: i64,
     handler: &R,
 ) -> Result<Bytes, NoMemory>
-    ensures { GivesAnswer result (spec.status_line figures (R.stands handler.now)) }
+    ensures { GivesAnswer result (spec.status_line figures offset (R.stands handler.now)) }
 {
     let stands = handler.standing(alloc)?;
-    status_text(alloc, figures, &stands)
+    status_text(alloc, figures, offset, &stands)
 }
 
 // Formats the status line.
-fn status_text(alloc: Global, figures: Figures, stands: &Option<Bytes>) -> Result<Bytes, NoMemory>
-    ensures { GivesAnswer result (spec.status_line figures stands.now) }
+fn status_text(
+    alloc: Global,
+    figures: Figures,
+    offset: i64,
+    stands: &Option<Bytes>,
+) -> Result<Bytes, NoMemory>
+    ensures { GivesAnswer result (spec.status_line figures offset stands.now) }
 {
-    let mut line = figures_text(alloc, figures)?.into_bytes();
+    let mut line = figures_text(alloc, figures, offset)?.into_bytes();
     if let Some(text) = stands {
         line.extend_from_slice(text.as_slice())?;
     }

@@ -4,6 +4,7 @@
 
 mod acceptor;
 mod calls;
+mod clock_reading;
 mod control;
 mod control_commands;
 mod control_replies;
@@ -15,16 +16,21 @@ mod lingering_close;
 mod listener;
 mod ready;
 mod round_clock;
+mod slewed_clock;
 mod sockets;
 mod stream_peer;
 
-pub use laws::limits_are_as_stated;
+pub use laws::{
+    limits_are_as_stated, time_comes_to_the_wall_clock, time_follows_the_wall_clock,
+    time_keeps_pace, time_never_goes_back,
+};
 pub use limits::{
     DROPPED_READ_BYTES, EVENTS_AT_ONCE, LINGER_SECONDS, MAX_ASKING_SECONDS, MAX_DROPPED_BYTES,
     MAX_DROPPED_READS, MAX_LINE_BYTES, MAX_LINGERING, MAX_READY_BEFORE_ACCEPT,
-    MAX_READY_BEFORE_READING, MAX_SENT_AT_ONCE,
+    MAX_READY_BEFORE_READING, MAX_SENT_AT_ONCE, SLEW_DIVISOR,
 };
 pub use listener::Listening;
 pub use round_clock::RoundClock;
+pub use slewed_clock::{Reading, SlewedClock};
 pub use sockets::Sockets;
 pub use stream_peer::StreamPeer;

@@ -42,3 +42,7 @@ pub(crate) const ASKED_AT_ONCE: usize = 1024;
 /// Time limit for a client of the control socket to send a whole line, in seconds. It has the same time again to read
 /// the reply.
 pub const MAX_ASKING_SECONDS: u64 = 2;
+
+/// The time of the container moves towards the wall clock by one millisecond per this many milliseconds of boot time.
+/// So it makes up an error of one hour in 20 hours, and runs at most 5 percent fast or slow.
+pub const SLEW_DIVISOR: u64 = 20;

@@ -5,8 +5,8 @@ ghost use Rattle.std.specs.Prelude.{◌≡◌};
 use std::cell::Cell;
 use sv_streams::Clock;
 
-/// A clock that returns the time in a cell. [`Sockets`](crate::Sockets) sets the cell when it reads the system clock,
-/// once for a group of events. Contracts assume nothing about this time.
+/// A clock that returns the time in a cell. [`Sockets`](crate::Sockets) sets the cell when it reads the clocks of the
+/// system, once for a group of events. Contracts assume nothing about this time.
 #[derive(Clone, Copy)]
 pub struct RoundClock<'a> {
     moment: &'a Cell<u64>,

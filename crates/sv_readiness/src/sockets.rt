@@ -1,11 +1,13 @@
 //! The poller of a listener and its connections.
 
 use crate::acceptor::Acceptor;
+use crate::clock_reading::read_clocks;
 use crate::control::{ASKER, CONTROL, Control};
 use crate::limits::{EVENTS_AT_ONCE, MAX_READY_BEFORE_ACCEPT, MAX_READY_BEFORE_READING};
 use crate::lingering_close::Lingering;
 use crate::listener::{LISTENER, Listening};
 use crate::ready::Ready;
+use crate::slewed_clock::{Reading, SlewedClock};
 use crate::stream_peer::StreamPeer;
 use mio::event::Source;
 use mio::net::{TcpStream, UnixListener};
@@ -17,7 +19,6 @@ use std::net::Shutdown;
 use std::time::{Clock, Duration};
 use sv_connection::{Closing, Figures, PollEvent, Poller, Queries};
 use sv_run::{EventHandler, StepFault};
-use sv_streams::{Clock as _, SystemClock};
 
 /// A listener and its connections. A system error for one of them ends only that connection, or is retried within a
 /// second.
@@ -31,9 +32,11 @@ pub struct Sockets<'a, C> {
     ready: Ready,
     lingering: Lingering<TcpStream>,
     control: Option<Control<'a>>,
-    // The cached wall clock in seconds, which timestamps events; the monotonic second that was read last; the last
-    // second that was reported; and the time that was left of the current one.
+    // The time of the container, and its cached second, which timestamps events.
+    slewed: SlewedClock,
     moment: &'a Cell<u64>,
+    // The monotonic second that was read last; the last second that was reported; and the time that was left of the
+    // current one.
     now: u64,
     second: u64,
     rest: Duration,
@@ -46,7 +49,8 @@ pub struct Sockets<'a, C> {
 
 impl<'a, C: Clock> Sockets<'a, C> {
     /// Returns the poller of a listener and its registry, with the time of a clock. Each time the clock is read, the
-    /// cell `moment` is set to the time in seconds since 1970.
+    /// cell `moment` is set to the time of the container in seconds since 1970. That is a [`SlewedClock`], which begins
+    /// at the wall clock. While the wall clock or the boot time cannot be read, its previous value is kept.
     ///
     /// # Errors
     /// Memory ran out.
@@ -72,6 +76,7 @@ impl<'a, C: Clock> Sockets<'a, C> {
             ready: Ready::new(),
             lingering: Lingering::new(alloc),
             control: control_of(alloc, registry, control),
+            slewed: SlewedClock::new(read_clocks(clock, Reading { boot: 0, wall: 0 })),
             moment,
             now: 0,
             second: 0,
@@ -197,8 +202,12 @@ impl<'a, C: Clock> Sockets<'a, C> {
     // Reads the time. Events are served at this time until it is read again.
     fn read_time(&mut self) {
         self.now = self.read_clock();
-        let mut clock = SystemClock::new(self.clock);
-        self.moment.set(clock.now());
+        self.slewed
+            .advance(read_clocks(self.clock, self.slewed.reading()));
+        self.moment.set(self.slewed.seconds());
+        if let Some(control) = &mut self.control {
+            control.note_offset(self.slewed.offset());
+        }
     }
 
     // Returns the second of the monotonic clock and notes how long it lasts. If the clock fails, returns the previous
