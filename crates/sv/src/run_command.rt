@@ -16,7 +16,7 @@ use std::rt::Files;
 use std::time::Clock;
 use sv_component::{Filter, Listener, Servlet};
 use sv_deployments::{FolderStore, ProgramFilter, ProgramListener, ProgramServlet};
-use sv_listening::{ListenOptions, run_plainly, run_recorded};
+use sv_listening::{ListenOptions, run_controlled, run_recorded};
 use sv_program::{CommandFault, FileStore};
 
 /// Starts the container of the server file with the random words of the options' seeding, and listens at the address.
@@ -58,7 +58,7 @@ pub fn run<S: FileStore + FolderStore, H: Net + Clock + RandomSource + Files + E
     let asked = AskedContainer::new(container);
     let (served, asked) = match options.journal {
         Some(name) => run_recorded(alloc, host, writer, listening, name, asked),
-        None => run_plainly(alloc, host, writer, listening, asked),
+        None => run_controlled(alloc, host, writer, listening, asked),
     };
     asked.into_container().shutdown().let_go();
     served

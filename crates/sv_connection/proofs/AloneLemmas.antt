@@ -4,11 +4,11 @@ use Rattle.std.proofs.lemmas.List.{map-append}
 use Rattle.std.specs.List.{AllByRecursion, concat, list_any}
 use Rattle.sv_connection.specs.Turns.{GoesOn, Turn, brought, calls_of, piece_of}
 use Rattle.sv_connection.specs.Turns as turn
-use Rattle.sv_connection.specs.Alone.{AreTurns, IsAlone, IsUnderWay, cut_calls}
+use Rattle.sv_connection.specs.Alone.{AreTurns, IsAlone, IsTold, IsUnderWay, cut_calls}
 use Rattle.sv_connection.specs.Course.{Along}
 use Rattle.sv_connection.specs.Notes.{answer_of, event_of, moment_of}
 use Rattle.sv_connection.specs.Phases.{is_closing, is_refusal, phase_by}
-use Rattle.sv_connection.specs.Slots.{Accepted, Accepts, Arms, Action, Closes, Ends, Hands, Leads, Open, Opens, Over, Blocks, Slot, Reads, TurnsAway, Unused, Writes, fresh}
+use Rattle.sv_connection.specs.Slots.{Accepted, Accepts, Arms, Action, Closes, Ends, EndsUntold, Hands, Leads, Open, Opens, OpensUntold, Over, Blocks, Slot, Reads, TurnsAway, Unused, Writes, fresh}
 use Rattle.sv_connection.specs.States.{ConnectionState}
 use Rattle.sv_connection.specs.Ways.{Ways}
 use Rattle.sv_connection.specs.declared.phase.Phase.TheVariants.{Closing, Refused}
@@ -154,6 +154,8 @@ module _ {S : Type 0} (ways : Ways S) (number : ℕ) where
   alone_step actions (Accepts stream) b c leads is = absurd leads
   alone_step actions (Opens reaction) b c leads is = absurd leads
   alone_step actions (Ends cause stream closing reaction) b c leads is = absurd leads
+  alone_step actions OpensUntold b c leads is = absurd leads
+  alone_step actions (EndsUntold cause stream closing) b c leads is = absurd leads
   alone_step actions (TurnsAway stream closing) b c leads is = absurd leads
   alone_step actions (Closes stream closing) b c leads is = absurd leads
   alone_step actions (Reads bytes) b c (idle, some, made, now) is =
@@ -205,35 +207,36 @@ module _ {S : Type 0} (ways : Ways S) (number : ℕ) where
     are_turns = record { happened = refl; answered = refl; told = refl; called = refl };
   }
 
-  second_step : (stream s : S) (action : Action S) (actions : List (Action S)) (b at : ConnectionState S) → Leads ways (Accepted s) action (Open b) → Along ways (Open b) actions (Open at)
+  second_step : (stream s : S) (action : Action S) (actions : List (Action S)) (b at : ConnectionState S) → IsTold action → Leads ways (Accepted s) action (Open b) → Along ways (Open b) actions (Open at)
       → IsAlone number (Accepts stream ∷ action ∷ actions) at
-  second_step stream s (Opens reaction) actions b at leads later =
+  second_step stream s OpensUntold actions b at told leads later = absurd told
+  second_step stream s (Opens reaction) actions b at told leads later =
       alone_on (Accepts stream ∷ Opens reaction ∷ []) actions b at (begins stream reaction s b leads) later
-  second_step stream s action actions b at leads later = absurd leads
+  second_step stream s action actions b at told leads later = absurd leads
 
   not_twice : (s t : S) (action : Action S) → Leads ways (Accepted s) action (Accepted t) → ⊥
   not_twice s t (Accepts stream) leads = absurd leads
   not_twice s t action leads = absurd leads
 
-  from_accepted : (stream s : S) (actions : List (Action S)) (at : ConnectionState S) → Along ways (Accepted s) actions (Open at) → IsAlone number (Accepts stream ∷ actions) at
-  from_accepted stream s [] at is = let no : Open at ≡ Accepted s = is in absurd (cc)
-  from_accepted stream s (action ∷ actions) at (Open b, leads, later) = second_step stream s action actions b at leads later
-  from_accepted stream s (action ∷ actions) at (Unused, leads, later) = absurd (no_unused ways (Accepted s) action leads)
-  from_accepted stream s (action ∷ actions) at (Accepted t, leads, later) = absurd (not_twice s t action leads)
-  from_accepted stream s (action ∷ actions) at (Over, leads, later) = let no : Open at ≡ Over = (over_stays ways actions (Open at) later).1 in absurd (cc)
+  from_accepted : (stream s : S) (actions : List (Action S)) (at : ConnectionState S) → AllByRecursion IsTold actions → Along ways (Accepted s) actions (Open at) → IsAlone number (Accepts stream ∷ actions) at
+  from_accepted stream s [] at told is = let no : Open at ≡ Accepted s = is in absurd (cc)
+  from_accepted stream s (action ∷ actions) at told (Open b, leads, later) = second_step stream s action actions b at told.0 leads later
+  from_accepted stream s (action ∷ actions) at told (Unused, leads, later) = absurd (no_unused ways (Accepted s) action leads)
+  from_accepted stream s (action ∷ actions) at told (Accepted t, leads, later) = absurd (not_twice s t action leads)
+  from_accepted stream s (action ∷ actions) at told (Over, leads, later) = let no : Open at ≡ Over = (over_stays ways actions (Open at) later).1 in absurd (cc)
 
-  first_step : (action : Action S) (actions : List (Action S)) (s : S) (at : ConnectionState S) → Leads ways Unused action (Accepted s) → Along ways (Accepted s) actions (Open at)
+  first_step : (action : Action S) (actions : List (Action S)) (s : S) (at : ConnectionState S) → AllByRecursion IsTold actions → Leads ways Unused action (Accepted s) → Along ways (Accepted s) actions (Open at)
       → IsAlone number (action ∷ actions) at
-  first_step (Accepts stream) actions s at leads later = from_accepted stream s actions at later
-  first_step action actions s at leads later = absurd leads
+  first_step (Accepts stream) actions s at told leads later = from_accepted stream s actions at told later
+  first_step action actions s at told leads later = absurd leads
 
   not_open : (action : Action S) (b : ConnectionState S) → Leads ways Unused action (Open b) → ⊥
   not_open (Opens reaction) b leads = absurd leads
   not_open action b leads = absurd leads
 
-  pub alone : (actions : List (Action S)) (at : ConnectionState S) → Along ways Unused actions (Open at) → IsAlone number actions at
-  alone [] at is = let no : Open at ≡ Unused = is in absurd (cc)
-  alone (action ∷ actions) at (Accepted s, leads, later) = first_step action actions s at leads later
-  alone (action ∷ actions) at (Open b, leads, later) = absurd (not_open action b leads)
-  alone (action ∷ actions) at (Unused, leads, later) = absurd (no_unused ways Unused action leads)
-  alone (action ∷ actions) at (Over, leads, later) = let no : Open at ≡ Over = (over_stays ways actions (Open at) later).1 in absurd (cc)
+  pub alone : (actions : List (Action S)) (at : ConnectionState S) → AllByRecursion IsTold actions → Along ways Unused actions (Open at) → IsAlone number actions at
+  alone [] at told is = let no : Open at ≡ Unused = is in absurd (cc)
+  alone (action ∷ actions) at told (Accepted s, leads, later) = first_step action actions s at told.1 leads later
+  alone (action ∷ actions) at told (Open b, leads, later) = absurd (not_open action b leads)
+  alone (action ∷ actions) at told (Unused, leads, later) = absurd (no_unused ways Unused action leads)
+  alone (action ∷ actions) at told (Over, leads, later) = let no : Open at ≡ Over = (over_stays ways actions (Open at) later).1 in absurd (cc)

@@ -11,11 +11,11 @@ use Rattle.sv_connection.specs.Course.{Along}
 use Rattle.sv_connection.specs.Ending.{ClosesOne, EndsOne, Leaves, TurnsOneAway}
 use Rattle.sv_connection.specs.Holding.{weight, weight_in, weight_or_none}
 use Rattle.sv_connection.specs.Known.{AreAtRest, AreBelow, ForgetsOne, Known, OpensNext, OthersStay, found, place_in}
-use Rattle.sv_connection.specs.Loops.{Attempts, Goes, IsClosedAs, Refuses}
-use Rattle.sv_connection.specs.Notes.{NoneWaits, Note, Of, Talks, Went, over_by, poll_of}
+use Rattle.sv_connection.specs.Loops.{Goes, IsTried, times_of}
+use Rattle.sv_connection.specs.Notes.{Does, NoneWaits, Note, Of, Talks, moment_of, over_by, poll_of}
 use Rattle.sv_connection.specs.Polling.{Accept, AreCalled, Close, PollerCall, Polling}
-use Rattle.sv_connection.specs.Rounds.{IsOfConnection, IsOfConnections, Moves}
-use Rattle.sv_connection.specs.Slots.{Accepted, Accepts, Action, Causes, Ends, Leads, Open, Opens, Over, Slot, TurnsAway, Unused, fresh}
+use Rattle.sv_connection.specs.Rounds.{IsOfConnections, Moves}
+use Rattle.sv_connection.specs.Slots.{Accepted, Accepts, Action, Ends, EndsUntold, Leads, Open, Opens, OpensUntold, Over, Slot, TurnsAway, Unused, fresh}
 use Rattle.sv_connection.specs.States.{ConnectionState}
 use Rattle.sv_connection.specs.Steps.{Drives, DrivesOne, FailsAt, StopsFor}
 use Rattle.sv_connection.specs.Turns.{over_event}
@@ -35,8 +35,8 @@ use Rattle.sv_run.specs.declared.step_fault.StepFault.TheVariants.{NoMemory}
 use Rattle.sv_text.specs.declared.no_memory.NoMemory.{NoMemory as OutOfMemory}
 use Rattle.sv_connection.proofs.AloneLemmas.{all_join, flat_join, flat_one_more}
 use Rattle.sv_connection.proofs.Joining.{talks_join}
-use Rattle.sv_connection.proofs.Looping.{goes_by, goes_none, moves_none, moves_same, open_notes, open_silent, refused_as}
-use Rattle.sv_connection.proofs.Placing.{accepted_next, all_rest, both_stay, new, old, place_next, place_open, place_over, places_stay, set_found, set_stays, shadow, shadow_found, shadow_stays, used_next}
+use Rattle.sv_connection.proofs.Looping.{goes_by, goes_none, moves_none, moves_same, none_last, open_notes, open_silent, refused_as}
+use Rattle.sv_connection.proofs.Placing.{accepted_next, all_rest, both_stay, new, old, place_next, place_open, place_over, places_stay, set_found, set_stays, used_next}
 use Rattle.sv_wire.specs.declared.inbox.Awaited.{Awaited}
 
 some_same : {A : Type 0} (x y : A) → ◌≡◌ {A = Option A} (Some x) (Some y) → x ≡ y
@@ -101,15 +101,16 @@ closes_alike at stream ReadFails = refl
 closes_alike at stream WriteFails = refl
 closes_alike at stream GivenUp = refl
 
-end_of_connection : (number : ℕ) (ended : over.Over) → IsOfConnection (over_event number ended)
-end_of_connection number Closed = tt
-end_of_connection number Lost = tt
+-- No time is given for the event of an end.
+end_has_no_time : (number : ℕ) (ended : over.Over) → times_of (over_event number ended) ≡ []
+end_has_no_time number Closed = refl
+end_has_no_time number Lost = refl
 
 module _ {R N C S : Type 0} (ways : Ways S) (steps : Reacting R) (awaits : R → ℕ → Awaited) (tells : C → ℕ → C → Type 0) (polls : Polling N S) where
-  end_attempt : (number : ℕ) (ended : over.Over) (before after : EventLoop R N C S) → IsClosedAs ways steps awaits tells polls ended number before after
-      → Attempts ways steps awaits tells polls before (over_event number ended) after
-  end_attempt number Closed before after is = is
-  end_attempt number Lost before after is = is
+  end_tried : (now : EventLoop R N C S) (number : ℕ) (ended : over.Over) (cause : CloseReason) (stream : S) (closing : Closing) → over_by cause ≡ ended
+      → IsTried now (Of number (EndsUntold cause stream closing) ∷ []) (over_event number ended)
+  end_tried now number Closed cause stream closing is = (cause, stream, closing, is, refl)
+  end_tried now number Lost cause stream closing is = (cause, stream, closing, is, refl)
 
   -- A connection was driven, and goes on.
   module _ (number : ℕ) (before : EventLoop R N C S) (at b : ConnectionState S) (handler : R) (clock : C) (known : Known S)
@@ -156,17 +157,19 @@ module _ {R N C S : Type 0} (ways : Ways S) (steps : Reacting R) (awaits : R →
         → Moves ways steps awaits tells polls {A = A} before (Err fault) (record { handler = handler_after; poller = before.poller; clock = clock_after; table = known })
     drive_fails A fault handler_after clock_after actions talks (inl (is, same, same_clock)) = (
       map (Of number) actions,
+      [],
       driven_loop,
       open_notes ways number actions at b talks.along,
-      driven_goes actions talks,
-      inl (is, λ i. record { handler = same i; poller = before.poller; clock = same_clock i; table = known }),
+      none_last ways steps awaits tells polls before driven_loop (map (Of number) actions) (driven_goes actions talks),
+      inl (refl, is, λ i. record { handler = same i; poller = before.poller; clock = same_clock i; table = known }),
     )
     drive_fails A fault handler_after clock_after actions talks (inr (bytes, moment, next, told, step)) = (
       map (Of number) actions,
+      [],
       driven_loop,
       open_notes ways number actions at b talks.along,
-      driven_goes actions talks,
-      inr (Piece number bytes moment, tt, (step, (b, place_open known number b below_after now, next, told, refl, refl))),
+      none_last ways steps awaits tells polls before driven_loop (map (Of number) actions) (driven_goes actions talks),
+      inr (Piece number bytes moment, (refl, (b, place_open known number b below_after now, next)), (step, (clock_after, told, refl), refl)),
     )
 
   -- The driven connection of a number, whatever the result but an end.
@@ -206,31 +209,41 @@ module _ {R N C S : Type 0} (ways : Ways S) (steps : Reacting R) (awaits : R →
       started : place_in before.table number ≡ Open at
       started = place_open before.table number at below was
 
-      end_taken : {A : Type 0} (done : A) (reaction : Reaction) (handler_after : R) → steps mid.handler (over_event number (over_by cause)) (Ok reaction) handler_after
-          → Moves ways steps awaits tells polls before (Ok done) (record mid { handler = handler_after })
-      end_taken done reaction handler_after step =
-          let last : Action S = Ends cause c.stream (closing_of c cause) reaction in
-          let H : R → Type 0 = λ h. steps h (over_event number (over_by cause)) (Ok reaction) handler_after in
+      -- The last action ends the connection.
+      ends_by : (last : Action S) (handler_after : R) → Does steps awaits tells number mid.handler last handler_after → moment_of last ≡ []
+          → poll_of number last ≡ Close number c.stream (closing_of c cause) ∷ [] → Leads ways (Open b) last Over
+          → Goes ways steps awaits tells polls before (map (Of number) (actions ++ last ∷ [])) (record mid { handler = handler_after })
+      ends_by last handler_after does no_moment is_close leads =
+          let H : R → Type 0 = λ h. Does steps awaits tells number h last handler_after in
+          let M : List ℕ → Type 0 = λ ms. AreTold tells clock (ms ++ []) mid.clock in
           let joined = talks_join steps awaits tells ways number before.handler handler handler_after before.clock clock mid.clock (Open at) (Open b) Over actions (last ∷ []) talks
-          (record { went = record { takes = (handler_after, subst H leaves.same_handler step, refl); told = leaves.same_clock }; along = (Over, (stops.0, closes_so), refl) }) in
+          (record {
+            went = record { takes = (handler_after, subst H leaves.same_handler does, refl); told = subst M (sym no_moment) leaves.same_clock };
+            along = (Over, leads, refl);
+          }) in
           let F : Slot S → Type 0 = λ p. Along ways p (actions ++ last ∷ []) (place_in mid.table number) in
           let T : Slot S → Type 0 = λ p. Along ways (Open at) (actions ++ last ∷ []) p in
-          let A_ : List (PollerCall S) → Type 0 = λ calls. AreCalled polls before.poller calls mid.poller in
+          let P : List (PollerCall S) → Type 0 = λ calls. AreCalled polls before.poller calls mid.poller in
           let all_calls : flat_map (poll_of number) (actions ++ last ∷ []) ≡ Close number c.stream (closing_of c cause) ∷ [] =
-          flat_one_more (poll_of number) actions last ∙ ap (λ front. front ++ poll_of number last) (open_silent ways number actions at b talks.along) in (
-            map (Of number) (actions ++ last ∷ []),
-            ends_notes reaction,
-            goes_by ways steps awaits tells polls number before (record mid { handler = handler_after }) (actions ++ last ∷ []) joined.went
-                (subst F (sym started) (subst T (sym gone) joined.along)) (subst A_ (sym all_calls) (mid.poller, leaves.closes, refl))
-                (places_stay number before.table mid.table others_stay),
-            all_rest number (place_in before.table) (place_in mid.table) (places_stay number before.table mid.table others_stay) (λ other is. absurd (not_open other (sym gone ∙ is))),
-          )
+          flat_one_more (poll_of number) actions last ∙ ap (λ front. front ++ poll_of number last) (open_silent ways number actions at b talks.along) ∙ is_close in
+          goes_by ways steps awaits tells polls number before (record mid { handler = handler_after }) (actions ++ last ∷ []) joined.went
+          (subst F (sym started) (subst T (sym gone) joined.along)) (subst P (sym all_calls) (mid.poller, leaves.closes, refl))
+          (places_stay number before.table mid.table others_stay)
+
+      end_taken : {A : Type 0} (done : A) (reaction : Reaction) (handler_after : R) → steps mid.handler (over_event number (over_by cause)) (Ok reaction) handler_after
+          → Moves ways steps awaits tells polls before (Ok done) (record mid { handler = handler_after })
+      end_taken done reaction handler_after step = (
+        map (Of number) (actions ++ Ends cause c.stream (closing_of c cause) reaction ∷ []),
+        ends_notes,
+        ends_by (Ends cause c.stream (closing_of c cause) reaction) handler_after step refl refl (stops.0, closes_so),
+        all_rest number (place_in before.table) (place_in mid.table) (places_stay number before.table mid.table others_stay) (λ other is. absurd (not_open other (sym gone ∙ is))),
+      )
         where
           not_open : (other : ConnectionState S) → ◌≡◌ {A = Slot S} Over (Open other) → ⊥
           not_open other is = cc
 
-          ends_notes : (reaction : Reaction) → AllByRecursion IsOfConnections (map (Of number) (actions ++ Ends cause c.stream (closing_of c cause) reaction ∷ []))
-          ends_notes reaction =
+          ends_notes : AllByRecursion IsOfConnections (map (Of number) (actions ++ Ends cause c.stream (closing_of c cause) reaction ∷ []))
+          ends_notes =
               let P : List (Note S) → Type 0 = λ notes. AllByRecursion IsOfConnections notes in
               subst P (sym (map-append (Of number) actions (Ends cause c.stream (closing_of c cause) reaction ∷ [])))
               (all_join IsOfConnections (map (Of number) actions) (Of number (Ends cause c.stream (closing_of c cause) reaction) ∷ []) (open_notes ways number actions at b talks.along) (tt, tt))
@@ -238,40 +251,20 @@ module _ {R N C S : Type 0} (ways : Ways S) (steps : Reacting R) (awaits : R →
       end_refused : (A : Type 0) (fault : StepFault) (handler_after : R) → steps mid.handler (over_event number (over_by cause)) (Err fault) handler_after
           → Moves ways steps awaits tells polls {A = A} before (Err fault) (record mid { handler = handler_after })
       end_refused A fault handler_after step =
-          let seen : Known S = shadow number b before.table in
-          let middle : EventLoop R N C S = record { handler = handler; poller = before.poller; clock = clock; table = seen } in
-          let H : R → Type 0 = λ h. steps h (over_event number (over_by cause)) (Err fault) handler_after in
-          let stays_so = shadow_stays number b before.table in
-          let P : ℕ → Type 0 = λ n. number < n in (
+          let last : Action S = EndsUntold cause c.stream (closing_of c cause) in
+          let N_ : List (Note S) → Type 0 = λ notes. Goes ways steps awaits tells polls before notes mid in
+          let M : List ℕ → Type 0 = λ ms. AreTold tells mid.clock ms mid.clock in (
             map (Of number) actions,
-            middle,
+            Of number last ∷ [],
+            mid,
             open_notes ways number actions at b talks.along,
-            driven_goes number before at b handler clock seen below was (shadow_found number b before.table) stays_so actions talks,
+            subst N_ (map-append (Of number) actions (last ∷ [])) (ends_by last mid.handler refl refl refl (stops.0, closes_so)),
             inr (
               over_event number (over_by cause),
-              end_of_connection number (over_by cause),
-              (
-                subst H leaves.same_handler step,
-                end_attempt number (over_by cause) middle (record mid { handler = handler_after }) (
-                  b,
-                  cause,
-                  c.stream,
-                  refl,
-                  stops.0,
-                  (
-                    place_open seen number b (subst P (sym stays_so.next) below) (shadow_found number b before.table),
-                    gone,
-                    λ other apart. places_stay number before.table mid.table others_stay other apart ∙ sym (places_stay number before.table seen stays_so other apart),
-                  ),
-                  closed_as,
-                  leaves.same_clock,
-                ),
-              ),
+              end_tried mid number (over_by cause) cause c.stream (closing_of c cause) refl,
+              (step, subst M (sym (end_has_no_time number (over_by cause))) refl, refl),
             ),
           )
-        where
-          closed_as : polls before.poller (Close number c.stream (closing_of b cause)) mid.poller
-          closed_as = subst (λ k. polls before.poller (Close number c.stream k) mid.poller) closes_so leaves.closes
 
     leaves_so : (closing_at : ConnectionState S) (mid : EventLoop R N C S) → Leaves polls number closing_at (closing_of closing_at cause) stopped mid
         → Leaves polls number c (closing_of c cause) stopped mid
@@ -437,7 +430,16 @@ module _ {R N C S : Type 0} (ways : Ways S) (steps : Reacting R) (awaits : R →
     pub opening_refused : (A : Type 0) (fault : StepFault) → steps before.handler (Opened next) (Err fault) handler
         → Moves ways steps awaits tells polls {A = A} before (Err fault) opened_loop
     opening_refused A fault step =
-        ([], before, tt, goes_none ways steps awaits tells polls before, inr (Opened next, tt, (step, (opens.0, (was_accepted, is_open, used_so), refl, refl))))
+        let F : Slot S → Type 0 = λ p. Along ways p (OpensUntold ∷ []) (place_in known next) in
+        let T : Slot S → Type 0 = λ p. Along ways (Accepted opens.0) (OpensUntold ∷ []) p in (
+          [],
+          map (Of next) (OpensUntold ∷ []),
+          record before { table = known },
+          tt,
+          goes_by ways steps awaits tells polls next before (record before { table = known }) (OpensUntold ∷ []) (record { takes = (before.handler, refl, refl); told = refl })
+              (subst F (sym was_accepted) (subst T (sym is_open) (Open (fresh opens.0), refl, refl))) refl used_so,
+          inr (Opened next, refl, (step, refl, refl)),
+        )
 
   -- The stream of a connection that was removed was closed.
   pub leaves_of : (number : ℕ) (at : ConnectionState S) (closing closing_so : Closing) (stream : S) (before : EventLoop R N C S) (poller : N) (known : Known S)
@@ -480,7 +482,7 @@ module _ {R N C S : Type 0} (ways : Ways S) (steps : Reacting R) (awaits : R →
 
   pub not_stored : (A : Type 0) (before : EventLoop R N C S) (known : Known S) → known ≡ before.table
       → Moves ways steps awaits tells polls {A = A} before (Err NoMemory) (record before { table = known })
-  not_stored A before known same = ([], before, tt, goes_none ways steps awaits tells polls before, inl (refl, not_opened before known same))
+  not_stored A before known same = ([], [], before, tt, goes_none ways steps awaits tells polls before, inl (refl, refl, not_opened before known same))
 
   pub opened_next : {A : Type 0} (done : A) (before : EventLoop R N C S) (handler : R) (known : Known S) (opened : Bool) → opened ≡ true → OpensNext before.table (Ok opened) known
       → (next : ℕ) → next ≡ before.table.next → (reaction : Reaction) → steps before.handler (Opened next) (Ok reaction) handler

@@ -6,7 +6,7 @@ use Rattle.sv_connection.specs.Course.{Along}
 use Rattle.sv_connection.specs.Loops.{Goes}
 use Rattle.sv_connection.specs.Notes.{Answers, Does, Edits, NoneWaits, Note, Of, Reports, TakesAll, TakesOne, Talks, Ticks, Went, action_in, actions_of, answer_in, answer_of, answers, event_in, event_of, events, moment_in, moments, poll_in, poller_calls}
 use Rattle.sv_connection.specs.Polling.{AreCalled, PollerCall, Polling}
-use Rattle.sv_connection.specs.Slots.{Accepts, Arms, Action, Closes, Ends, Hands, Opens, Blocks, Slot, Reads, TurnsAway, Writes}
+use Rattle.sv_connection.specs.Slots.{Accepts, Arms, Action, Closes, Ends, EndsUntold, Hands, Opens, OpensUntold, Blocks, Slot, Reads, TurnsAway, Writes}
 use Rattle.sv_connection.specs.Known.{place_in}
 use Rattle.sv_connection.specs.Ways.{Ways}
 use Rattle.sv_connection.specs.declared.event_loop.EventLoop.{EventLoop}
@@ -69,6 +69,8 @@ module _ {R C S : Type 0} (steps : Reacting R) (awaits : R → ℕ → Awaited) 
   action_reacts number (Writes bytes) before between after happenings results same later = quiet steps before between after happenings results same later
   action_reacts number Blocks before between after happenings results same later = quiet steps before between after happenings results same later
   action_reacts number Arms before between after happenings results same later = quiet steps before between after happenings results same later
+  action_reacts number OpensUntold before between after happenings results same later = quiet steps before between after happenings results same later
+  action_reacts number (EndsUntold cause stream closing) before between after happenings results same later = quiet steps before between after happenings results same later
   action_reacts number (TurnsAway stream closing) before between after happenings results same later = quiet steps before between after happenings results same later
   action_reacts number (Closes stream closing) before between after happenings results same later = quiet steps before between after happenings results same later
 

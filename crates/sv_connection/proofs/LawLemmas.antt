@@ -2,7 +2,7 @@
 use Rattle.std.proofs.Common.{◌≡◌, ◌≢◌, ℕ, true, false, List, [], ◌∷◌, ◌++◌, refl, sym, ap, ◌∙◌, subst, inl, append_assoc, append-nil, flat_map}
 use Rattle.sv_connection.specs.Course.{Along}
 use Rattle.sv_connection.specs.LoopLaws.{calls_of, handed_of, sends_of}
-use Rattle.sv_connection.specs.Slots.{Accepted, Accepts, Arms, Action, Closes, Ends, Hands, Leads, Needs, Open, Opens, Over, Blocks, Slot, Reads, TurnsAway, Unused, Writes}
+use Rattle.sv_connection.specs.Slots.{Accepted, Accepts, Arms, Action, Closes, Ends, Hands, Leads, Needs, Open, Opens, OpensUntold, Over, Blocks, Slot, Reads, TurnsAway, Unused, Writes}
 use Rattle.sv_connection.specs.States.{ConnectionState}
 use Rattle.sv_connection.specs.Ways.{Ways}
 use Rattle.sv_streams.specs.Calls.{given, taken}
@@ -45,6 +45,7 @@ module _ {S : Type 0} (ways : Ways S) where
   step_given before action Over yet leads = absurd yet
   step_given Unused (Accepts stream) (Accepted accepted) yet leads = refl
   step_given (Accepted stream) (Opens reaction) (Open at) yet leads = sym (ap (λ (s : ConnectionState S). s.ahead) leads)
+  step_given (Accepted stream) OpensUntold (Open at) yet leads = sym (ap (λ (s : ConnectionState S). s.ahead) leads)
   step_given (Open b) (Reads bytes) (Open at) yet (idle, some, made, is) =
       ap (λ front. front ++ (bytes ++ [])) idle.0 ∙ append-nil bytes ∙ sym (ap (λ (s : ConnectionState S). s.ahead) is)
   step_given (Open b) (Hands bytes moment reaction awaited) (Open at) yet (has, piece, front, is) = append-nil b.ahead ∙ front
@@ -62,6 +63,7 @@ module _ {S : Type 0} (ways : Ways S) where
   step_sent before action Over yet leads = absurd yet
   step_sent Unused (Accepts stream) (Accepted accepted) yet leads = refl
   step_sent (Accepted stream) (Opens reaction) (Open at) yet leads = sym (ap (λ (s : ConnectionState S). s.unsent) leads)
+  step_sent (Accepted stream) OpensUntold (Open at) yet leads = sym (ap (λ (s : ConnectionState S). s.unsent) leads)
   step_sent (Open b) (Reads bytes) (Open at) yet (idle, some, made, is) = append-nil b.unsent ∙ sym (ap (λ (s : ConnectionState S). s.unsent) is)
   step_sent (Open b) (Hands bytes moment reaction awaited) (Open at) yet (has, piece, front, is) =
       ap (λ rest. rest ++ reaction.sends) has.1 ∙ sym (ap (λ (s : ConnectionState S). s.unsent) is)
@@ -146,6 +148,7 @@ module _ {S : Type 0} (ways : Ways S) where
 
   step_rests : (before : Slot S) (action : Action S) (at : ConnectionState S) → Leads ways before action (Open at) → at.rests ≡ true → Needs at
   step_rests (Accepted stream) (Opens reaction) at leads rests = subst (λ (s : ConnectionState S). Needs s) (sym leads) (inl (refl, refl, refl))
+  step_rests (Accepted stream) OpensUntold at leads rests = subst (λ (s : ConnectionState S). Needs s) (sym leads) (inl (refl, refl, refl))
   step_rests (Open b) (Reads bytes) at (idle, some, made, is) rests = moving b at (ap (λ (s : ConnectionState S). s.rests) is) rests
   step_rests (Open b) (Hands bytes moment reaction awaited) at (has, piece, front, is) rests = moving b at (ap (λ (s : ConnectionState S). s.rests) is) rests
   step_rests (Open b) (Writes bytes) at (some, made, front, is) rests = moving b at (ap (λ (s : ConnectionState S). s.rests) is) rests

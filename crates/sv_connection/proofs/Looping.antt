@@ -1,19 +1,18 @@
 -- One step of the event loop after another.
-use Rattle.std.proofs.Common.{◌≡◌, ◌≢◌, ◌⊎◌, ℕ, ◌+◌, ◌<◌, Bool, true, false, cond, nat_eq, eqb-true, inl, inr, List, [], ◌∷◌, ◌++◌, None, Some, Result, Ok, Err, refl, sym, ap, ◌∙◌, subst, flat_map, map, append-nil, arith}
+use Rattle.std.proofs.Common.{◌≡◌, ◌≢◌, ◌⊎◌, ℕ, ◌+◌, ◌<◌, Bool, true, false, cond, nat_eq, eqb-true, inl, inr, List, [], ◌∷◌, ◌++◌, None, Some, Result, Ok, Err, refl, sym, ap, ◌∙◌, subst, flat_map, map, append_assoc, append-nil, arith}
 use Rattle.std.proofs.lemmas.Bool.{cond-true, cond-false}
 use Rattle.std.specs.List.{AllByRecursion}
 use Rattle.std.specs.Prelude.{IsErrAnd}
 use Rattle.sv_connection.specs.Course.{Along}
 use Rattle.sv_connection.specs.Known.{AreAtRest, place_in}
-use Rattle.sv_connection.specs.Loops.{Goes, Refuses}
+use Rattle.sv_connection.specs.Loops.{Goes}
 use Rattle.sv_connection.specs.Notes.{NoneWaits, Note, Of, Went, action_in, actions_of, poll_in, poll_of, poller_calls}
 use Rattle.sv_connection.specs.Polling.{AreCalled, Close, PollerCall, Polling}
-use Rattle.sv_connection.specs.Rounds.{IsOfConnection, IsOfConnections, Moves}
+use Rattle.sv_connection.specs.Rounds.{IsOfConnections, Moves}
 use Rattle.sv_connection.specs.Slots.{Accepted, Accepts, Action, Arms, Blocks, Closes, Ends, Hands, Leads, Open, Opens, Over, Reads, Slot, TurnsAway, Unused, Writes}
 use Rattle.sv_connection.specs.States.{ConnectionState}
 use Rattle.sv_connection.specs.Ways.{Ways}
 use Rattle.sv_connection.specs.declared.event_loop.EventLoop.{EventLoop}
-use Rattle.sv_run.specs.Events.{Happening}
 use Rattle.sv_run.specs.Reacting.{Reacting}
 use Rattle.sv_run.specs.declared.step_fault.StepFault.{StepFault}
 use Rattle.sv_run.specs.declared.step_fault.StepFault.TheVariants.{NoMemory}
@@ -116,6 +115,12 @@ module _ {R N C S : Type 0} (ways : Ways S) (steps : Reacting R) (awaits : R →
           let Q : List (Action S) → Type 0 = λ ds. Along ways (place_in before.table other) ds (place_in after.table other) in
           subst Q (sym (actions_other number other actions apart)) (others other apart)
 
+  -- No note follows.
+  pub none_last : (before after : EventLoop R N C S) (notes : List (Note S)) → Goes ways steps awaits tells polls before notes after
+      → Goes ways steps awaits tells polls before (notes ++ []) after
+  none_last before after notes goes =
+      let P : List (Note S) → Type 0 = λ all. Goes ways steps awaits tells polls before all after in subst P (sym (append-nil notes)) goes
+
   pub moves_none : {A : Type 0} (done : A) (loop : EventLoop R N C S) → Moves ways steps awaits tells polls loop (Ok done) loop
   moves_none done loop = ([], tt, goes_none loop, λ rest. rest)
 
@@ -132,13 +137,15 @@ module _ {R N C S : Type 0} (ways : Ways S) (steps : Reacting R) (awaits : R →
     goes_join ways steps awaits tells polls before between after notes more goes goes_on,
     λ at_rest. rests_on (rests at_rest),
   )
-  moves_join done before between after (notes, of, goes, rests) (Err fault) (more, middle, of_more, goes_on, fails) = (
-    notes ++ more,
-    middle,
-    all_join IsOfConnections notes more of of_more,
-    goes_join ways steps awaits tells polls before between middle notes more goes goes_on,
-    fails,
-  )
+  moves_join done before between after (notes, of, goes, rests) (Err fault) (more, last, middle, of_more, goes_on, fails) =
+      let P : List (Note S) → Type 0 = λ all. Goes ways steps awaits tells polls before all middle in (
+        notes ++ more,
+        last,
+        middle,
+        all_join IsOfConnections notes more of of_more,
+        subst P (sym (append_assoc notes more last)) (goes_join ways steps awaits tells polls before between middle notes (more ++ last) goes goes_on),
+        fails,
+      )
 
   -- The fault of moves, as `?` returns it.
   pub moves_as : {B D : Type 0} (before after : EventLoop R N C S) (other : Result D StepFault) (fault : StepFault) → other ≡ Err fault
@@ -160,4 +167,4 @@ module _ {R N C S : Type 0} (ways : Ways S) (steps : Reacting R) (awaits : R →
   -- Memory ran out after moves.
   pub starved : {A : Type 0} (B : Type 0) (done : A) (before after : EventLoop R N C S) → Moves ways steps awaits tells polls before (Ok done) after
       → Moves ways steps awaits tells polls {A = B} before (Err NoMemory) after
-  starved B done before after (notes, of, goes, rests) = (notes, after, of, goes, inl (refl, refl))
+  starved B done before after (notes, of, goes, rests) = (notes, [], after, of, none_last before after notes goes, inl (refl, refl, refl))

@@ -103,24 +103,6 @@ module _ {S : Type 0} where
           rests at (subst P (eqb-true other number same) is)
       by false apart = before other at (sym (others other (differ apart)) ∙ is)
 
-  -- The state of a number is written over.
-  abbrev pub shadow : ℕ → ConnectionState S → Known S → Known S
-  shadow number at known = record known { entries = (number, at) ∷ known.entries }
-
-  pub shadow_found : (number : ℕ) (at : ConnectionState S) (known : Known S) → found (shadow number at known) number ≡ Some at
-  shadow_found number at known = cond-true (nat_eq number number) (Some at) (found known number) (same_number number)
-
-  pub shadow_stays : (number : ℕ) (at : ConnectionState S) (known : Known S) → OthersStay number known (shadow number at known)
-  shadow_stays number at known = record {
-    next = refl;
-    accepted = refl;
-    others = λ other apart. cond-false (nat_eq other number) (Some at) (found known other) (other_number number other apart);
-  }
-
-  pub stays_back : (number : ℕ) (known known_after : Known S) → OthersStay number known known_after → OthersStay number known_after known
-  stays_back number known known_after stay =
-      record { next = sym stay.next; accepted = sym stay.accepted; others = λ other apart. sym (stay.others other apart) }
-
   pub both_stay : (number : ℕ) (known between known_after : Known S) → OthersStay number known between → OthersStay number between known_after → OthersStay number known known_after
   both_stay number known between known_after first second = record {
     next = second.next ∙ first.next;

@@ -1,14 +1,14 @@
 -- What is done for an event of the poller.
-use Rattle.std.proofs.Common.{◌≡◌, ◌⊎◌, ℕ, inl, inr, List, [], ◌∷◌, ◌++◌, Result, Ok, Err, refl, sym, ap, ◌∙◌, subst}
+use Rattle.std.proofs.Common.{◌≡◌, ◌⊎◌, ℕ, inl, inr, List, [], ◌∷◌, ◌++◌, Result, Ok, Err, refl, sym, subst, append-nil}
 use Rattle.std.specs.List.{AllByRecursion}
 use Rattle.std.specs.Prelude.{IsErrAnd}
 use Rattle.sv_connection.specs.Asking.{EditsOnce}
 use Rattle.sv_connection.specs.Figures.{figures_of}
 use Rattle.sv_connection.specs.Known.{AreAtRest, place_in}
-use Rattle.sv_connection.specs.Loops.{Goes, Refuses}
+use Rattle.sv_connection.specs.Loops.{Goes, IsTried}
 use Rattle.sv_connection.specs.Notes.{Answers, Edits, Note, Ticks}
 use Rattle.sv_connection.specs.Polling.{Answer, Polling}
-use Rattle.sv_connection.specs.Rounds.{AsksOnce, FailsIn, IsOfConnection, IsOfConnections, IsRound, MayBeRefused, Moves, TakesEvent, TicksOnce}
+use Rattle.sv_connection.specs.Rounds.{AsksOnce, IsOfConnections, IsRefusedIn, Moves, TakesEvent, TicksOnce}
 use Rattle.sv_connection.specs.Ways.{Ways}
 use Rattle.sv_connection.specs.declared.event_loop.EventLoop.{EventLoop}
 use Rattle.sv_connection.specs.declared.poller.PollEvent.{PollEvent}
@@ -32,20 +32,29 @@ IsPlain Asked = ⊥
 IsPlain Stop = ⊥
 
 module _ {R N C S : Type 0} (ways : Ways S) (steps : Reacting R) (awaits : R → ℕ → Awaited) (tells : C → ℕ → C → Type 0) (polls : Polling N S) where
+  all_so : (notes last : List (Note S)) → AllByRecursion IsOfConnections notes → last ≡ [] → AllByRecursion IsOfConnections (notes ++ last)
+  all_so notes last of none =
+      let P : List (Note S) → Type 0 = λ l. AllByRecursion IsOfConnections (notes ++ l) in
+      let Q : List (Note S) → Type 0 = λ l. AllByRecursion IsOfConnections l in
+      subst P (sym none) (subst Q (sym (append-nil notes)) of)
+
   taken_of : (event : PollEvent) → IsPlain event → (before after : EventLoop R N C S) (result : Result (Unit {0}) StepFault)
       → Moves ways steps awaits tells polls before result after → TakesEvent ways steps awaits tells polls event before result after
   taken_of (Ready number) plain before after (Ok done) (notes, of, goes, rests) = (notes, of, goes, rests)
-  taken_of (Ready number) plain before after (Err fault) (notes, middle, of, goes, inl (is, same)) = (notes, middle, goes, inl (is, same, of))
-  taken_of (Ready number) plain before after (Err fault) (notes, middle, of, goes, inr (happening, its, refuses)) =
-      (notes, middle, goes, inr (happening, (of, its), refuses))
+  taken_of (Ready number) plain before after (Err fault) (notes, last, middle, of, goes, inl (none, is, same)) =
+      (notes ++ last, middle, goes, inl (is, same, all_so notes last of none))
+  taken_of (Ready number) plain before after (Err fault) (notes, last, middle, of, goes, inr (happening, tried, refuses)) =
+      (notes ++ last, middle, goes, inr (happening, (notes, last, refl, of, tried), refuses))
   taken_of Incoming plain before after (Ok done) (notes, of, goes, rests) = (notes, of, goes, rests)
-  taken_of Incoming plain before after (Err fault) (notes, middle, of, goes, inl (is, same)) = (notes, middle, goes, inl (is, same, of))
-  taken_of Incoming plain before after (Err fault) (notes, middle, of, goes, inr (happening, its, refuses)) =
-      (notes, middle, goes, inr (happening, (of, its), refuses))
+  taken_of Incoming plain before after (Err fault) (notes, last, middle, of, goes, inl (none, is, same)) =
+      (notes ++ last, middle, goes, inl (is, same, all_so notes last of none))
+  taken_of Incoming plain before after (Err fault) (notes, last, middle, of, goes, inr (happening, tried, refuses)) =
+      (notes ++ last, middle, goes, inr (happening, (notes, last, refl, of, tried), refuses))
   taken_of Crowded plain before after (Ok done) (notes, of, goes, rests) = (notes, of, goes, rests)
-  taken_of Crowded plain before after (Err fault) (notes, middle, of, goes, inl (is, same)) = (notes, middle, goes, inl (is, same, of))
-  taken_of Crowded plain before after (Err fault) (notes, middle, of, goes, inr (happening, its, refuses)) =
-      (notes, middle, goes, inr (happening, (of, its), refuses))
+  taken_of Crowded plain before after (Err fault) (notes, last, middle, of, goes, inl (none, is, same)) =
+      (notes ++ last, middle, goes, inl (is, same, all_so notes last of none))
+  taken_of Crowded plain before after (Err fault) (notes, last, middle, of, goes, inr (happening, tried, refuses)) =
+      (notes ++ last, middle, goes, inr (happening, (notes, last, refl, of, tried), refuses))
   taken_of Second plain before after result moves = absurd plain
   taken_of Asked plain before after result moves = absurd plain
   taken_of Stop plain before after result moves = absurd plain
@@ -89,7 +98,7 @@ module _ {R N C S : Type 0} (ways : Ways S) (steps : Reacting R) (awaits : R →
     Answers (figures_of before.table) ∷ [],
     record before { poller = poller },
     answered_goes before before.handler poller refl call,
-    inr (Edited path edit, refl, (step, (refl, refl, refl))),
+    inr (Edited path edit, refl, (step, refl, refl)),
   )
 
   pub asked_as : (told : PollEvent) → told ≡ Asked → (before after : EventLoop R N C S) (result : Result (Unit {0}) StepFault)
@@ -106,14 +115,14 @@ module _ {R N C S : Type 0} (ways : Ways S) (steps : Reacting R) (awaits : R →
   tick_goes before handler clock moment reaction told step =
       record { went = record { takes = (handler, step, refl); told = (clock, told, refl) }; polled = refl; courses = λ number. refl }
 
-  may_be_refused : (before : EventLoop R N C S) (moment : ℕ) (reaction : Reaction) (more : List (Note S)) → AllByRecursion IsOfConnections more
-      → (happening : Happening) → IsOfConnection happening → MayBeRefused Second before.table (Ticks moment reaction ∷ more) happening
-  may_be_refused before moment reaction more of (Opened number) its = ((moment, reaction, more, refl, of), tt)
-  may_be_refused before moment reaction more of (Piece number bytes time) its = ((moment, reaction, more, refl, of), tt)
-  may_be_refused before moment reaction more of (Ended number) its = ((moment, reaction, more, refl, of), tt)
-  may_be_refused before moment reaction more of (Lost number) its = ((moment, reaction, more, refl, of), tt)
-  may_be_refused before moment reaction more of (Tick time) its = absurd its
-  may_be_refused before moment reaction more of (Edited path edit) its = absurd its
+  tried_in_second : (before now : EventLoop R N C S) (moment : ℕ) (reaction : Reaction) (more last : List (Note S)) → AllByRecursion IsOfConnections more
+      → (happening : Happening) → IsTried now last happening → IsRefusedIn Second before.table (Ticks moment reaction ∷ (more ++ last)) now happening
+  tried_in_second before now moment reaction more last of (Opened number) tried = (Ticks moment reaction ∷ more, last, refl, (moment, reaction, more, refl, of), tried)
+  tried_in_second before now moment reaction more last of (Piece number bytes time) tried = (Ticks moment reaction ∷ more, last, refl, (moment, reaction, more, refl, of), tried)
+  tried_in_second before now moment reaction more last of (Ended number) tried = (Ticks moment reaction ∷ more, last, refl, (moment, reaction, more, refl, of), tried)
+  tried_in_second before now moment reaction more last of (Lost number) tried = (Ticks moment reaction ∷ more, last, refl, (moment, reaction, more, refl, of), tried)
+  tried_in_second before now moment reaction more last of (Tick time) tried = absurd tried
+  tried_in_second before now moment reaction more last of (Edited path edit) tried = absurd tried
 
   second_now : (before after : EventLoop R N C S) (handler : R) (clock : C) (moment : ℕ) (reaction : Reaction) → tells before.clock moment clock
       → steps before.handler (Tick moment) (Ok reaction) handler → (result : Result (Unit {0}) StepFault)
@@ -126,19 +135,19 @@ module _ {R N C S : Type 0} (ways : Ways S) (steps : Reacting R) (awaits : R →
         (tick_goes before handler clock moment reaction told step) goes,
     rests,
   )
-  second_now before after handler clock moment reaction told step (Err fault) (notes, middle, of, goes, inl (is, same)) = (
-    Ticks moment reaction ∷ notes,
+  second_now before after handler clock moment reaction told step (Err fault) (notes, last, middle, of, goes, inl (none, is, same)) = (
+    Ticks moment reaction ∷ (notes ++ last),
     middle,
-    goes_join ways steps awaits tells polls before (record before { handler = handler; clock = clock }) middle (Ticks moment reaction ∷ []) notes
+    goes_join ways steps awaits tells polls before (record before { handler = handler; clock = clock }) middle (Ticks moment reaction ∷ []) (notes ++ last)
         (tick_goes before handler clock moment reaction told step) goes,
-    inl (is, same, (moment, reaction, notes, refl, of)),
+    inl (is, same, (moment, reaction, notes ++ last, refl, all_so notes last of none)),
   )
-  second_now before after handler clock moment reaction told step (Err fault) (notes, middle, of, goes, inr (happening, its, refuses)) = (
-    Ticks moment reaction ∷ notes,
+  second_now before after handler clock moment reaction told step (Err fault) (notes, last, middle, of, goes, inr (happening, tried, refuses)) = (
+    Ticks moment reaction ∷ (notes ++ last),
     middle,
-    goes_join ways steps awaits tells polls before (record before { handler = handler; clock = clock }) middle (Ticks moment reaction ∷ []) notes
+    goes_join ways steps awaits tells polls before (record before { handler = handler; clock = clock }) middle (Ticks moment reaction ∷ []) (notes ++ last)
         (tick_goes before handler clock moment reaction told step) goes,
-    inr (happening, may_be_refused before moment reaction notes of happening its, refuses),
+    inr (happening, tried_in_second before middle moment reaction notes last of happening tried, refuses),
   )
 
   pub second_passed : (before ticked after : EventLoop R N C S) (done : Unit {0}) → TicksOnce steps tells before (Ok done) ticked → (result : Result (Unit {0}) StepFault)
@@ -153,4 +162,4 @@ module _ {R N C S : Type 0} (ways : Ways S) (steps : Reacting R) (awaits : R →
       let P : EventLoop R N C S → Type 0 = λ l. TakesEvent ways steps awaits tells polls Second before (Err fault) l in
       let Q : Result (Unit {0}) StepFault → Type 0 = λ r. TakesEvent ways steps awaits tells polls Second before r after in
       subst Q (sym (refused_as fault result refused))
-      (subst P (sym same) ([], before, goes_none ways steps awaits tells polls before, inr (Tick moment, refl, (step, (told, refl, refl)))))
+      (subst P (sym same) ([], before, goes_none ways steps awaits tells polls before, inr (Tick moment, refl, (step, (after.clock, told, refl), refl))))

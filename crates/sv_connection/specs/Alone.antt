@@ -7,7 +7,7 @@ use Rattle.sv_connection.specs.Course.{Along}
 use Rattle.sv_connection.specs.LoopLaws.{end_calls}
 use Rattle.sv_connection.specs.Notes.{answer_of, event_of, moment_of}
 use Rattle.sv_connection.specs.Phases.{is_closing}
-use Rattle.sv_connection.specs.Slots.{Action, Ends, Hands, Open, Unused, Writes}
+use Rattle.sv_connection.specs.Slots.{Action, Ends, EndsUntold, Hands, Open, OpensUntold, Unused, Writes}
 use Rattle.sv_connection.specs.States.{ConnectionState}
 use Rattle.sv_connection.specs.Ways.{Ways}
 use Rattle.sv_run.specs.Events.{Opened}
@@ -47,5 +47,13 @@ pub record IsAlone {S : Type 0} (number : ℕ) (actions : List (Action S)) (at :
   pub is_under_way : IsUnderWay under_way at
   pub are_turns : AreTurns number actions opening (turns ++ under_way)
 
+-- The handler takes the event of an action, if it has one.
+abbrev pub IsTold : {S : Type 0} → Action S → Type 0
+IsTold OpensUntold = ⊥
+IsTold (EndsUntold cause stream closing) = ⊥
+IsTold other = Unit {0}
+
 abbrev pub ServedAsIfAlone : {S : Type 0} → Ways S → Type 0
-ServedAsIfAlone {S} ways = (number : ℕ) (actions : List (Action S)) (at : ConnectionState S) → Along ways Unused actions (Open at) → IsAlone number actions at
+ServedAsIfAlone {S} ways =
+    (number : ℕ) (actions : List (Action S)) (at : ConnectionState S) → AllByRecursion IsTold actions → Along ways Unused actions (Open at)
+    → IsAlone number actions at

@@ -1,7 +1,7 @@
 -- The laws of connections that are served at once.
 use Rattle.std.specs.Prelude.{◌≡◌, ℕ, true, List, [], ◌∷◌, ◌++◌, flat_map}
 use Rattle.sv_connection.specs.Course.{Along}
-use Rattle.sv_connection.specs.Slots.{Action, Ends, Hands, Leads, Needs, Open, Over, Slot, Reads, Unused, Writes}
+use Rattle.sv_connection.specs.Slots.{Action, Ends, EndsUntold, Hands, Leads, Needs, Open, Over, Slot, Reads, Unused, Writes}
 use Rattle.sv_connection.specs.States.{ConnectionState}
 use Rattle.sv_connection.specs.Ways.{Ways}
 use Rattle.sv_connection.specs.declared.close_reason.CloseReason.{CloseReason}
@@ -21,6 +21,7 @@ module _ {S : Type 0} where
   calls_of (Reads bytes) = Gave bytes ∷ []
   calls_of (Writes bytes) = Took bytes ∷ []
   calls_of (Ends cause stream closing reaction) = end_calls cause
+  calls_of (EndsUntold cause stream closing) = end_calls cause
   calls_of other = []
 
   -- The bytes that an action passes to the handler.

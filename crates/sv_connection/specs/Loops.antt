@@ -1,26 +1,28 @@
 -- The event loop before and after what it does.
-use Rattle.std.specs.Prelude.{◌≡◌, ◌≢◌, ◌⊎◌, ℕ, ◌+◌, ltb, List, true, Bool, false, Option, None, Some, Result, Ok, Err}
-use Rattle.sv_connection.specs.Closing.{closing_of}
+use Rattle.std.specs.Prelude.{◌≡◌, ℕ, List, [], ◌∷◌, Err}
+use Rattle.sv_connection.specs.Connection.{AreTold}
 use Rattle.sv_connection.specs.Course.{Along}
-use Rattle.sv_connection.specs.Known.{ForgetsOne, found, place_in}
-use Rattle.sv_connection.specs.Notes.{Note, Went, actions_of, over_by, poller_calls}
-use Rattle.sv_connection.specs.Polling.{Answer, AreCalled, Close, Polling}
-use Rattle.sv_connection.specs.Slots.{Accepted, Causes, Open, Over, Slot, fresh}
+use Rattle.sv_connection.specs.Known.{place_in}
+use Rattle.sv_connection.specs.Notes.{Note, Of, Went, actions_of, over_by, poller_calls}
+use Rattle.sv_connection.specs.Polling.{AreCalled, Polling}
+use Rattle.sv_connection.specs.Slots.{EndsUntold, Open, OpensUntold}
 use Rattle.sv_connection.specs.States.{ConnectionState}
 use Rattle.sv_connection.specs.Steps.{IsNextPiece}
-use Rattle.sv_connection.specs.Turns.{over_event}
 use Rattle.sv_connection.specs.Ways.{Ways}
 use Rattle.sv_connection.specs.declared.close_reason.CloseReason.{CloseReason}
 use Rattle.sv_connection.specs.declared.close_reason.Closing.{Closing}
-use Rattle.sv_connection.specs.declared.close_reason.Closing.TheVariants.{AtOnce}
 use Rattle.sv_connection.specs.declared.event_loop.EventLoop.{EventLoop}
-use Rattle.sv_connection.specs.declared.over.Over as over
 use Rattle.sv_connection.specs.declared.over.Over.TheVariants.{Closed, Lost as IsLost}
-use Rattle.sv_run.specs.Events.{Edited, Ended, Happening, Lost, Opened, Piece, Tick}
+use Rattle.sv_run.specs.Events.{Ended, Happening, Lost, Opened, Piece, Tick}
 use Rattle.sv_run.specs.Reacting.{Reacting}
-use Rattle.sv_run.specs.declared.happening.Reaction.{Reaction}
 use Rattle.sv_run.specs.declared.step_fault.StepFault.{StepFault}
 use Rattle.sv_wire.specs.declared.inbox.Awaited.{Awaited}
+
+-- The time of an event, if any.
+abbrev pub times_of : Happening → List ℕ
+times_of (Piece number bytes moment) = moment ∷ []
+times_of (Tick moment) = moment ∷ []
+times_of other = []
 
 module _ {R N C S : Type 0} (ways : Ways S) (steps : Reacting R) (awaits : R → ℕ → Awaited) (tells : C → ℕ → C → Type 0) (polls : Polling N S) where
   -- The handler takes the events of notes, the clock gives their times, the poller makes their calls, and each number
@@ -30,33 +32,20 @@ module _ {R N C S : Type 0} (ways : Ways S) (steps : Reacting R) (awaits : R →
     pub polled : AreCalled polls before.poller (poller_calls notes) after.poller
     pub courses : (number : ℕ) → Along ways (place_in before.table number) (actions_of number notes) (place_in after.table number)
 
-  -- This number is led from one slot to another, and the others stay.
-  abbrev pub IsLed : ℕ → EventLoop R N C S → Slot S → EventLoop R N C S → Slot S → Type 0
-  IsLed number before place after place_after =
-      (place_in before.table number ≡ place) × (place_in after.table number ≡ place_after)
-      × ((other : ℕ) → other ≢ number → place_in after.table other ≡ place_in before.table other)
-
-  -- The connection is over, and its stream closed.
-  abbrev pub IsClosedAs : over.Over → ℕ → EventLoop R N C S → EventLoop R N C S → Type 0
-  IsClosedAs ended number before after =
-      (at : ConnectionState S) × (cause : CloseReason) × (stream : S) × (over_by cause ≡ ended) × Causes ways at cause stream
-      × IsLed number before (Open at) after Over × polls before.poller (Close number stream (closing_of at cause)) after.poller
-      × (after.clock ≡ before.clock)
-
-  -- What is done for an event that the handler refuses.
-  abbrev pub Attempts : EventLoop R N C S → Happening → EventLoop R N C S → Type 0
-  Attempts before (Opened number) after =
-      (stream : S) × IsLed number before (Accepted stream) after (Open (fresh stream)) × (after.poller ≡ before.poller) × (after.clock ≡ before.clock)
-  Attempts before (Piece number bytes moment) after =
-      (at : ConnectionState S) × (place_in before.table number ≡ Open at) × IsNextPiece at bytes × tells before.clock moment after.clock
-      × (after.poller ≡ before.poller) × (after.table ≡ before.table)
-  Attempts before (Ended number) after = IsClosedAs Closed number before after
-  Attempts before (Lost number) after = IsClosedAs IsLost number before after
-  Attempts before (Tick moment) after =
-      tells before.clock moment after.clock × (after.poller ≡ before.poller) × (after.table ≡ before.table)
-  Attempts before (Edited path edit) after =
-      (after.clock ≡ before.clock) × (after.poller ≡ before.poller) × (after.table ≡ before.table)
-
-  -- The handler refuses an event.
+  -- The handler refuses an event, whose time the clock gives. Nothing else is done.
   abbrev pub Refuses : EventLoop R N C S → Happening → StepFault → EventLoop R N C S → Type 0
-  Refuses before happening fault after = steps before.handler happening (Err fault) after.handler × Attempts before happening after
+  Refuses before happening fault after =
+      steps before.handler happening (Err fault) after.handler × AreTold tells before.clock (times_of happening) after.clock
+      × (after ≡ record before { handler = after.handler; clock = after.clock })
+
+module _ {R N C S : Type 0} where
+  -- What is done of a connection for an event that is then refused. A piece that is refused is the next one.
+  abbrev pub IsTried : EventLoop R N C S → List (Note S) → Happening → Type 0
+  IsTried now notes (Opened number) = notes ≡ Of number OpensUntold ∷ []
+  IsTried now notes (Piece number bytes moment) =
+      (notes ≡ []) × ((at : ConnectionState S) × (place_in now.table number ≡ Open at) × IsNextPiece at bytes)
+  IsTried now notes (Ended number) =
+      (cause : CloseReason) × (stream : S) × (closing : Closing) × (over_by cause ≡ Closed) × (notes ≡ Of number (EndsUntold cause stream closing) ∷ [])
+  IsTried now notes (Lost number) =
+      (cause : CloseReason) × (stream : S) × (closing : Closing) × (over_by cause ≡ IsLost) × (notes ≡ Of number (EndsUntold cause stream closing) ∷ [])
+  IsTried now notes other = ⊥

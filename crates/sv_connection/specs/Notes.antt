@@ -3,7 +3,7 @@ use Rattle.std.specs.Prelude.{◌≡◌, ℕ, List, [], ◌∷◌, None, Some, c
 use Rattle.sv_connection.specs.Connection.{AreTold}
 use Rattle.sv_connection.specs.Course.{Along}
 use Rattle.sv_connection.specs.Polling.{Accept, Answer, Close, PollerCall, Wait}
-use Rattle.sv_connection.specs.Slots.{Accepts, Action, Closes, Ends, Hands, Opens, Slot, TurnsAway}
+use Rattle.sv_connection.specs.Slots.{Accepts, Action, Closes, Ends, EndsUntold, Hands, Opens, Slot, TurnsAway}
 use Rattle.sv_connection.specs.Turns.{over_event}
 use Rattle.sv_connection.specs.Ways.{Ways}
 use Rattle.sv_connection.specs.declared.close_reason.CloseReason.{CloseReason}
@@ -63,6 +63,7 @@ module _ {S : Type 0} where
   poll_of number (Accepts stream) = Accept number (Some stream) ∷ []
   poll_of number (TurnsAway stream closing) = Close number stream closing ∷ []
   poll_of number (Ends cause stream closing reaction) = Close number stream closing ∷ []
+  poll_of number (EndsUntold cause stream closing) = Close number stream closing ∷ []
   poll_of number (Closes stream closing) = Close number stream closing ∷ []
   poll_of number other = []
 

@@ -1,13 +1,13 @@
 -- The rounds of the event loop: an event of the poller, and what is done for it.
-use Rattle.std.specs.Prelude.{◌≡◌, ◌⊎◌, ℕ, ◌-◌, ◌^◌, List, [], ◌∷◌, length, Result, Ok, Err}
+use Rattle.std.specs.Prelude.{◌≡◌, ◌⊎◌, ℕ, ◌-◌, ◌^◌, List, [], ◌∷◌, ◌++◌, length, Result, Ok, Err}
 use Rattle.std.specs.List.{AllByRecursion}
 use Rattle.sv_connection.specs.Asking.{EditsOnce}
 use Rattle.sv_connection.specs.Figures.{figures_of}
 use Rattle.sv_connection.specs.Known.{AreAtRest, Known, place_in}
-use Rattle.sv_connection.specs.Loops.{Goes, Refuses}
+use Rattle.sv_connection.specs.Loops.{Goes, IsTried, Refuses}
 use Rattle.sv_connection.specs.Notes.{Answers, Edits, NoneWaits, Note, Of, Reports, Ticks}
 use Rattle.sv_connection.specs.Polling.{Answer, Polling}
-use Rattle.sv_connection.specs.Slots.{Action, Closes}
+use Rattle.sv_connection.specs.Slots.{Closes, EndsUntold, OpensUntold}
 use Rattle.sv_connection.specs.Ways.{Ways}
 use Rattle.sv_connection.specs.declared.event_loop.EventLoop.{EventLoop}
 use Rattle.sv_connection.specs.declared.poller.PollEvent.{PollEvent}
@@ -20,18 +20,14 @@ use Rattle.sv_run.specs.declared.step_fault.StepFault.{StepFault}
 use Rattle.sv_run.specs.declared.step_fault.StepFault.TheVariants.{NoMemory}
 use Rattle.sv_wire.specs.declared.inbox.Awaited.{Awaited}
 
--- What is done of connections. None is closed without its event.
+-- What is done of connections. None is opened or closed without its event.
 abbrev pub IsOfConnections : {S : Type 0} → Note S → Type 0
+IsOfConnections (Of number OpensUntold) = ⊥
+IsOfConnections (Of number (EndsUntold cause stream closing)) = ⊥
 IsOfConnections (Of number (Closes stream closing)) = ⊥
 IsOfConnections (Of number action) = Unit {0}
 IsOfConnections (NoneWaits number) = Unit {0}
 IsOfConnections other = ⊥
-
--- An event of a connection.
-abbrev pub IsOfConnection : Happening → Type 0
-IsOfConnection (Tick moment) = ⊥
-IsOfConnection (Edited path edit) = ⊥
-IsOfConnection other = Unit {0}
 
 -- A round: the event that the poller reports, and what is done for it.
 pub record Round (S : Type 0) : Type 0 where
@@ -56,12 +52,13 @@ module _ {S : Type 0} where
   IsRound Asked known notes = IsQuery known notes
   IsRound Stop known notes = ⊥
 
-  -- Which event may be refused after these notes.
-  abbrev pub MayBeRefused : PollEvent → Known S → List (Note S) → Happening → Type 0
-  MayBeRefused Second known notes (Tick moment) = notes ≡ []
-  MayBeRefused Asked known notes (Edited path edit) = notes ≡ Answers (figures_of known) ∷ []
-  MayBeRefused Asked known notes other = ⊥
-  MayBeRefused event known notes happening = IsRound event known notes × IsOfConnection happening
+-- Which event may be refused in a round, after these notes.
+abbrev pub IsRefusedIn : {R N C S : Type 0} → PollEvent → Known S → List (Note S) → EventLoop R N C S → Happening → Type 0
+IsRefusedIn Second known notes now (Tick moment) = notes ≡ []
+IsRefusedIn Asked known notes now (Edited path edit) = notes ≡ Answers (figures_of known) ∷ []
+IsRefusedIn Asked known notes now other = ⊥
+IsRefusedIn {S = S} event known notes now happening =
+    (first last : List (Note S)) × (notes ≡ first ++ last) × IsRound event known first × IsTried now last happening
 
 module _ {R N C S : Type 0} (ways : Ways S) (steps : Reacting R) (awaits : R → ℕ → Awaited) (tells : C → ℕ → C → Type 0) (polls : Polling N S) where
   -- Notes of connections lead from the loop before to the loop after, whose connections are at rest if they were
@@ -71,15 +68,16 @@ module _ {R N C S : Type 0} (ways : Ways S) (steps : Reacting R) (awaits : R →
       (notes : List (Note S)) × AllByRecursion IsOfConnections notes × Goes ways steps awaits tells polls before notes after
       × (AreAtRest (place_in before.table) → AreAtRest (place_in after.table))
   Moves before (Err fault) after =
-      (notes : List (Note S)) × (middle : EventLoop R N C S) × AllByRecursion IsOfConnections notes × Goes ways steps awaits tells polls before notes middle
-      × (((fault ≡ NoMemory) × (after ≡ middle))
-      ⊎ ((happening : Happening) × IsOfConnection happening × Refuses ways steps awaits tells polls middle happening fault after))
+      (notes last : List (Note S)) × (middle : EventLoop R N C S) × AllByRecursion IsOfConnections notes
+      × Goes ways steps awaits tells polls before (notes ++ last) middle
+      × (((last ≡ []) × (fault ≡ NoMemory) × (after ≡ middle))
+      ⊎ ((happening : Happening) × IsTried middle last happening × Refuses ways steps awaits tells polls middle happening fault after))
 
   -- A round ends with a fault: after these notes an event was refused, or memory ran out.
   abbrev pub FailsIn : PollEvent → Known S → List (Note S) → StepFault → EventLoop R N C S → EventLoop R N C S → Type 0
   FailsIn event known notes fault middle after =
       ((fault ≡ NoMemory) × (after ≡ middle) × IsRound event known notes)
-      ⊎ ((happening : Happening) × MayBeRefused event known notes happening × Refuses ways steps awaits tells polls middle happening fault after)
+      ⊎ ((happening : Happening) × IsRefusedIn event known notes middle happening × Refuses ways steps awaits tells polls middle happening fault after)
 
   -- What is done for an event of the poller.
   abbrev pub TakesEvent : PollEvent → EventLoop R N C S → Result (Unit {0}) StepFault → EventLoop R N C S → Type 0

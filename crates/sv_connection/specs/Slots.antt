@@ -42,6 +42,10 @@ pub data Action (S : Type 0) : Type 0 where
   Arms : Action S
   -- It ends for this reason: its stream is closed in this way, and the handler takes the event.
   Ends : CloseReason → S → Closing → Reaction → Action S
+  -- It is opened, and the handler refuses the event.
+  OpensUntold : Action S
+  -- It ends so, and the handler refuses the event.
+  EndsUntold : CloseReason → S → Closing → Action S
   -- Its stream is closed before it was opened.
   TurnsAway : S → Closing → Action S
   -- Its stream is closed in this way, and the handler takes no event.
@@ -83,6 +87,8 @@ module _ {S : Type 0} where
         accepted ≡ stream
     Leads (Accepted stream) (Opens reaction) (Open after) =
         after ≡ fresh stream
+    Leads (Accepted stream) OpensUntold (Open after) =
+        after ≡ fresh stream
     Leads (Accepted stream) (TurnsAway closed closing) Over =
         (closed ≡ stream) × (closing ≡ AtOnce)
     Leads (Open at) (Reads bytes) (Open after) =
@@ -105,6 +111,8 @@ module _ {S : Type 0} where
     Leads (Open at) Arms (Open after) =
         Needs at × ways.arms at.stream after.stream × (after ≡ record at { stream = after.stream; rests = true })
     Leads (Open at) (Ends cause stream closing reaction) Over =
+        Causes at cause stream × (closing ≡ closing_of at cause)
+    Leads (Open at) (EndsUntold cause stream closing) Over =
         Causes at cause stream × (closing ≡ closing_of at cause)
     Leads (Open at) (Closes stream closing) Over =
         (Causes at GivenUp stream ⊎ Causes at WriteFails stream) × (closing ≡ last_closing at)

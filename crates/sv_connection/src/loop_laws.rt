@@ -47,7 +47,7 @@ pub fn what_is_done_is_events<R: EventHandler, N: Poller, C: Clock>()
     ensures { NotesAreReactions N.Peer.ways R.steps R.awaited C.tells N.polls }
 {}
 
-/// Each connection is served as if it were the only one. Its events, their results and times, and the calls of its
+/// Each connection is served as if it were the only one, unless the handler refuses its opening. Its events, their results and times, and the calls of its
 /// stream with each read cut into its pieces, are those of turns of a connection that is served by itself. All turns
 /// but the last are written completely, and the last one up to some byte.
 pub fn each_is_served_as_if_alone<P: Peer>()

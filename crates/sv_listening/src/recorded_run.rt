@@ -35,25 +35,9 @@ pub fn run_recorded<H: Net + Clock + Files + Eprint, W: Write, R: EventHandler +
         return (Err(file_fault(alloc, name)), handler);
     };
     let record = Record::new(alloc, WriteSink::new(file), StandardError { host });
-    let mut recorder = Recorder::new(handler, record);
-    let served = run_controlled(alloc, host, writer, options, &mut recorder);
+    let recorder = Recorder::new(handler, record);
+    let (served, recorder) = run_controlled(alloc, host, writer, options, recorder);
     (served, recorder.into_within())
-}
-
-/// Serves as [`run_controlled`] does, and returns the handler.
-///
-/// # Errors
-/// Those of [`run_controlled`].
-pub fn run_plainly<H: Net + Clock + Files, W: Write, R: EventHandler + Queries>(
-    alloc: Global,
-    host: &H,
-    writer: &mut W,
-    options: ListenOptions<'_>,
-    handler: R,
-) -> (Result<(), CommandFault>, R) {
-    let mut handler = handler;
-    let served = run_controlled(alloc, host, writer, options, &mut handler);
-    (served, handler)
 }
 
 // Opens a file to append to it, and creates it if it is missing.

@@ -7,7 +7,7 @@ use std::io::Write;
 use std::net::{Net, SocketAddr};
 use std::rt::Files;
 use std::time::Clock;
-use sv_connection::{Limits, Queries, WithoutQueries, run_event_loop};
+use sv_connection::{Limits, LoopEnd, Queries, WithoutQueries, run_event_loop};
 use sv_program::{CommandFault, print_line};
 use sv_readiness::{Listening, RoundClock, Sockets};
 use sv_run::EventHandler;
@@ -36,15 +36,13 @@ pub fn listen_and_run<H: Net + Clock, W: Write, R: EventHandler>(
     address: SocketAddr,
     handler: R,
 ) -> (Result<(), CommandFault>, R) {
-    let mut without_queries = WithoutQueries::new(handler);
-    let served = match Listening::at(host, address) {
-        Ok(listening) => {
-            let limits = Limits::standard();
-            tell_and_run(alloc, host, writer, listening, limits, &mut without_queries)
-        },
-        Err(_) => Err(CommandFault::Socket),
+    let Ok(listening) = Listening::at(host, address) else {
+        return (Err(CommandFault::Socket), handler);
     };
-    (served, without_queries.into_within())
+    let limits = Limits::standard();
+    let without_queries = WithoutQueries::new(handler);
+    let (served, handler) = tell_and_run(alloc, host, writer, listening, limits, without_queries);
+    (served, handler.into_within())
 }
 
 /// Serves as [`listen_and_run`] does, with these options. If a socket file is named, it also answers queries there,
@@ -54,19 +52,19 @@ pub fn listen_and_run<H: Net + Clock, W: Write, R: EventHandler>(
 /// # Errors
 /// [`CommandFault::Socket`]; then [`CommandFault::File`] for a socket file that cannot be used; then those of
 /// [`listen_and_run`].
-pub(crate) fn run_controlled<H: Net + Clock + Files, W: Write, R: EventHandler + Queries>(
+pub fn run_controlled<H: Net + Clock + Files, W: Write, R: EventHandler + Queries>(
     alloc: Global,
     host: &H,
     writer: &mut W,
     options: ListenOptions<'_>,
-    handler: &mut R,
-) -> Result<(), CommandFault> {
+    handler: R,
+) -> (Result<(), CommandFault>, R) {
     let Ok(mut listening) = Listening::at(host, options.address) else {
-        return Err(CommandFault::Socket);
+        return (Err(CommandFault::Socket), handler);
     };
     match take_lines(alloc, host, &mut listening, options.control) {
         Ok(()) => tell_and_run(alloc, host, writer, listening, options.limits, handler),
-        Err(fault) => Err(fault),
+        Err(fault) => (Err(fault), handler),
     }
 }
 
@@ -77,11 +75,11 @@ fn tell_and_run<H: Net + Clock, W: Write, R: EventHandler + Queries>(
     writer: &mut W,
     listening: Listening,
     limits: Limits,
-    handler: &mut R,
-) -> Result<(), CommandFault> {
+    handler: R,
+) -> (Result<(), CommandFault>, R) {
     match tell_address(alloc, writer, &listening) {
         Ok(()) => run_listening(alloc, host, listening, limits, handler),
-        Err(fault) => Err(fault),
+        Err(fault) => (Err(fault), handler),
     }
 }
 
@@ -120,31 +118,37 @@ fn run_listening<H: Net + Clock, R: EventHandler + Queries>(
     host: &H,
     listening: Listening,
     limits: Limits,
-    handler: &mut R,
-) -> Result<(), CommandFault> {
+    handler: R,
+) -> (Result<(), CommandFault>, R) {
     let Ok(registry) = listening.registry() else {
-        return Err(CommandFault::Socket);
+        return (Err(CommandFault::Socket), handler);
     };
     let moment = Cell::new(0);
-    let Ok(mut sockets) = Sockets::new(alloc, host, &registry, listening, &moment) else {
-        return Err(CommandFault::NoMemory);
-    };
-    run_sockets(alloc, &moment, &mut sockets, limits, handler)
+    match Sockets::new(alloc, host, &registry, listening, &moment) {
+        Ok(sockets) => run_sockets(alloc, &moment, sockets, limits, handler),
+        Err(_) => (Err(CommandFault::NoMemory), handler),
+    }
 }
 
+// Serves the connections of a poller, and runs lingering close to its end.
 fn run_sockets<H: Clock, R: EventHandler + Queries>(
     alloc: Global,
     moment: &Cell<u64>,
-    sockets: &mut Sockets<'_, H>,
+    sockets: Sockets<'_, H>,
     limits: Limits,
-    handler: &mut R,
-) -> Result<(), CommandFault> {
-    let mut clock = RoundClock::new(moment);
-    let ran = run_event_loop(alloc, limits, handler, sockets, &mut clock);
-    sockets.read_out();
-    match ran {
-        Ok(()) if sockets.has_failed() => Err(CommandFault::Socket),
+    handler: R,
+) -> (Result<(), CommandFault>, R) {
+    let LoopEnd {
+        result,
+        handler,
+        mut poller,
+        ..
+    } = run_event_loop(alloc, limits, handler, sockets, RoundClock::new(moment));
+    poller.read_out();
+    let served = match result {
+        Ok(()) if poller.has_failed() => Err(CommandFault::Socket),
         Ok(()) => Ok(()),
         Err(fault) => Err(front_fault_of(fault)),
-    }
+    };
+    (served, handler)
 }

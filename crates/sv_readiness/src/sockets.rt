@@ -354,7 +354,7 @@ impl<'a, C: Clock> Poller for Sockets<'a, C> {
 
     // Returns the second that was read last. It is current: the clock is read after each wait and after every
     // `MAX_READY_BEFORE_READING` events.
-    fn seconds(&mut self) -> u64 {
+    fn seconds(&self) -> u64 {
         self.now
     }
 }
