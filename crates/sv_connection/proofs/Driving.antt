@@ -1,5 +1,5 @@
 -- A connection that is driven, opened, given up or closed, among the others.
-use Rattle.std.proofs.Common.{◌≡◌, ◌≢◌, ◌⊎◌, IsSome, is_some, length, ℕ, ◌+◌, ◌<◌, ◌≤◌, Bool, true, false, inl, inr, List, [], ◌∷◌, ◌++◌, Option, None, Some, Result, Ok, Err, refl, sym, ap, ◌∙◌, subst, flat_map, map, append-nil, arith}
+use Rattle.std.proofs.Common.{◌≡◌, ◌≢◌, IsSome, is_some, length, ℕ, ◌+◌, ◌<◌, ◌≤◌, Bool, true, false, inl, inr, List, [], ◌∷◌, ◌++◌, Option, None, Some, Result, Ok, Err, refl, sym, ap, ◌∙◌, subst, flat_map, map, arith}
 use Rattle.std.proofs.lemmas.List.{map-append}
 use Rattle.std.specs.List.{AllByRecursion}
 use Rattle.std.specs.Map.{lookup, set_value}
@@ -10,7 +10,7 @@ use Rattle.sv_connection.specs.Connection.{AreTold}
 use Rattle.sv_connection.specs.Course.{Along}
 use Rattle.sv_connection.specs.Ending.{ClosesOne, EndsOne, Leaves, TurnsOneAway}
 use Rattle.sv_connection.specs.Holding.{weight, weight_in, weight_or_none}
-use Rattle.sv_connection.specs.Known.{AreAtRest, AreBelow, ForgetsOne, Known, OpensNext, OthersStay, found, place_in}
+use Rattle.sv_connection.specs.Known.{AreBelow, ForgetsOne, Known, OpensNext, OthersStay, found, place_in}
 use Rattle.sv_connection.specs.Loops.{Goes, IsTried, times_of}
 use Rattle.sv_connection.specs.Notes.{Does, NoneWaits, Note, Of, Talks, moment_of, over_by, poll_of}
 use Rattle.sv_connection.specs.Polling.{Accept, AreCalled, Close, PollerCall, Polling}
@@ -32,11 +32,10 @@ use Rattle.sv_run.specs.Reacting.{Reacting}
 use Rattle.sv_run.specs.declared.happening.Reaction.{Reaction}
 use Rattle.sv_run.specs.declared.step_fault.StepFault.{StepFault}
 use Rattle.sv_run.specs.declared.step_fault.StepFault.TheVariants.{NoMemory}
-use Rattle.sv_text.specs.declared.no_memory.NoMemory.{NoMemory as OutOfMemory}
-use Rattle.sv_connection.proofs.AloneLemmas.{all_join, flat_join, flat_one_more}
+use Rattle.sv_connection.proofs.AloneLemmas.{all_join, flat_one_more}
 use Rattle.sv_connection.proofs.Joining.{talks_join}
 use Rattle.sv_connection.proofs.Looping.{goes_by, goes_none, moves_none, moves_same, none_last, open_notes, open_silent, refused_as}
-use Rattle.sv_connection.proofs.Placing.{accepted_next, all_rest, both_stay, new, old, place_next, place_open, place_over, places_stay, set_found, set_stays, used_next}
+use Rattle.sv_connection.proofs.Placing.{accepted_next, all_rest, both_stay, new, place_next, place_open, place_over, places_stay, set_found, set_stays, used_next}
 use Rattle.sv_wire.specs.declared.inbox.Awaited.{Awaited}
 
 some_same : {A : Type 0} (x y : A) → ◌≡◌ {A = Option A} (Some x) (Some y) → x ≡ y

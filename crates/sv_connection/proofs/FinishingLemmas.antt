@@ -1,5 +1,5 @@
 -- The end of the event loop.
-use Rattle.std.proofs.Common.{◌≡◌, ◌≢◌, ◌⊎◌, ◌==◌, IsSome, length, ℕ, ◌+◌, ◌<◌, Bool, true, false, nat_eq, inl, inr, List, [], ◌∷◌, ◌++◌, Option, None, Some, Result, refl, sym, ap, ◌∙◌, subst, flat_map, map, arith}
+use Rattle.std.proofs.Common.{◌≡◌, ◌⊎◌, ◌==◌, IsSome, length, ℕ, ◌+◌, ◌<◌, Bool, true, false, nat_eq, inl, inr, List, [], ◌∷◌, ◌++◌, Option, None, Some, Result, refl, sym, ap, ◌∙◌, subst, flat_map, map, arith}
 use Rattle.std.proofs.lemmas.List.{map-append}
 use Rattle.std.specs.List.{AllByRecursion}
 use Rattle.std.specs.Map.{lookup, set_value}
@@ -9,7 +9,6 @@ use Rattle.sv_connection.specs.Course.{Along}
 use Rattle.sv_connection.specs.Ending.{ClosesLast, Leaves, TurnsOneAway}
 use Rattle.sv_connection.specs.Finishing.{EndsAll, Finishes, IsFinishing, IsWriting, SendsOut, WritesOn, WritesOutOne}
 use Rattle.sv_connection.specs.Known.{AreBelow, Known, OthersStay, found, none_left, place_in}
-use Rattle.sv_connection.specs.Loops.{Goes}
 use Rattle.sv_connection.specs.Notes.{Answers, Note, Of, Reports, TakesAll, Went, moments, poll_of}
 use Rattle.sv_connection.specs.Polling.{Answer, AreCalled, Close, PollerCall, Polling, Wait}
 use Rattle.sv_connection.specs.Rounds.{ServesAll}
@@ -31,10 +30,10 @@ use Rattle.sv_connection.specs.declared.step.Step.TheVariants.{GoesOn, Rests, Is
 use Rattle.sv_run.specs.Reacting.{Reacting}
 use Rattle.sv_run.specs.declared.step_fault.StepFault.{StepFault}
 use Rattle.sv_connection.proofs.AloneLemmas.{all_join, flat_one_more}
-use Rattle.sv_connection.proofs.Driving.{away_goes, away_loop}
+use Rattle.sv_connection.proofs.Driving.{away_goes}
 use Rattle.sv_connection.proofs.Joining.{along_join, goes_join, went_join}
 use Rattle.sv_connection.proofs.Looping.{goes_by, goes_none, open_silent}
-use Rattle.sv_connection.proofs.Placing.{both_stay, new, old, place_open, place_over, places_stay, set_found, set_stays}
+use Rattle.sv_connection.proofs.Placing.{both_stay, place_open, place_over, places_stay, set_found, set_stays}
 use Rattle.sv_wire.specs.declared.inbox.Awaited.{Awaited}
 
 some_same : {A : Type 0} (x y : A) → ◌≡◌ {A = Option A} (Some x) (Some y) → x ≡ y

@@ -17,13 +17,13 @@ use Rattle.sv_run.specs.declared.step_fault.StepFault.{StepFault}
 use Rattle.sv_connection.proofs.AloneLemmas.{flat_join}
 use Rattle.sv_wire.specs.declared.inbox.Awaited.{Awaited}
 
-told_join : {C : Type 0} (tells : C → ℕ → C → Type 0) (before between after : C) (told more : List ℕ)
+pub told_join : {C : Type 0} (tells : C → ℕ → C → Type 0) (before between after : C) (told more : List ℕ)
     → AreTold tells before told between → AreTold tells between more after → AreTold tells before (told ++ more) after
 told_join {C} tells before between after [] more is later = let P : C → Type 0 = λ c. AreTold tells c more after in subst P is later
 told_join tells before between after (moment ∷ told) more (middle, here, front) later =
     (middle, here, told_join tells middle between after told more front later)
 
-called_join : {N S : Type 0} (polls : Polling N S) (before between after : N) (calls more : List (PollerCall S))
+pub called_join : {N S : Type 0} (polls : Polling N S) (before between after : N) (calls more : List (PollerCall S))
     → AreCalled polls before calls between → AreCalled polls between more after → AreCalled polls before (calls ++ more) after
 called_join {N} polls before between after [] more is later = let P : N → Type 0 = λ n. AreCalled polls n more after in subst P is later
 called_join polls before between after (call ∷ calls) more (middle, here, front) later =

@@ -2,19 +2,19 @@
 use Rattle.std.proofs.Common.{◌≡◌, ◌≢◌, ℕ, true, false, List, [], ◌∷◌, ◌++◌, refl, sym, ap, ◌∙◌, subst, inl, append_assoc, append-nil, flat_map}
 use Rattle.sv_connection.specs.Course.{Along}
 use Rattle.sv_connection.specs.LoopLaws.{calls_of, handed_of, sends_of}
-use Rattle.sv_connection.specs.Slots.{Accepted, Accepts, Arms, Action, Closes, Ends, Hands, Leads, Needs, Open, Opens, OpensUntold, Over, Blocks, Slot, Reads, TurnsAway, Unused, Writes}
+use Rattle.sv_connection.specs.Slots.{Accepted, Accepts, Arms, Action, Hands, Leads, Needs, Open, Opens, OpensUntold, Over, Blocks, Slot, Reads, TurnsAway, Unused, Writes}
 use Rattle.sv_connection.specs.States.{ConnectionState}
 use Rattle.sv_connection.specs.Ways.{Ways}
 use Rattle.sv_streams.specs.Calls.{given, taken}
 use Rattle.sv_streams.proofs.CallJoins.{given_join, taken_join}
 
-abbrev ahead_of : {S : Type 0} → Slot S → List ℕ
+abbrev pub ahead_of : {S : Type 0} → Slot S → List ℕ
 ahead_of Unused = []
 ahead_of (Accepted stream) = []
 ahead_of (Open at) = at.ahead
 ahead_of Over = []
 
-abbrev unsent_of : {S : Type 0} → Slot S → List ℕ
+abbrev pub unsent_of : {S : Type 0} → Slot S → List ℕ
 unsent_of Unused = []
 unsent_of (Accepted stream) = []
 unsent_of (Open at) = at.unsent
@@ -29,7 +29,7 @@ module _ {S : Type 0} (ways : Ways S) where
   no_unused before action leads = absurd leads
 
   -- A stream was accepted, or the connection is open.
-  abbrev is_yet : Slot S → Type 0
+  abbrev pub is_yet : Slot S → Type 0
   is_yet Unused = ⊥
   is_yet (Accepted stream) = Unit {0}
   is_yet (Open at) = Unit {0}
@@ -76,50 +76,53 @@ module _ {S : Type 0} (ways : Ways S) where
   step_sent (Open b) (Opens reaction) (Accepted accepted) yet leads = absurd leads
   step_sent before action after yet leads = absurd leads
 
-  given_more : (before between : Slot S) (action : Action S) (actions : List (Action S)) (at : ConnectionState S) → is_yet between → Leads ways before action between
-      → ahead_of between ++ given (flat_map calls_of actions) ≡ flat_map handed_of actions ++ at.ahead
-      → ahead_of before ++ given (calls_of action ++ flat_map calls_of actions) ≡ (handed_of action ++ flat_map handed_of actions) ++ at.ahead
-  given_more before between action actions at yet leads later =
+  not_yet : (actions : List (Action S)) (after : Slot S) → is_yet after → Along ways Over actions after → ⊥
+  not_yet actions after yet along = let P : Slot S → Type 0 = λ s. is_yet s in subst P (over_stays actions after along).1 yet
+
+  given_more : (before between after : Slot S) (action : Action S) (actions : List (Action S)) → is_yet between → Leads ways before action between
+      → ahead_of between ++ given (flat_map calls_of actions) ≡ flat_map handed_of actions ++ ahead_of after
+      → ahead_of before ++ given (calls_of action ++ flat_map calls_of actions) ≡ (handed_of action ++ flat_map handed_of actions) ++ ahead_of after
+  given_more before between after action actions yet leads later =
       ap (λ text. ahead_of before ++ text) (given_join (calls_of action) (flat_map calls_of actions))
       ∙ sym (append_assoc (ahead_of before) (given (calls_of action)) (given (flat_map calls_of actions)))
       ∙ ap (λ text. text ++ given (flat_map calls_of actions)) (step_given before action between yet leads)
       ∙ append_assoc (handed_of action) (ahead_of between) (given (flat_map calls_of actions))
       ∙ ap (λ text. handed_of action ++ text) later
-      ∙ sym (append_assoc (handed_of action) (flat_map handed_of actions) at.ahead)
+      ∙ sym (append_assoc (handed_of action) (flat_map handed_of actions) (ahead_of after))
 
-  pub course_given : (before : Slot S) (actions : List (Action S)) (at : ConnectionState S) → Along ways before actions (Open at)
-      → ahead_of before ++ given (flat_map calls_of actions) ≡ flat_map handed_of actions ++ at.ahead
-  course_given before [] at is = append-nil (ahead_of before) ∙ sym (ap ahead_of is)
-  course_given before (action ∷ actions) at (Unused, leads, later) = absurd (no_unused before action leads)
-  course_given before (action ∷ actions) at (Accepted stream, leads, later) =
-      given_more before (Accepted stream) action actions at tt leads (course_given (Accepted stream) actions at later)
-  course_given before (action ∷ actions) at (Open b, leads, later) =
-      given_more before (Open b) action actions at tt leads (course_given (Open b) actions at later)
-  course_given before (action ∷ actions) at (Over, leads, later) = let no : Open at ≡ Over = (over_stays actions (Open at) later).1 in absurd (cc)
+  pub course_given : (before after : Slot S) (actions : List (Action S)) → is_yet after → Along ways before actions after
+      → ahead_of before ++ given (flat_map calls_of actions) ≡ flat_map handed_of actions ++ ahead_of after
+  course_given before after [] yet is = append-nil (ahead_of before) ∙ sym (ap ahead_of is)
+  course_given before after (action ∷ actions) yet (Unused, leads, later) = absurd (no_unused before action leads)
+  course_given before after (action ∷ actions) yet (Accepted stream, leads, later) =
+      given_more before (Accepted stream) after action actions tt leads (course_given (Accepted stream) after actions yet later)
+  course_given before after (action ∷ actions) yet (Open b, leads, later) =
+      given_more before (Open b) after action actions tt leads (course_given (Open b) after actions yet later)
+  course_given before after (action ∷ actions) yet (Over, leads, later) = absurd (not_yet actions after yet later)
 
-  sent_more : (before between : Slot S) (action : Action S) (actions : List (Action S)) (at : ConnectionState S) → is_yet between → Leads ways before action between
-      → unsent_of between ++ flat_map sends_of actions ≡ taken (flat_map calls_of actions) ++ at.unsent
-      → unsent_of before ++ (sends_of action ++ flat_map sends_of actions) ≡ taken (calls_of action ++ flat_map calls_of actions) ++ at.unsent
-  sent_more before between action actions at yet leads later =
+  sent_more : (before between after : Slot S) (action : Action S) (actions : List (Action S)) → is_yet between → Leads ways before action between
+      → unsent_of between ++ flat_map sends_of actions ≡ taken (flat_map calls_of actions) ++ unsent_of after
+      → unsent_of before ++ (sends_of action ++ flat_map sends_of actions) ≡ taken (calls_of action ++ flat_map calls_of actions) ++ unsent_of after
+  sent_more before between after action actions yet leads later =
       sym (append_assoc (unsent_of before) (sends_of action) (flat_map sends_of actions))
       ∙ ap (λ text. text ++ flat_map sends_of actions) (step_sent before action between yet leads)
       ∙ append_assoc (taken (calls_of action)) (unsent_of between) (flat_map sends_of actions)
       ∙ ap (λ text. taken (calls_of action) ++ text) later
-      ∙ sym (append_assoc (taken (calls_of action)) (taken (flat_map calls_of actions)) at.unsent)
-      ∙ ap (λ text. text ++ at.unsent) (sym (taken_join (calls_of action) (flat_map calls_of actions)))
+      ∙ sym (append_assoc (taken (calls_of action)) (taken (flat_map calls_of actions)) (unsent_of after))
+      ∙ ap (λ text. text ++ unsent_of after) (sym (taken_join (calls_of action) (flat_map calls_of actions)))
 
-  pub course_sent : (before : Slot S) (actions : List (Action S)) (at : ConnectionState S) → Along ways before actions (Open at)
-      → unsent_of before ++ flat_map sends_of actions ≡ taken (flat_map calls_of actions) ++ at.unsent
-  course_sent before [] at is = append-nil (unsent_of before) ∙ sym (ap unsent_of is)
-  course_sent before (action ∷ actions) at (Unused, leads, later) = absurd (no_unused before action leads)
-  course_sent before (action ∷ actions) at (Accepted stream, leads, later) =
-      sent_more before (Accepted stream) action actions at tt leads (course_sent (Accepted stream) actions at later)
-  course_sent before (action ∷ actions) at (Open b, leads, later) =
-      sent_more before (Open b) action actions at tt leads (course_sent (Open b) actions at later)
-  course_sent before (action ∷ actions) at (Over, leads, later) = let no : Open at ≡ Over = (over_stays actions (Open at) later).1 in absurd (cc)
+  pub course_sent : (before after : Slot S) (actions : List (Action S)) → is_yet after → Along ways before actions after
+      → unsent_of before ++ flat_map sends_of actions ≡ taken (flat_map calls_of actions) ++ unsent_of after
+  course_sent before after [] yet is = append-nil (unsent_of before) ∙ sym (ap unsent_of is)
+  course_sent before after (action ∷ actions) yet (Unused, leads, later) = absurd (no_unused before action leads)
+  course_sent before after (action ∷ actions) yet (Accepted stream, leads, later) =
+      sent_more before (Accepted stream) after action actions tt leads (course_sent (Accepted stream) after actions yet later)
+  course_sent before after (action ∷ actions) yet (Open b, leads, later) =
+      sent_more before (Open b) after action actions tt leads (course_sent (Open b) after actions yet later)
+  course_sent before after (action ∷ actions) yet (Over, leads, later) = absurd (not_yet actions after yet later)
 
   -- The last action of a number that is over.
-  abbrev EndsBy : Slot S → List (Action S) → Type 0
+  abbrev pub EndsBy : Slot S → List (Action S) → Type 0
   EndsBy before actions =
       (front : List (Action S)) × (last : Action S) × (place : Slot S) × (actions ≡ front ++ last ∷ []) × Along ways before front place × Leads ways place last Over
 

@@ -7,6 +7,7 @@ mod FinishingLemmas
 mod HoldingLemmas
 mod Joining
 mod LawLemmas
+mod LoopRunning
 mod Looping
 mod PieceLemmas
 mod Placing

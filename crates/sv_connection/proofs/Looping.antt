@@ -1,15 +1,15 @@
 -- One step of the event loop after another.
-use Rattle.std.proofs.Common.{◌≡◌, ◌≢◌, ◌⊎◌, ℕ, ◌+◌, ◌<◌, Bool, true, false, cond, nat_eq, eqb-true, inl, inr, List, [], ◌∷◌, ◌++◌, None, Some, Result, Ok, Err, refl, sym, ap, ◌∙◌, subst, flat_map, map, append_assoc, append-nil, arith}
+use Rattle.std.proofs.Common.{◌≡◌, ◌≢◌, ℕ, Bool, true, false, nat_eq, eqb-true, inl, List, [], ◌∷◌, ◌++◌, Result, Ok, Err, refl, sym, ap, ◌∙◌, subst, flat_map, map, append_assoc, append-nil}
 use Rattle.std.proofs.lemmas.Bool.{cond-true, cond-false}
 use Rattle.std.specs.List.{AllByRecursion}
 use Rattle.std.specs.Prelude.{IsErrAnd}
 use Rattle.sv_connection.specs.Course.{Along}
-use Rattle.sv_connection.specs.Known.{AreAtRest, place_in}
+use Rattle.sv_connection.specs.Known.{place_in}
 use Rattle.sv_connection.specs.Loops.{Goes}
-use Rattle.sv_connection.specs.Notes.{NoneWaits, Note, Of, Went, action_in, actions_of, poll_in, poll_of, poller_calls}
-use Rattle.sv_connection.specs.Polling.{AreCalled, Close, PollerCall, Polling}
+use Rattle.sv_connection.specs.Notes.{Note, Of, Went, actions_of, poll_of, poller_calls}
+use Rattle.sv_connection.specs.Polling.{AreCalled, PollerCall, Polling}
 use Rattle.sv_connection.specs.Rounds.{IsOfConnections, Moves}
-use Rattle.sv_connection.specs.Slots.{Accepted, Accepts, Action, Arms, Blocks, Closes, Ends, Hands, Leads, Open, Opens, Over, Reads, Slot, TurnsAway, Unused, Writes}
+use Rattle.sv_connection.specs.Slots.{Accepted, Accepts, Action, Arms, Blocks, Hands, Leads, Open, Over, Reads, Unused, Writes}
 use Rattle.sv_connection.specs.States.{ConnectionState}
 use Rattle.sv_connection.specs.Ways.{Ways}
 use Rattle.sv_connection.specs.declared.event_loop.EventLoop.{EventLoop}

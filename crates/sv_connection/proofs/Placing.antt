@@ -1,11 +1,11 @@
 -- The slots of numbers in the table.
-use Rattle.std.proofs.Common.{◌≡◌, ◌≢◌, ◌&&◌, IsSome, ℕ, ◌+◌, ◌<◌, ◌≤◌, Bool, true, false, cond, nat_eq, ltb, eqb-true, eq-eqb, List, [], ◌∷◌, ◌++◌, Option, None, Some, refl, sym, ap, ◌∙◌, subst, flat_map, map, append-nil, arith}
+use Rattle.std.proofs.Common.{◌≡◌, ◌≢◌, IsSome, ℕ, ◌+◌, ◌<◌, ◌≤◌, Bool, true, false, cond, nat_eq, ltb, eqb-true, eq-eqb, List, Option, None, Some, refl, sym, ap, ◌∙◌, subst, arith}
 use Rattle.std.proofs.lemmas.Bool.{cond-true, cond-false, lt-ltb, ltb-false, ltb-true}
 use Rattle.std.specs.Cmp.{nat_eq_equiv}
 use Rattle.std.specs.Map.{lookup, set_value}
 use Rattle.std.proofs.lemmas.Map.{lookup-set_value}
-use Rattle.sv_connection.specs.Known.{AreAtRest, Known, OthersStay, accepted_or_unused, found, held_or_over, none_left, place_in}
-use Rattle.sv_connection.specs.Slots.{Accepted, Open, Over, Slot, Unused, fresh}
+use Rattle.sv_connection.specs.Known.{AreAtRest, Known, OthersStay, accepted_or_unused, found, held_or_over, place_in}
+use Rattle.sv_connection.specs.Slots.{Accepted, Open, Over, Slot, Unused}
 use Rattle.sv_connection.specs.States.{ConnectionState}
 
 pub same_number : (number : ℕ) → nat_eq number number ≡ true

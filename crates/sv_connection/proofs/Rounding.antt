@@ -4,10 +4,10 @@ use Rattle.std.specs.Prelude.{IsErrAnd}
 use Rattle.sv_connection.specs.Known.{AreAtRest, none_left, place_in}
 use Rattle.sv_connection.specs.LoopRuns.{round_notes}
 use Rattle.sv_connection.specs.Loops.{Goes}
-use Rattle.sv_connection.specs.Notes.{Note, Reports}
+use Rattle.sv_connection.specs.Notes.{Reports}
 use Rattle.sv_connection.specs.Polling.{Polling, Wait}
-use Rattle.sv_connection.specs.Rounds.{FailsIn, IsRound, Round, Rounds, ServesAll, TakesEvent}
-use Rattle.sv_connection.specs.Slots.{Open, Over, Slot, Unused}
+use Rattle.sv_connection.specs.Rounds.{IsRound, Round, Rounds, ServesAll, TakesEvent}
+use Rattle.sv_connection.specs.Slots.{Open, Over, Unused}
 use Rattle.sv_connection.specs.States.{ConnectionState}
 use Rattle.sv_connection.specs.Ways.{Ways}
 use Rattle.sv_connection.specs.declared.event_loop.EventLoop.{EventLoop}

@@ -1,10 +1,9 @@
 -- What is done for an event of the poller.
-use Rattle.std.proofs.Common.{◌≡◌, ◌⊎◌, ℕ, inl, inr, List, [], ◌∷◌, ◌++◌, Result, Ok, Err, refl, sym, subst, append-nil}
+use Rattle.std.proofs.Common.{◌≡◌, ℕ, inl, inr, List, [], ◌∷◌, ◌++◌, Result, Ok, Err, refl, sym, subst, append-nil}
 use Rattle.std.specs.List.{AllByRecursion}
 use Rattle.std.specs.Prelude.{IsErrAnd}
 use Rattle.sv_connection.specs.Asking.{EditsOnce}
 use Rattle.sv_connection.specs.Figures.{figures_of}
-use Rattle.sv_connection.specs.Known.{AreAtRest, place_in}
 use Rattle.sv_connection.specs.Loops.{Goes, IsTried}
 use Rattle.sv_connection.specs.Notes.{Answers, Edits, Note, Ticks}
 use Rattle.sv_connection.specs.Polling.{Answer, Polling}

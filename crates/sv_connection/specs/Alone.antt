@@ -1,7 +1,7 @@
 -- Connections served alongside others, as turns of a connection that is served by itself.
 use Rattle.std.specs.Prelude.{◌≡◌, ℕ, ◌<◌, false, List, [], ◌∷◌, ◌++◌, flat_map, length, map, Ok}
 use Rattle.std.specs.List.{AllByRecursion, concat}
-use Rattle.sv_connection.specs.Turns.{AtClose, AtEnd, AtFailedRead, AtFailedWrite, Ending, GoesOn, IsEnding, Turn, brought, calls_of, last_answers, last_calls, last_events, piece_of}
+use Rattle.sv_connection.specs.Turns.{GoesOn, Turn, brought, calls_of, piece_of}
 use Rattle.sv_connection.specs.Turns as turn
 use Rattle.sv_connection.specs.Course.{Along}
 use Rattle.sv_connection.specs.LoopLaws.{end_calls}

@@ -88,9 +88,6 @@ module _ {R N C S : Type 0} (ways : Ways S) (steps : Reacting R) (awaits : R →
       (notes : List (Note S)) × (middle : EventLoop R N C S) × Goes ways steps awaits tells polls before notes middle
       × FailsIn event before.table notes fault middle after
 
-  abbrev pub PassesSecond : EventLoop R N C S → Result (Unit {0}) StepFault → EventLoop R N C S → Type 0
-  PassesSecond before result after = TakesEvent Second before result after
-
   -- Rounds that each leave all connections at rest.
   abbrev pub Rounds : EventLoop R N C S → List (Round S) → EventLoop R N C S → Type 0
   Rounds before [] after = after ≡ before

@@ -1,5 +1,5 @@
 -- The actions of a connection, and where they lead.
-use Rattle.std.specs.Prelude.{◌≡◌, ◌⊎◌, ℕ, ◌<◌, Bool, false, true, List, [], ◌++◌, length}
+use Rattle.std.specs.Prelude.{◌≡◌, ◌⊎◌, ℕ, ◌<◌, false, true, List, [], ◌++◌, length}
 use Rattle.sv_connection.specs.Closing.{closing_of, last_closing}
 use Rattle.sv_connection.specs.Phases.{is_closing, phase_after, under_way_after}
 use Rattle.sv_connection.specs.Pieces.{IsPiece}

@@ -2,9 +2,9 @@
 
 ghost use Rattle.std.specs.Prelude.{◌≡◌, ◌≢◌, Ok};
 ghost use Rattle.sv_connection.specs.Known.{none_left};
-ghost use Rattle.sv_connection.specs.Rounds.{AsksOnce, Moves, PassesSecond, ServesAll, TakesEvent, TicksOnce};
+ghost use Rattle.sv_connection.specs.Rounds.{AsksOnce, Moves, ServesAll, TakesEvent, TicksOnce};
 ghost use Rattle.sv_connection.specs.Whole.{Serves};
-ghost use Rattle.sv_connection.specs.declared.poller.PollEvent.TheVariants.{Stop};
+ghost use Rattle.sv_connection.specs.declared.poller.PollEvent.TheVariants.{Second, Stop};
 
 use crate::connection_table::ConnectionTable;
 use crate::limits::{ACCEPTED_AT_ONCE, Limits};
@@ -126,7 +126,7 @@ impl<P: Peer + Drop, R: EventHandler + Queries, N: Poller<Peer = P>, C: Clock> E
 impl<P: Peer + Drop, R: EventHandler, N: Poller<Peer = P>, C: Clock> EventLoop<R, N, C, P> {
     // Handles a second that has passed.
     fn pass_second(&mut self) -> Result<(), StepFault>
-        ensures { PassesSecond P.ways R.steps R.awaited C.tells N.polls self.old result self.new }
+        ensures { TakesEvent P.ways R.steps R.awaited C.tells N.polls Second self.old result self.new }
     {
         self.tick()?;
         self.give_up_late()?;

@@ -42,8 +42,9 @@ pub use limits::{
     WINDOW_SECONDS,
 };
 pub use loop_laws::{
-    bytes_are_kept, each_is_served_as_if_alone, ends_have_a_cause, limits_are_as_stated,
-    numbers_are_not_used_again, rest_is_for_something, rounds_are_one, what_is_done_is_events,
+    an_event_loop_is_a_run, bytes_are_kept, each_is_served_as_if_alone, ends_have_a_cause,
+    limits_are_as_stated, numbers_are_not_used_again, rest_is_for_something, rounds_are_one,
+    what_is_done_is_events,
 };
 pub use over::Over;
 pub use peer::{Peer, Tried};

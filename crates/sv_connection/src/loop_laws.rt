@@ -3,7 +3,9 @@
 ghost use Rattle.std.specs.Prelude.{◌≡◌};
 ghost use Rattle.sv_connection.specs.Alone.{ServedAsIfAlone};
 ghost use Rattle.sv_connection.specs.LoopLaws.{BytesAreKept, EndsHaveACause, NumbersAreNotUsedAgain, RestIsForSomething};
-ghost use Rattle.sv_connection.specs.LoopRuns.{NotesAreReactions, RoundsAreOne};
+ghost use Rattle.sv_connection.specs.LoopRuns.{AnEventLoopIsARun, NotesAreReactions, RoundsAreOne};
+ghost use Rattle.sv_run.specs.Contexts.{theory_of};
+ghost use Rattle.sv_run.specs.State.{State};
 
 use crate::limits::{
     ACCEPTED_AT_ONCE, BYTES_A_PIECE, BYTES_A_WINDOW, BYTES_AT_ONCE, CALLS_AT_ONCE, FINISH_SECONDS,
@@ -11,7 +13,7 @@ use crate::limits::{
 };
 use crate::peer::Peer;
 use crate::poller::Poller;
-use sv_run::EventHandler;
+use sv_run::{Context, EventHandler, Words};
 use sv_streams::{Clock, MAX_READS};
 
 /// The limits of this crate as numbers.
@@ -45,6 +47,14 @@ pub fn rounds_are_one<R: EventHandler, N: Poller, C: Clock>()
 /// The notes of all connections are events that the handler takes one after another, each with its reaction.
 pub fn what_is_done_is_events<R: EventHandler, N: Poller, C: Clock>()
     ensures { NotesAreReactions N.Peer.ways R.steps R.awaited C.tells N.polls }
+{}
+
+/// What an event loop does is a run, if the handler takes each event as a run of a container does. All events but
+/// perhaps the last are taken, at the times that the clock gives. Each stream that the poller gives is led only by the
+/// calls of its own connection until it is closed: the bytes read are those of its pieces and some that were not passed
+/// on, and the bytes written are those that the run sends to it, in order, all or a prefix.
+pub fn an_event_loop_is_a_run<R: EventHandler, N: Poller, C: Clock, X: Context, W: Words>()
+    ensures { (state_of : R → State X W) → AnEventLoopIsARun N.Peer.ways R.steps C.tells N.polls (theory_of X.path_of X.conduct W.draws) state_of R.awaited }
 {}
 
 /// Each connection is served as if it were the only one, unless the handler refuses its opening. Its events, their results and times, and the calls of its

@@ -14,7 +14,7 @@ use Rattle.sv_component.specs.Steps.{ComponentSteps}
 use Rattle.sv_context.proofs.Journals.{runs_unnoted}
 use Rattle.sv_context.specs.Answered.{Answers, Tells}
 use Rattle.sv_context.specs.Conduct.{asked_of, unnoted}
-use Rattle.sv_context.specs.Expiry.{Expires, ends_told}
+use Rattle.sv_context.specs.Expiry.{ends_told}
 use Rattle.sv_context.specs.Handled.{admitted, exchange_begun, state_in}
 use Rattle.sv_context.specs.Motion.{edits_alone_by}
 use Rattle.sv_context.specs.State.{ContextState, world_of}

@@ -6,6 +6,7 @@ mod Destined
 mod Ending
 mod Headline
 mod Living
+mod Looping
 mod OurContexts
 mod Outcomes
 mod Outliving

@@ -1,5 +1,5 @@
 -- Our contexts meet the requirements of runs.
-use Rattle.std.proofs.Common.{◌≡◌, ℕ, ◌*◌, List, [], ◌∷◌, Some, Result, Ok, Err, refl, sym, ap, ◌∙◌, subst, inl, inr}
+use Rattle.std.proofs.Common.{◌≡◌, ℕ, ◌*◌, List, [], ◌∷◌, Some, Result, Ok, Err, refl, sym, ap, subst, inl, inr}
 use Rattle.std.specs.List.{filter}
 use Rattle.sv_admission.specs.Admission.{outcome_in}
 use Rattle.sv_exchange.specs.Asked.{Asked}

@@ -1,5 +1,5 @@
 -- An answer without a dispatch calls no servlet and no filter.
-use Rattle.std.proofs.Common.{◌≡◌, ℕ, Bool, true, false, inl, inr, List, [], ◌∷◌, ◌++◌, length, Option, None, Some, refl, sym, ap, ◌∙◌, subst, append-nil}
+use Rattle.std.proofs.Common.{◌≡◌, ℕ, true, false, inl, inr, List, [], ◌∷◌, ◌++◌, length, Option, None, Some, refl, sym, ap, ◌∙◌, subst, append-nil}
 use Rattle.std.specs.Prelude.{codes}
 use Rattle.std.specs.List.{AllByRecursion}
 use Rattle.sv_exchange.specs.Asked.{Asked}
@@ -9,7 +9,6 @@ use Rattle.sv_admission.specs.declared.answer.TheConstants.{SEE_OTHER}
 use Rattle.sv_component.proofs.Running.{runs_grown}
 use Rattle.sv_component.specs.Runs.{IsRun, OfFilter, OfListener, OfServlet, Record}
 use Rattle.sv_component.specs.World.{World}
-use Rattle.sv_component.specs.declared.components.Named.{Named}
 use Rattle.sv_component.specs.Steps.{ComponentSteps}
 use Rattle.sv_headline.specs.Refused.{TheUndispatchedCallNone, is_dispatch, is_dispatched, servlets_and_filters}
 use Rattle.sv_context.specs.Answered.{Answered, Answers, SendsTo, Tells}
@@ -31,16 +30,15 @@ use Rattle.sv_tree.specs.SiteOfDescriptor.{site_of}
 use Rattle.sv_tree.proofs.Doing.{chosen_then}
 use Rattle.sv_tree.proofs.Hearing.{all_keep, all_keep_alone}
 use Rattle.sv_tree.proofs.Silence.{Silent, gives_silent, makes_silent, then_silent}
-use Rattle.sv_tree.specs.Does.{Does, ◌>>=◌, ◌>>◌, becomes, gives, makes}
+use Rattle.sv_tree.specs.Does.{Does, ◌>>◌, becomes, makes}
 use Rattle.sv_tree.specs.Endings.{keeps}
 use Rattle.sv_tree.specs.Laws.{is_of_listener}
 use Rattle.sv_tree.specs.Served.{Plain, Resets, ShowsError, breaks, plain_text, reset, sets, unless_committed}
 use Rattle.sv_tree.specs.Site.{Site}
 use Rattle.sv_tree.specs.State.{KeptError, State, on_exchange}
-use Rattle.sv_tree.specs.Telling.{all_told, hears}
+use Rattle.sv_tree.specs.Telling.{all_told}
 use Rattle.sv_uri.specs.declared.path.Canon.{Canon}
 use Rattle.sv_message.specs.Phrases.{phrase_of}
-use Rattle.sv_message.specs.declared.response.Response.{Response}
 
 -- ---- only calls of listeners
 

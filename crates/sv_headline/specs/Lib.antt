@@ -4,6 +4,7 @@ pub mod Cut
 pub mod Ends
 pub mod Headline
 pub mod Lives
+pub mod Loop
 pub mod Memory
 pub mod Order
 pub mod Record

@@ -8,7 +8,6 @@ use Rattle.sv_admission.specs.Held.{accessed, caller_held, session_held}
 use Rattle.sv_admission.specs.Judged.{login_step}
 use Rattle.sv_admission.specs.declared.answer.Answer.{Answer as Reply}
 use Rattle.sv_admission.specs.declared.answer.Answer.TheVariants as replies
-use Rattle.sv_component.specs.Call.{Call}
 use Rattle.sv_component.specs.Laws.{ComponentsMoved}
 use Rattle.sv_component.specs.Runs.{Record, record_entry}
 use Rattle.sv_component.specs.Steps.{ComponentSteps}

@@ -10,7 +10,6 @@ use Rattle.sv_context.specs.Conduct.{asked_of}
 use Rattle.sv_context.specs.Handled.{admitted}
 use Rattle.sv_context.specs.State.{ContextState}
 use Rattle.sv_context.specs.Theory.{theory}
-use Rattle.sv_run.specs.Breaking.{Given}
 use Rattle.sv_run.specs.Contexts.{Request}
 use Rattle.sv_run.specs.Events.{Breaks, Happening}
 use Rattle.sv_run.specs.State.{State}

@@ -5,6 +5,7 @@ ghost use Rattle.sv_headline.specs.Callers.{CallersOfAStartedContainerHaveLogged
 ghost use Rattle.sv_headline.specs.Connection.{WhatAConnectionIsSentIsLawful};
 ghost use Rattle.sv_headline.specs.Cut.{WhatARefusedScriptPrintsBeginsTheWhole, WhatARefusedScriptPrintsIsCut};
 ghost use Rattle.sv_headline.specs.Headline.{WhatAScriptPrintsIsLawful};
+ghost use Rattle.sv_headline.specs.Loop.{WhatAnEventLoopDoesIsLawful};
 ghost use Rattle.sv_headline.specs.Memory.{AScriptInMemoryPrintsItsRun};
 ghost use Rattle.sv_headline.specs.Refused.{TheUndispatchedCallNone};
 
@@ -12,10 +13,10 @@ use crate::contexts::sessions_of_contexts_stay_in_order;
 use crate::record::every_run_is_lawful_until_memory_is_refused;
 use crate::runs::{callers_logged_in_since_the_start, requests_enter_exactly_where_allowed};
 use sv_component::{Filter, Listener, Servlet};
-use sv_connection::a_connection_is_a_run;
+use sv_connection::{Poller, a_connection_is_a_run, an_event_loop_is_a_run};
 use sv_container::{Container, Running};
 use sv_context::Context;
-use sv_run::{CountedWords, Words};
+use sv_run::{CountedWords, EventHandler, Words};
 use sv_script::{
     a_cut_text_begins_the_whole, a_refused_run_is_cut, a_run_writes_one_text,
     a_script_is_a_lawful_run,
@@ -99,6 +100,29 @@ pub fn what_a_connection_is_sent_is_lawful<
     every_run_is_lawful_until_memory_is_refused::<S, F, L, W>();
     requests_enter_exactly_where_allowed::<S, F, L, W>();
     a_connection_is_a_run::<Container<S, F, L, W>, T, C, Context<S, F, L>, W>();
+}
+
+/// All connections that an event loop serves at once are served by one run of the container, if the handler takes each
+/// event as a run does. The command `run` serves so. Each stream that the poller gives is led only by the calls of its own
+/// connection until it is closed. What is written to it is what the run sends to this connection, in order, or the first
+/// bytes of it (RFC 9112, section 9). The entries of the run report the outcome of each message once, in order. A request
+/// enters exactly if the combined constraints allow its method and its path to the caller of its session (Jakarta Servlet
+/// 6.0, section 13.8). If the container was running at the start, the run is lawful (`every_run_is_lawful`) until memory
+/// runs out.
+pub fn what_an_event_loop_does_is_lawful<
+    S: Servlet,
+    F: Filter,
+    L: Listener,
+    W: Words,
+    R: EventHandler,
+    N: Poller,
+    C: Clock,
+>()
+    ensures { WhatAnEventLoopDoesIsLawful (steps_of S.servlet_step F.filter_step L.listener_step) W.draws N.Peer.ways R.steps C.tells N.polls R.awaited }
+{
+    every_run_is_lawful_until_memory_is_refused::<S, F, L, W>();
+    requests_enter_exactly_where_allowed::<S, F, L, W>();
+    an_event_loop_is_a_run::<R, N, C, Context<S, F, L>, W>();
 }
 
 /// An event that runs out of memory leaves the servlets and filters of a context unchanged, if it dispatched none of

@@ -1,4 +1,4 @@
-//! The theorem over whole runs: the output of a script and of a connection is that of a lawful run. In a lawful run a
+//! The theorem over whole runs: the output of a script, of a connection and of an event loop is that of a lawful run. In a lawful run a
 //! request enters exactly if the combined constraints allow it.
 //!
 //! The crate also proves what runs require of contexts, for our contexts, and the laws of runs over them. Finally it
@@ -19,7 +19,7 @@ pub use laws::{
     a_script_in_memory_prints_its_run, callers_of_a_started_container_have_logged_in,
     the_undispatched_call_none, what_a_connection_is_sent_is_lawful,
     what_a_refused_script_prints_begins_the_whole, what_a_refused_script_prints_is_cut,
-    what_a_script_prints_is_lawful,
+    what_a_script_prints_is_lawful, what_an_event_loop_does_is_lawful,
 };
 pub use lives::{components_are_destroyed_once, each_component_is_destroyed_once};
 pub use record::{every_run_is_lawful, every_run_is_lawful_until_memory_is_refused};

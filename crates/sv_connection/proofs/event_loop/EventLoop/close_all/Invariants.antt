@@ -1,4 +1,4 @@
-use Rattle.std.proofs.Common.{ℕ, length}
+use Rattle.std.proofs.Common.{length}
 use Rattle.sv_connection.specs.Finishing.{Finishes}
 use Rattle.sv_connection.proofs.event_loop.EventLoop.close_all.Given as goal
 

@@ -1,5 +1,4 @@
 use Rattle.std.proofs.Common.{Bool, true}
-use Rattle.sv_connection.proofs.HoldingLemmas.{eased}
 use Rattle.sv_connection.proofs.Looping.{moves_join}
 use Rattle.sv_connection.proofs.event_loop.EventLoop.serve_within.Goals as goal
 

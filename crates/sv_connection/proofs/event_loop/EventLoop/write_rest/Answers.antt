@@ -1,4 +1,3 @@
-use Rattle.std.proofs.Common.{refl}
 use Rattle.sv_connection.proofs.FinishingLemmas.{finishes_join, waited}
 use Rattle.sv_connection.proofs.event_loop.EventLoop.write_rest.Goals as goal
 
