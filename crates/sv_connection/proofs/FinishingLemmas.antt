@@ -297,7 +297,7 @@ one_fewer {S = S} polls number before after is (inr (none, same)) = absurd (no_m
     no_more : (held : Option (ConnectionState S)) → held ≡ None → IsSome held → ⊥
     no_more held none some = let P : Option (ConnectionState S) → Type 0 = λ o. IsSome o in cc (subst P none some)
 
--- What waits to be written is not empty.
+-- Some bytes wait to be written.
 pub some_unsent : (bytes : List ℕ) (b : Bool) → b ≡ (length bytes == 0) → b ≡ false → 0 < length bytes
 some_unsent [] b is not_so = let never : true ≡ false = sym is ∙ not_so in absurd (cc)
 some_unsent (byte ∷ bytes) b is not_so = omega arith

@@ -1,4 +1,4 @@
--- What the event loop does, as a run of a container.
+-- The event loop as a run of a container.
 use Rattle.std.proofs.Common.{◌≡◌, ◌⊎◌, ℕ, Bool, true, false, cond, ltb, nat_eq, eqb-true, inl, inr, List, [], ◌∷◌, ◌++◌, Some, Result, Ok, Err, ◌<◌, refl, sym, ap, ◌∙◌, subst, arith, append-nil, flat_map}
 use Rattle.std.proofs.lemmas.Bool.{ltb-true}
 use Rattle.std.specs.List.{AllByRecursion}
@@ -488,7 +488,7 @@ module _ {R N C S Context Words : Type 0} (ways : Ways S) (steps : Reacting R) (
           each = λ number. served_so notes numbers (events notes) (answers notes) number (goes.courses number) (handed_so number notes) (sent_so number notes);
         }
 
-    -- An event was refused between what was done before, and the end of the loop.
+    -- An event was refused after the front, and then the loop ended.
     module _ (front final : List (Note S)) (middle served : EventLoop R N C S) (happening : Happening) (fault : StepFault)
         (goes : Goes ways steps awaits tells polls start front middle) (refuses : Refuses ways steps awaits tells polls middle happening fault served)
         (finishing : AllByRecursion IsFinishing final) (ends : Goes ways steps awaits tells polls served final finished) where

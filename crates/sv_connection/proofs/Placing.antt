@@ -63,12 +63,12 @@ module _ {S : Type 0} where
   places_stay number known known_after stay other apart =
       λ i. cond (ltb other (stay.next i)) (held_or_over (stay.others other apart i)) (cond (nat_eq other (stay.next i)) (accepted_or_unused (stay.accepted i)) Unused)
 
-  beyond_next : (next other : ℕ) (one two : Option S) → other ≢ next → (b : Bool) → ltb other next ≡ b → (held : Slot S)
+  beyond_next : (next other : ℕ) (accepted : Option S) (held : Slot S) → other ≢ next
       → cond (ltb other (next + 1)) held (cond (nat_eq other (next + 1)) (accepted_or_unused {S = S} None) Unused)
-      ≡ cond (ltb other next) held (cond (nat_eq other next) (accepted_or_unused one) Unused)
-  beyond_next next other one two apart b is held =
+      ≡ cond (ltb other next) held (cond (nat_eq other next) (accepted_or_unused accepted) Unused)
+  beyond_next next other accepted held apart =
       ap (λ c. cond c held (cond (nat_eq other (next + 1)) (accepted_or_unused {S = S} None) Unused)) (next_apart next other apart)
-      ∙ ap (λ s. cond (ltb other next) held s) (unused (nat_eq other (next + 1)) ∙ sym (ap (λ c. cond c (accepted_or_unused one) Unused) (other_number next other apart)))
+      ∙ ap (λ s. cond (ltb other next) held s) (unused (nat_eq other (next + 1)) ∙ sym (ap (λ c. cond c (accepted_or_unused accepted) Unused) (other_number next other apart)))
     where
       unused : (c : Bool) → cond c (accepted_or_unused {S = S} None) Unused ≡ Unused
       unused true = refl
@@ -80,7 +80,7 @@ module _ {S : Type 0} where
       → (other : ℕ) → other ≢ known.next → place_in known_after other ≡ place_in known other
   used_next known known_after next accepted others other apart =
       (λ i. cond (ltb other (next i)) (held_or_over (others other apart i)) (cond (nat_eq other (next i)) (accepted_or_unused (accepted i)) Unused))
-      ∙ beyond_next known.next other known.accepted known.accepted apart (ltb other known.next) refl (held_or_over (found known other))
+      ∙ beyond_next known.next other known.accepted (held_or_over (found known other)) apart
 
   -- The slots of the other numbers stay as a stream is accepted.
   pub accepted_next : (known : Known S) (stream : S) → (other : ℕ) → other ≢ known.next → place_in (record known { accepted = Some stream }) other ≡ place_in known other

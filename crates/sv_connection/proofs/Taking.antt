@@ -1,4 +1,4 @@
--- What is done for an event of the poller.
+-- Handling an event of the poller.
 use Rattle.std.proofs.Common.{◌≡◌, ℕ, inl, inr, List, [], ◌∷◌, ◌++◌, Result, Ok, Err, refl, sym, subst, append-nil}
 use Rattle.std.specs.List.{AllByRecursion}
 use Rattle.std.specs.Prelude.{IsErrAnd}
@@ -107,7 +107,7 @@ module _ {R N C S : Type 0} (ways : Ways S) (steps : Reacting R) (awaits : R →
       let Q : EventLoop R N C S → Type 0 = λ l. TakesEvent ways steps awaits tells polls Asked before result l in
       subst P (sym is) (subst Q (sym same) (asked_now before after.handler after.poller result edits call))
 
-  -- A second: a tick, and then what is done of connections.
+  -- A second: a tick, and then notes of connections.
   tick_goes : (before : EventLoop R N C S) (handler : R) (clock : C) (moment : ℕ) (reaction : Reaction) → tells before.clock moment clock
       → steps before.handler (Tick moment) (Ok reaction) handler
       → Goes ways steps awaits tells polls before (Ticks moment reaction ∷ []) (record before { handler = handler; clock = clock })

@@ -23,13 +23,13 @@ IsWriting Blocks = Unit {0}
 IsWriting Arms = Unit {0}
 IsWriting other = ⊥
 
--- What is done of a connection at the end of the loop: it is written to, or its stream is closed.
+-- An action at the end of the loop: a write, or the close of a stream.
 abbrev pub IsLast : {S : Type 0} → Action S → Type 0
 IsLast (TurnsAway stream closing) = Unit {0}
 IsLast (Closes stream closing) = Unit {0}
 IsLast action = IsWriting action
 
--- What is done at the end of the loop. No event is taken.
+-- A note at the end of the loop. The handler takes no event.
 abbrev pub IsFinishing : {S : Type 0} → Note S → Type 0
 IsFinishing (Reports event) = Unit {0}
 IsFinishing (Answers figures) = Unit {0}

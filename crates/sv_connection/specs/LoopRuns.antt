@@ -1,4 +1,4 @@
--- What the event loop does, as one list of notes and as a run of a container.
+-- The event loop as one list of notes and as a run of a container.
 use Rattle.std.specs.Prelude.{◌≡◌, ◌⊎◌, ℕ, List, [], ◌∷◌, ◌++◌, Some, cond, flat_map, map, nat_eq, Result, Ok, Err}
 use Rattle.std.specs.List.{AllByRecursion}
 use Rattle.sv_connection.specs.Connection.{AreTold}

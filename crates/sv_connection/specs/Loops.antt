@@ -1,4 +1,4 @@
--- The event loop before and after what it does.
+-- The event loop before and after its notes.
 use Rattle.std.specs.Prelude.{◌≡◌, ℕ, List, [], ◌∷◌, Err}
 use Rattle.sv_connection.specs.Connection.{AreTold}
 use Rattle.sv_connection.specs.Course.{Along}
@@ -39,7 +39,7 @@ module _ {R N C S : Type 0} (ways : Ways S) (steps : Reacting R) (awaits : R →
       × (after ≡ record before { handler = after.handler; clock = after.clock })
 
 module _ {R N C S : Type 0} where
-  -- What is done of a connection for an event that is then refused. A piece that is refused is the next one.
+  -- The actions for an event that is then refused. A refused piece is the next one of its connection.
   abbrev pub IsTried : EventLoop R N C S → List (Note S) → Happening → Type 0
   IsTried now notes (Opened number) = notes ≡ Of number OpensUntold ∷ []
   IsTried now notes (Piece number bytes moment) =

@@ -1,4 +1,4 @@
--- The rounds of the event loop: an event of the poller, and what is done for it.
+-- The rounds of the event loop: an event of the poller, and the notes for it.
 use Rattle.std.specs.Prelude.{◌≡◌, ◌⊎◌, ℕ, ◌-◌, ◌^◌, List, [], ◌∷◌, ◌++◌, length, Result, Ok, Err}
 use Rattle.std.specs.List.{AllByRecursion}
 use Rattle.sv_connection.specs.Asking.{EditsOnce}
@@ -20,7 +20,7 @@ use Rattle.sv_run.specs.declared.step_fault.StepFault.{StepFault}
 use Rattle.sv_run.specs.declared.step_fault.StepFault.TheVariants.{NoMemory}
 use Rattle.sv_wire.specs.declared.inbox.Awaited.{Awaited}
 
--- What is done of connections. None is opened or closed without its event.
+-- A note of a connection. None is opened or closed without its event.
 abbrev pub IsOfConnections : {S : Type 0} → Note S → Type 0
 IsOfConnections (Of number OpensUntold) = ⊥
 IsOfConnections (Of number (EndsUntold cause stream closing)) = ⊥
@@ -29,7 +29,7 @@ IsOfConnections (Of number action) = Unit {0}
 IsOfConnections (NoneWaits number) = Unit {0}
 IsOfConnections other = ⊥
 
--- A round: the event that the poller reports, and what is done for it.
+-- A round: the event that the poller reports, and the notes for it.
 pub record Round (S : Type 0) : Type 0 where
   pub event : PollEvent
   pub notes : List (Note S)
@@ -41,8 +41,8 @@ module _ {S : Type 0} where
       (notes ≡ Answers (figures_of known) ∷ [])
       ⊎ ((path : List ℕ) × (edit : Edit) × (reaction : Reaction) × (notes ≡ Answers (figures_of known) ∷ Edits path edit reaction ∷ []))
 
-  -- What is done for an event of the poller: an edit only for a query, a tick only for a second that has passed, and
-  -- nothing after a stop.
+  -- The notes for an event of the poller: an edit only for a query, a tick only for a second that has passed, and none
+  -- after a stop.
   abbrev pub IsRound : PollEvent → Known S → List (Note S) → Type 0
   IsRound (Ready number) known notes = AllByRecursion IsOfConnections notes
   IsRound Incoming known notes = AllByRecursion IsOfConnections notes
@@ -79,7 +79,7 @@ module _ {R N C S : Type 0} (ways : Ways S) (steps : Reacting R) (awaits : R →
       ((fault ≡ NoMemory) × (after ≡ middle) × IsRound event known notes)
       ⊎ ((happening : Happening) × IsRefusedIn event known notes middle happening × Refuses ways steps awaits tells polls middle happening fault after)
 
-  -- What is done for an event of the poller.
+  -- An event of the poller is handled.
   abbrev pub TakesEvent : PollEvent → EventLoop R N C S → Result (Unit {0}) StepFault → EventLoop R N C S → Type 0
   TakesEvent event before (Ok done) after =
       (notes : List (Note S)) × IsRound event before.table notes × Goes ways steps awaits tells polls before notes after

@@ -49,7 +49,7 @@ pub fn what_is_done_is_events<R: EventHandler, N: Poller, C: Clock>()
     ensures { NotesAreReactions N.Peer.ways R.steps R.awaited C.tells N.polls }
 {}
 
-/// What an event loop does is a run, if the handler takes each event as a run of a container does. All events but
+/// An event loop makes a run, if the handler takes each event as a run of a container does. All events but
 /// perhaps the last are taken, at the times that the clock gives. Each stream that the poller gives is led only by the
 /// calls of its own connection until it is closed: the bytes read are those of its pieces and some that were not passed
 /// on, and the bytes written are those that the run sends to it, in order, all or a prefix.

@@ -1,4 +1,4 @@
--- What an event loop does, for our contexts.
+-- The event loop, for our contexts.
 use Rattle.std.proofs.Common.{ℕ}
 use Rattle.sv_component.specs.Steps.{ComponentSteps}
 use Rattle.sv_connection.specs.LoopRuns.{AnEventLoopIsARun}

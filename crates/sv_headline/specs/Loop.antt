@@ -20,7 +20,7 @@ use Rattle.sv_wire.specs.declared.inbox.Awaited.{Awaited}
 
 module _ {S F L W R N C P : Type 0} (moving : ComponentSteps S F L) (draws : W → ℕ × ℕ → W → Type 0) (ways : Ways P) (steps : Reacting R)
     (tells : C → ℕ → C → Type 0) (polls : Polling N P) where
-  -- What is done of all connections is a run of the container, and each is written what that run sends to it. The
+  -- The events of all connections are a run of the container, which sends each of them the bytes written to it. The
   -- entries of the run report the outcome of each message once, in order. A request enters exactly if the combined
   -- constraints allow it. If the container was running, the run is lawful until memory runs out.
   pub record IsServedLawfully (state_of : R → State (ContextState S F L) W) (handler : R) (poller : N) (clock : C) (result : Result (Unit {0}) StepFault)

@@ -104,8 +104,8 @@ pub fn what_a_connection_is_sent_is_lawful<
 
 /// All connections that an event loop serves at once are served by one run of the container, if the handler takes each
 /// event as a run does. The command `run` serves so. Each stream that the poller gives is led only by the calls of its own
-/// connection until it is closed. What is written to it is what the run sends to this connection, in order, or the first
-/// bytes of it (RFC 9112, section 9). The entries of the run report the outcome of each message once, in order. A request
+/// connection until it is closed. The bytes written to it are those that the run sends to this connection, in order, or
+/// the first of them (RFC 9112, section 9). The entries of the run report the outcome of each message once, in order. A request
 /// enters exactly if the combined constraints allow its method and its path to the caller of its session (Jakarta Servlet
 /// 6.0, section 13.8). If the container was running at the start, the run is lawful (`every_run_is_lawful`) until memory
 /// runs out.

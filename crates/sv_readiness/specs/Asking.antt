@@ -57,7 +57,7 @@ ask_of line =
     if bytes_eq line (codes "status") then Status else
     if bytes_eq line (codes "uncovered") then Uncovered else or_edit (explain_of line) line
 
--- the figures of the connections, each after its name, and the seconds by which the wall clock is ahead of the time of
+-- the figures of the connections, each after its name, and the lead in seconds of the wall clock over the time of
 -- the container
 abbrev pub figures_text : Figures → ℤ → List ℕ
 figures_text figures offset =

@@ -36,7 +36,7 @@ after clock (reading ∷ rest) = after (slewed clock reading) rest
 abbrev pub last_reading : SlewedClock → Reading
 last_reading clock = record { boot = clock.boot; wall = clock.wall }
 
--- the whole seconds by which the wall clock is ahead of the time, negative if it is behind
+-- the lead of the wall clock over the time in whole seconds, negative if the wall clock is slower
 abbrev pub offset : SlewedClock → ℤ
 offset clock =
     let seconds = abs_diff clock.wall clock.time / 1000 in

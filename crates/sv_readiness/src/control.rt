@@ -39,7 +39,7 @@ pub(crate) struct Control<'a> {
     line: Vec<u8>,
     answer: Vec<u8>,
     until: u64,
-    // The seconds by which the wall clock is ahead of the time of the container.
+    // The lead in seconds of the wall clock over the time of the container.
     offset: i64,
     has_come: bool,
     has_refused: bool,
@@ -168,8 +168,8 @@ impl<'a> Control<'a> {
         PollEvent::Asked
     }
 
-    /// Sets the seconds by which the wall clock is ahead of the time of the container, for the status. They are negative
-    /// if the wall clock is behind.
+    /// Sets the lead in seconds of the wall clock over the time of the container, for the status. It is negative if the
+    /// wall clock is slower.
     pub fn note_offset(&mut self, offset: i64) {
         self.offset = offset;
     }

@@ -11,7 +11,7 @@ pub(crate) const MILLISECONDS_A_SECOND: u64 = 1000;
 /// One reading of the clocks of the system, in milliseconds.
 #[derive(Clone, Copy)]
 pub struct Reading {
-    /// The boot time: the time since the start of the machine. It includes the time in which the machine was suspended.
+    /// The boot time: the time since the start of the machine. It includes the time while the machine was suspended.
     pub boot: u64,
     /// The wall clock: the time since 1970. Setting the clock of the machine changes it.
     pub wall: u64,
@@ -62,7 +62,7 @@ impl SlewedClock {
     }
 
     /// Returns by how many whole seconds the wall clock is ahead of the time. The number is negative if the wall clock is
-    /// behind.
+    /// slower.
     pub fn offset(&self) -> i64
         ensures { result ≡ spec.offset self.now }
     {
