@@ -4,6 +4,7 @@ mod Beginning
 mod Cutting
 mod Destined
 mod Ending
+mod Failing
 mod Headline
 mod Living
 mod Looping

@@ -2,6 +2,7 @@ pub mod Callers
 pub mod Connection
 pub mod Cut
 pub mod Ends
+pub mod Failing
 pub mod Headline
 pub mod Lives
 pub mod Loop

@@ -4,6 +4,7 @@ ghost use Rattle.sv_component.specs.Steps.{steps_of};
 ghost use Rattle.sv_headline.specs.Callers.{CallersOfAStartedContainerHaveLoggedIn};
 ghost use Rattle.sv_headline.specs.Connection.{WhatAConnectionIsSentIsLawful};
 ghost use Rattle.sv_headline.specs.Cut.{WhatARefusedScriptPrintsBeginsTheWhole, WhatARefusedScriptPrintsIsCut};
+ghost use Rattle.sv_headline.specs.Failing.{WhatAFailedOutputHoldsIsLawful, WhatARefusedStartPrintsIsItsText};
 ghost use Rattle.sv_headline.specs.Headline.{WhatAScriptPrintsIsLawful};
 ghost use Rattle.sv_headline.specs.Loop.{WhatAnEventLoopDoesIsLawful};
 ghost use Rattle.sv_headline.specs.Memory.{AScriptInMemoryPrintsItsRun};
@@ -79,6 +80,35 @@ pub fn what_a_refused_script_prints_begins_the_whole<
     ensures { WhatARefusedScriptPrintsBeginsTheWhole (steps_of S.servlet_step F.filter_step L.listener_step) I.makes O.makes }
 {
     a_cut_text_begins_the_whole::<Running<S, F, L, CountedWords>, I, O>();
+}
+
+/// A script whose container refuses to start is not read. The output is the text of the entries of the start.
+pub fn what_a_refused_start_prints_is_its_text<
+    S: Servlet,
+    F: Filter,
+    L: Listener,
+    I: Source,
+    O: Sink,
+>()
+    ensures { WhatARefusedStartPrintsIsItsText (steps_of S.servlet_step F.filter_step L.listener_step) I.makes O.makes }
+{}
+
+/// If a write to the output fails, the output is the first bytes of the text of a run of the container, from its start
+/// over the events that the script asks for to its stop. That run is lawful (`every_run_is_lawful`), and nothing was
+/// written after the failure. If the container refused to start, the output is the first bytes of the text of the start.
+pub fn what_a_failed_output_holds_is_lawful<
+    S: Servlet,
+    F: Filter,
+    L: Listener,
+    I: Source,
+    O: Sink,
+>()
+    ensures { WhatAFailedOutputHoldsIsLawful (steps_of S.servlet_step F.filter_step L.listener_step) I.makes O.makes }
+{
+    every_run_is_lawful_until_memory_is_refused::<S, F, L, CountedWords>();
+    callers_of_a_started_container_have_logged_in::<S, F, L, CountedWords>();
+    requests_enter_exactly_where_allowed::<S, F, L, CountedWords>();
+    a_script_is_a_lawful_run::<Running<S, F, L, CountedWords>, Context<S, F, L>, CountedWords>();
 }
 
 /// The output of a connection is sent by a run of the container over the pieces of input that are read. The run goes

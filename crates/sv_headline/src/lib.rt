@@ -18,7 +18,8 @@ pub use contexts::{
 pub use laws::{
     a_script_in_memory_prints_its_run, callers_of_a_started_container_have_logged_in,
     the_undispatched_call_none, what_a_connection_is_sent_is_lawful,
-    what_a_refused_script_prints_begins_the_whole, what_a_refused_script_prints_is_cut,
+    what_a_failed_output_holds_is_lawful, what_a_refused_script_prints_begins_the_whole,
+    what_a_refused_script_prints_is_cut, what_a_refused_start_prints_is_its_text,
     what_a_script_prints_is_lawful, what_an_event_loop_does_is_lawful,
 };
 pub use lives::{components_are_destroyed_once, each_component_is_destroyed_once};
