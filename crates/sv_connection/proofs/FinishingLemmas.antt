@@ -7,10 +7,11 @@ use Rattle.sv_connection.specs.Closing.{last_closing}
 use Rattle.sv_connection.specs.Connection.{AreTold}
 use Rattle.sv_connection.specs.Course.{Along}
 use Rattle.sv_connection.specs.Ending.{ClosesLast, Leaves, TurnsOneAway}
-use Rattle.sv_connection.specs.Finishing.{EndsAll, Finishes, IsFinishing, IsWriting, SendsOut, WritesOn, WritesOutOne}
+use Rattle.sv_connection.specs.Finishing.{EndsAll, Finishes, IsFinishing, IsWriting, SendsOut, TakesLast, WritesOn, WritesOutOne}
+use Rattle.sv_connection.specs.Figures.{figures_of}
 use Rattle.sv_connection.specs.Known.{AreBelow, Known, OthersStay, found, none_left, place_in}
-use Rattle.sv_connection.specs.Notes.{Answers, Note, Of, Reports, TakesAll, Went, moments, poll_of}
-use Rattle.sv_connection.specs.Polling.{Answer, AreCalled, Close, PollerCall, Polling, Wait}
+use Rattle.sv_connection.specs.Notes.{Note, Of, Reports, Shows, TakesAll, Went, moments, poll_of}
+use Rattle.sv_connection.specs.Polling.{AreCalled, Close, PollerCall, Polling, Status, Wait}
 use Rattle.sv_connection.specs.Rounds.{ServesAll}
 use Rattle.sv_connection.specs.Slots.{Action, Arms, Blocks, Causes, Closes, Leads, Open, Over, Slot, TurnsAway, Writes}
 use Rattle.sv_connection.specs.States.{ConnectionState}
@@ -25,6 +26,7 @@ use Rattle.sv_connection.specs.declared.event_loop.EventLoop.{EventLoop}
 use Rattle.sv_connection.specs.declared.pending_bytes.Sent.{Sent}
 use Rattle.sv_connection.specs.declared.pending_bytes.Sent.TheVariants.{All, Fails, Waits}
 use Rattle.sv_connection.specs.declared.poller.PollEvent.{PollEvent}
+use Rattle.sv_connection.specs.declared.poller.PollEvent.TheVariants.{Asked, Crowded, Incoming, Ready, Second, Stop}
 use Rattle.sv_connection.specs.declared.queries.Figures.{Figures}
 use Rattle.sv_connection.specs.declared.step.Step.TheVariants.{GoesOn, Rests, IsOver}
 use Rattle.sv_run.specs.Reacting.{Reacting}
@@ -147,14 +149,45 @@ module _ {R N C S : Type 0} (ways : Ways S) (steps : Reacting R) (awaits : R →
     record { went = record { takes = (before.handler, refl, refl); told = refl }; polled = (poller, call, refl); courses = λ number. refl },
   )
 
-  -- A query was answered.
-  pub told_status : (before : EventLoop R N C S) (poller : N) (figures : Figures) → polls before.poller (Answer figures) poller
-      → Finishes ways steps awaits tells polls before (record before { poller = poller })
-  told_status before poller figures call = (
-    Answers figures ∷ [],
-    (tt, tt),
-    record { went = record { takes = (before.handler, refl, refl); told = refl }; polled = (poller, call, refl); courses = λ number. refl },
-  )
+  -- An event of the poller was handled.
+  pub took_last : (event : PollEvent) (before after : EventLoop R N C S) → TakesLast ways steps awaits tells polls event before after
+      → Finishes ways steps awaits tells polls before after
+  took_last (Ready number) before after finishes = finishes
+  took_last Asked before after (call, same) =
+      let P : EventLoop R N C S → Type 0 = λ l. Finishes ways steps awaits tells polls before l in
+      subst P (sym same) (
+        Shows (figures_of before.table) ∷ [],
+        (tt, tt),
+        record {
+          went = record { takes = (before.handler, refl, refl); told = refl };
+          polled = (after.poller, call, refl);
+          courses = λ number. refl;
+        },
+      )
+  took_last Incoming before after same =
+      let P : EventLoop R N C S → Type 0 = λ l. Finishes ways steps awaits tells polls before l in
+      subst P (sym same) (finishes_none before)
+  took_last Crowded before after same =
+      let P : EventLoop R N C S → Type 0 = λ l. Finishes ways steps awaits tells polls before l in
+      subst P (sym same) (finishes_none before)
+  took_last Second before after same =
+      let P : EventLoop R N C S → Type 0 = λ l. Finishes ways steps awaits tells polls before l in
+      subst P (sym same) (finishes_none before)
+  took_last Stop before after same =
+      let P : EventLoop R N C S → Type 0 = λ l. Finishes ways steps awaits tells polls before l in
+      subst P (sym same) (finishes_none before)
+
+  pub takes_last_as : (told event : PollEvent) → told ≡ event → (before after : EventLoop R N C S) → TakesLast ways steps awaits tells polls event before after
+      → TakesLast ways steps awaits tells polls told before after
+  takes_last_as told event is before after takes =
+      let P : PollEvent → Type 0 = λ e. TakesLast ways steps awaits tells polls e before after in
+      subst P (sym is) takes
+
+  pub asked_last : (told : PollEvent) → told ≡ Asked → (before : EventLoop R N C S) (poller : N) (figures : Figures) → figures ≡ figures_of before.table
+      → polls before.poller (Status figures) poller → TakesLast ways steps awaits tells polls told before (record before { poller = poller })
+  asked_last told is before poller figures same call =
+      let P : Figures → Type 0 = λ f. polls before.poller (Status f) poller in
+      takes_last_as told Asked is before (record before { poller = poller }) (subst P same call, refl)
 
   pub away_last : (before after : EventLoop R N C S) → TurnsOneAway polls before after → Finishes ways steps awaits tells polls before after
   away_last before after (inl (none, same)) =

@@ -4,7 +4,7 @@ use Rattle.std.proofs.lemmas.List.{map-append}
 use Rattle.sv_connection.specs.Connection.{AreTold}
 use Rattle.sv_connection.specs.Course.{Along}
 use Rattle.sv_connection.specs.Loops.{Goes}
-use Rattle.sv_connection.specs.Notes.{Answers, Does, Edits, NoneWaits, Note, Of, Reports, TakesAll, TakesOne, Talks, Ticks, Went, action_in, actions_of, answer_in, answer_of, answers, event_in, event_of, events, moment_in, moments, poll_in, poller_calls}
+use Rattle.sv_connection.specs.Notes.{Answers, Does, Edits, NoneWaits, Note, Of, Reports, Shows, TakesAll, TakesOne, Talks, Ticks, Went, action_in, actions_of, answer_in, answer_of, answers, event_in, event_of, events, moment_in, moments, poll_in, poller_calls}
 use Rattle.sv_connection.specs.Polling.{AreCalled, PollerCall, Polling}
 use Rattle.sv_connection.specs.Slots.{Accepts, Arms, Action, Closes, Ends, EndsUntold, Hands, Opens, OpensUntold, Blocks, Slot, Reads, TurnsAway, Writes}
 use Rattle.sv_connection.specs.Known.{place_in}
@@ -82,7 +82,8 @@ module _ {R C S : Type 0} (steps : Reacting R) (awaits : R → ℕ → Awaited) 
   note_reacts (Edits path edit reaction) before between after happenings results step later = (between, step, later)
   note_reacts (Reports event) before between after happenings results same later = quiet steps before between after happenings results same later
   note_reacts (NoneWaits number) before between after happenings results same later = quiet steps before between after happenings results same later
-  note_reacts (Answers figures) before between after happenings results same later = quiet steps before between after happenings results same later
+  note_reacts (Answers figures asked) before between after happenings results same later = quiet steps before between after happenings results same later
+  note_reacts (Shows figures) before between after happenings results same later = quiet steps before between after happenings results same later
 
   pub takes_react : (before after : R) (notes : List (Note S)) → TakesAll steps awaits tells before notes after → Reacts steps before (events notes) (answers notes) after
   takes_react before after [] same = same

@@ -9,7 +9,7 @@ use Rattle.sv_connection.specs.Known.{none_left, place_in}
 use Rattle.sv_connection.specs.LoopLaws.{calls_of, end_calls, handed_of, sends_of}
 use Rattle.sv_connection.specs.LoopRuns.{AnEventLoopIsARun, IsARunOfAll, IsOverBy, IsServed, IsTaken, call_for, handed_to, of_all, round_notes, sent_to}
 use Rattle.sv_connection.specs.Loops.{Goes, Refuses, times_of}
-use Rattle.sv_connection.specs.Notes.{Answers, Edits, NoneWaits, Note, Of, Reports, Ticks, action_in, actions_of, answer_in, answers, event_in, events, moment_in, moments, over_by, poll_in, poll_of, poller_calls}
+use Rattle.sv_connection.specs.Notes.{Answers, Edits, NoneWaits, Note, Of, Reports, Shows, Ticks, action_in, actions_of, answer_in, answers, event_in, events, moment_in, moments, over_by, poll_in, poll_of, poller_calls}
 use Rattle.sv_connection.specs.Polling.{Accept, AreCalled, Close, PollerCall, Polling}
 use Rattle.sv_connection.specs.Rounds.{Round, Rounds, ServesAll}
 use Rattle.sv_connection.specs.Slots.{Accepted, Accepts, Action, Arms, Blocks, Closes, Ends, EndsUntold, Hands, Leads, Open, Opens, OpensUntold, Over, Reads, Slot, TurnsAway, Unused, Writes}
@@ -126,7 +126,8 @@ module _ {S : Type 0} where
   note_times (Edits path edit reaction) = refl
   note_times (Reports event) = refl
   note_times (NoneWaits number) = refl
-  note_times (Answers figures) = refl
+  note_times (Answers figures asked) = refl
+  note_times (Shows figures) = refl
 
   pub times_so : (notes : List (Note S)) → moments notes ≡ flat_map times_of (events notes)
   times_so [] = refl
@@ -153,7 +154,8 @@ module _ {S : Type 0} where
   note_taken (Edits path edit reaction) = (tt, tt)
   note_taken (Reports event) = tt
   note_taken (NoneWaits number) = tt
-  note_taken (Answers figures) = tt
+  note_taken (Answers figures asked) = tt
+  note_taken (Shows figures) = tt
 
   pub all_taken : (notes : List (Note S)) → AllByRecursion IsTaken (answers notes)
   all_taken [] = tt
@@ -179,7 +181,8 @@ module _ {S : Type 0} where
   note_many (Edits path edit reaction) = tt
   note_many (Reports event) = tt
   note_many (NoneWaits number) = tt
-  note_many (Answers figures) = tt
+  note_many (Answers figures asked) = tt
+  note_many (Shows figures) = tt
 
   same_length : (notes : List (Note S)) → AreAsMany (events notes) (answers notes)
   same_length [] = tt
@@ -235,7 +238,8 @@ module _ {S : Type 0} where
         front_none (bytes number (Edited path edit) (Ok reaction)) (of_all (bytes number) (events notes) (answers notes)) (of.edited number path edit reaction) ∙ bytes_so notes
     bytes_so (Reports event ∷ notes) = bytes_so notes
     bytes_so (NoneWaits other ∷ notes) = bytes_so notes
-    bytes_so (Answers figures ∷ notes) = bytes_so notes
+    bytes_so (Answers figures asked ∷ notes) = bytes_so notes
+    bytes_so (Shows figures ∷ notes) = bytes_so notes
 
     -- One more event, which was refused.
     pub refused_more : (notes : List (Note S)) (happening : Happening) (fault : StepFault)
@@ -290,7 +294,8 @@ module _ {S : Type 0} where
       ∙ sym (flat_join (poll_of number) (cond (nat_eq number other) (action ∷ []) []) (actions_of number notes))
   calls_so number (Reports event ∷ notes) = calls_so number notes
   calls_so number (NoneWaits other ∷ notes) = calls_so number notes
-  calls_so number (Answers figures ∷ notes) = calls_so number notes
+  calls_so number (Answers figures asked ∷ notes) = calls_so number notes
+  calls_so number (Shows figures ∷ notes) = calls_so number notes
   calls_so number (Ticks moment reaction ∷ notes) = calls_so number notes
   calls_so number (Edits path edit reaction ∷ notes) = calls_so number notes
 
@@ -370,7 +375,7 @@ module _ {S : Type 0} where
   pub quiet_end : (notes : List (Note S)) → AllByRecursion IsFinishing notes → (events notes ≡ []) × (answers notes ≡ []) × (moments notes ≡ [])
   quiet_end [] all = (refl, refl, refl)
   quiet_end (Reports event ∷ notes) (is, all) = quiet_end notes all
-  quiet_end (Answers figures ∷ notes) (is, all) = quiet_end notes all
+  quiet_end (Shows figures ∷ notes) (is, all) = quiet_end notes all
   quiet_end (Of number (Writes bytes) ∷ notes) (is, all) = quiet_end notes all
   quiet_end (Of number Blocks ∷ notes) (is, all) = quiet_end notes all
   quiet_end (Of number Arms ∷ notes) (is, all) = quiet_end notes all

@@ -1,8 +1,8 @@
 -- Handling an event of the poller.
-use Rattle.std.proofs.Common.{◌≡◌, ℕ, inl, inr, List, [], ◌∷◌, ◌++◌, Result, Ok, Err, refl, sym, subst, append-nil}
+use Rattle.std.proofs.Common.{◌≡◌, ℕ, inl, inr, List, [], ◌∷◌, ◌++◌, Option, None, Some, Result, Ok, Err, refl, sym, subst, append-nil}
 use Rattle.std.specs.List.{AllByRecursion}
 use Rattle.std.specs.Prelude.{IsErrAnd}
-use Rattle.sv_connection.specs.Asking.{EditsOnce}
+use Rattle.sv_connection.specs.Asking.{TakesAsked}
 use Rattle.sv_connection.specs.Figures.{figures_of}
 use Rattle.sv_connection.specs.Loops.{Goes, IsTried}
 use Rattle.sv_connection.specs.Notes.{Answers, Edits, Note, Ticks}
@@ -64,48 +64,51 @@ module _ {R N C S : Type 0} (ways : Ways S) (steps : Reacting R) (awaits : R →
       let P : PollEvent → Type 0 = λ e. TakesEvent ways steps awaits tells polls e before result after in
       subst P (sym is) (taken_of event plain before after result moves)
 
-  -- A query: it is answered, and brings at most an edit.
-  asked_goes : (before : EventLoop R N C S) (handler : R) (poller : N) (path : List ℕ) (edit : Edit) (reaction : Reaction) → polls before.poller (Answer (figures_of before.table)) poller
-      → steps before.handler (Edited path edit) (Ok reaction) handler
-      → Goes ways steps awaits tells polls before (Answers (figures_of before.table) ∷ Edits path edit reaction ∷ []) (record before { handler = handler; poller = poller })
+  -- A query: it is answered, and brings only the edit that it asked for.
+  asked_goes : (before : EventLoop R N C S) (handler : R) (poller : N) (path : List ℕ) (edit : Edit) (reaction : Reaction)
+      → polls before.poller (Answer (figures_of before.table) (Some (path, edit))) poller → steps before.handler (Edited path edit) (Ok reaction) handler
+      → Goes ways steps awaits tells polls before (Answers (figures_of before.table) (Some (path, edit)) ∷ Edits path edit reaction ∷ [])
+      (record before { handler = handler; poller = poller })
   asked_goes before handler poller path edit reaction call step = record {
     went = record { takes = (before.handler, refl, (handler, step, refl)); told = refl };
     polled = (poller, call, refl);
     courses = λ number. refl;
   }
 
-  answered_goes : (before : EventLoop R N C S) (handler : R) (poller : N) → handler ≡ before.handler → polls before.poller (Answer (figures_of before.table)) poller
-      → Goes ways steps awaits tells polls before (Answers (figures_of before.table) ∷ []) (record before { handler = handler; poller = poller })
-  answered_goes before handler poller same call = record {
+  answered_goes : (before : EventLoop R N C S) (handler : R) (poller : N) (asked : Option (List ℕ × Edit)) → handler ≡ before.handler
+      → polls before.poller (Answer (figures_of before.table) asked) poller
+      → Goes ways steps awaits tells polls before (Answers (figures_of before.table) asked ∷ []) (record before { handler = handler; poller = poller })
+  answered_goes before handler poller asked same call = record {
     went = record { takes = (before.handler, refl, same); told = refl };
     polled = (poller, call, refl);
     courses = λ number. refl;
   }
 
-  asked_now : (before : EventLoop R N C S) (handler : R) (poller : N) (result : Result (Unit {0}) StepFault) → EditsOnce steps before.handler result handler
-      → polls before.poller (Answer (figures_of before.table)) poller
+  asked_now : (before : EventLoop R N C S) (handler : R) (poller : N) (result : Result (Unit {0}) StepFault) (asked : Option (List ℕ × Edit))
+      → polls before.poller (Answer (figures_of before.table) asked) poller → TakesAsked steps asked before.handler result handler
       → TakesEvent ways steps awaits tells polls Asked before result (record before { handler = handler; poller = poller })
-  asked_now before handler poller (Ok done) (inl same) call =
-      (Answers (figures_of before.table) ∷ [], inl refl, answered_goes before handler poller same call, λ rest. rest)
-  asked_now before handler poller (Ok done) (inr (path, edit, reaction, step)) call = (
-    Answers (figures_of before.table) ∷ Edits path edit reaction ∷ [],
+  asked_now before handler poller (Ok done) None call same =
+      (Answers (figures_of before.table) None ∷ [], inl refl, answered_goes before handler poller None same call, λ rest. rest)
+  asked_now before handler poller (Err fault) None call never = absurd never
+  asked_now before handler poller (Ok done) (Some (path, edit)) call (reaction, step) = (
+    Answers (figures_of before.table) (Some (path, edit)) ∷ Edits path edit reaction ∷ [],
     inr (path, edit, reaction, refl),
     asked_goes before handler poller path edit reaction call step,
     λ rest. rest,
   )
-  asked_now before handler poller (Err fault) (path, edit, step) call = (
-    Answers (figures_of before.table) ∷ [],
+  asked_now before handler poller (Err fault) (Some (path, edit)) call step = (
+    Answers (figures_of before.table) (Some (path, edit)) ∷ [],
     record before { poller = poller },
-    answered_goes before before.handler poller refl call,
+    answered_goes before before.handler poller (Some (path, edit)) refl call,
     inr (Edited path edit, refl, (step, refl, refl)),
   )
 
   pub asked_as : (told : PollEvent) → told ≡ Asked → (before after : EventLoop R N C S) (result : Result (Unit {0}) StepFault)
       → AsksOnce steps polls before result after → TakesEvent ways steps awaits tells polls told before result after
-  asked_as told is before after result (edits, call, same) =
+  asked_as told is before after result ((asked, call, takes), same) =
       let P : PollEvent → Type 0 = λ e. TakesEvent ways steps awaits tells polls e before result after in
       let Q : EventLoop R N C S → Type 0 = λ l. TakesEvent ways steps awaits tells polls Asked before result l in
-      subst P (sym is) (subst Q (sym same) (asked_now before after.handler after.poller result edits call))
+      subst P (sym is) (subst Q (sym same) (asked_now before after.handler after.poller result asked call takes))
 
   -- A second: a tick, and then notes of connections.
   tick_goes : (before : EventLoop R N C S) (handler : R) (clock : C) (moment : ℕ) (reaction : Reaction) → tells before.clock moment clock

@@ -2,10 +2,11 @@
 use Rattle.std.specs.Prelude.{◌≡◌, ◌⊎◌, ℕ, ◌<◌, List, [], Option, None, Some, true}
 use Rattle.std.specs.List.{AllByRecursion}
 use Rattle.sv_connection.specs.Course.{Along}
+use Rattle.sv_connection.specs.Figures.{figures_of}
 use Rattle.sv_connection.specs.Known.{Known, OthersStay, found, none_left}
 use Rattle.sv_connection.specs.Loops.{Goes}
-use Rattle.sv_connection.specs.Notes.{Answers, Note, Of, Reports}
-use Rattle.sv_connection.specs.Polling.{Polling}
+use Rattle.sv_connection.specs.Notes.{Note, Of, Reports, Shows}
+use Rattle.sv_connection.specs.Polling.{Polling, Status}
 use Rattle.sv_connection.specs.Slots.{Action, Arms, Blocks, Causes, Closes, Open, TurnsAway, Writes}
 use Rattle.sv_connection.specs.States.{ConnectionState}
 use Rattle.sv_connection.specs.Ways.{Ways}
@@ -13,6 +14,8 @@ use Rattle.sv_connection.specs.declared.close_reason.CloseReason.TheVariants.{Gi
 use Rattle.sv_connection.specs.declared.event_loop.EventLoop.{EventLoop}
 use Rattle.sv_connection.specs.declared.pending_bytes.Sent.{Sent}
 use Rattle.sv_connection.specs.declared.pending_bytes.Sent.TheVariants.{All, Fails, Waits}
+use Rattle.sv_connection.specs.declared.poller.PollEvent.{PollEvent}
+use Rattle.sv_connection.specs.declared.poller.PollEvent.TheVariants.{Asked, Crowded, Incoming, Ready, Second, Stop}
 use Rattle.sv_run.specs.Reacting.{Reacting}
 use Rattle.sv_wire.specs.declared.inbox.Awaited.{Awaited}
 
@@ -32,7 +35,7 @@ IsLast action = IsWriting action
 -- A note at the end of the loop. The handler takes no event.
 abbrev pub IsFinishing : {S : Type 0} → Note S → Type 0
 IsFinishing (Reports event) = Unit {0}
-IsFinishing (Answers figures) = Unit {0}
+IsFinishing (Shows figures) = Unit {0}
 IsFinishing (Of number action) = IsLast action
 IsFinishing other = ⊥
 
@@ -59,6 +62,17 @@ module _ {S : Type 0} (ways : Ways S) where
 module _ {R N C S : Type 0} (ways : Ways S) (steps : Reacting R) (awaits : R → ℕ → Awaited) (tells : C → ℕ → C → Type 0) (polls : Polling N S) where
   abbrev pub Finishes : EventLoop R N C S → EventLoop R N C S → Type 0
   Finishes before after = (notes : List (Note S)) × AllByRecursion IsFinishing notes × Goes ways steps awaits tells polls before notes after
+
+  -- An event of the poller: a connection that is ready may be written to, a query is answered by the figures, and
+  -- nothing is done for any other event.
+  abbrev pub TakesLast : PollEvent → EventLoop R N C S → EventLoop R N C S → Type 0
+  TakesLast (Ready number) before after = Finishes before after
+  TakesLast Asked before after =
+      polls before.poller (Status (figures_of before.table)) after.poller × (after ≡ record before { poller = after.poller })
+  TakesLast Incoming before after = after ≡ before
+  TakesLast Crowded before after = after ≡ before
+  TakesLast Second before after = after ≡ before
+  TakesLast Stop before after = after ≡ before
 
   -- All connections are closed.
   abbrev pub EndsAll : EventLoop R N C S → EventLoop R N C S → Type 0

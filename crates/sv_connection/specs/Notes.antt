@@ -1,8 +1,8 @@
 -- What the event loop does, one note after another.
-use Rattle.std.specs.Prelude.{◌≡◌, ℕ, List, [], ◌∷◌, None, Some, cond, flat_map, map, nat_eq, Result, Ok}
+use Rattle.std.specs.Prelude.{◌≡◌, ℕ, List, [], ◌∷◌, Option, None, Some, cond, flat_map, map, nat_eq, Result, Ok}
 use Rattle.sv_connection.specs.Connection.{AreTold}
 use Rattle.sv_connection.specs.Course.{Along}
-use Rattle.sv_connection.specs.Polling.{Accept, Answer, Close, PollerCall, Wait}
+use Rattle.sv_connection.specs.Polling.{Accept, Answer, Close, PollerCall, Status, Wait}
 use Rattle.sv_connection.specs.Slots.{Accepts, Action, Closes, Ends, EndsUntold, Hands, Opens, Slot, TurnsAway}
 use Rattle.sv_connection.specs.Turns.{over_event}
 use Rattle.sv_connection.specs.Ways.{Ways}
@@ -26,8 +26,10 @@ pub data Note (S : Type 0) : Type 0 where
   Of : ℕ → Action S → Note S
   -- No connection waits to be accepted under this number.
   NoneWaits : ℕ → Note S
-  -- A query is answered, by these figures.
-  Answers : Figures → Note S
+  -- A query is answered, by these figures. It asked for this edit of the context of this path, or for none.
+  Answers : Figures → Option (List ℕ × Edit) → Note S
+  -- A query is answered, by only these figures.
+  Shows : Figures → Note S
   -- The handler takes a tick with this time.
   Ticks : ℕ → Reaction → Note S
   -- The handler takes an edit of the context of this path.
@@ -89,7 +91,8 @@ module _ {S : Type 0} where
   poll_in (Reports event) = Wait event ∷ []
   poll_in (Of number action) = poll_of number action
   poll_in (NoneWaits number) = Accept number None ∷ []
-  poll_in (Answers figures) = Answer figures ∷ []
+  poll_in (Answers figures asked) = Answer figures asked ∷ []
+  poll_in (Shows figures) = Status figures ∷ []
   poll_in other = []
 
   -- The action of a number in a note, if any.

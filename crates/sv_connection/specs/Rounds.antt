@@ -1,12 +1,12 @@
 -- The rounds of the event loop: an event of the poller, and the notes for it.
-use Rattle.std.specs.Prelude.{◌≡◌, ◌⊎◌, ℕ, ◌-◌, ◌^◌, List, [], ◌∷◌, ◌++◌, length, Result, Ok, Err}
+use Rattle.std.specs.Prelude.{◌≡◌, ◌⊎◌, ℕ, ◌-◌, ◌^◌, List, [], ◌∷◌, ◌++◌, None, Some, length, Result, Ok, Err}
 use Rattle.std.specs.List.{AllByRecursion}
-use Rattle.sv_connection.specs.Asking.{EditsOnce}
+use Rattle.sv_connection.specs.Asking.{AnswersOne}
 use Rattle.sv_connection.specs.Figures.{figures_of}
 use Rattle.sv_connection.specs.Known.{AreAtRest, Known, place_in}
 use Rattle.sv_connection.specs.Loops.{Goes, IsTried, Refuses}
 use Rattle.sv_connection.specs.Notes.{Answers, Edits, NoneWaits, Note, Of, Reports, Ticks}
-use Rattle.sv_connection.specs.Polling.{Answer, Polling}
+use Rattle.sv_connection.specs.Polling.{Polling}
 use Rattle.sv_connection.specs.Slots.{Closes, EndsUntold, OpensUntold}
 use Rattle.sv_connection.specs.Ways.{Ways}
 use Rattle.sv_connection.specs.declared.event_loop.EventLoop.{EventLoop}
@@ -35,13 +35,13 @@ pub record Round (S : Type 0) : Type 0 where
   pub notes : List (Note S)
 
 module _ {S : Type 0} where
-  -- A query is answered by the figures, and brings at most an edit.
+  -- A query is answered by the figures, and brings only the edit that it asked for.
   abbrev pub IsQuery : Known S → List (Note S) → Type 0
   IsQuery known notes =
-      (notes ≡ Answers (figures_of known) ∷ [])
-      ⊎ ((path : List ℕ) × (edit : Edit) × (reaction : Reaction) × (notes ≡ Answers (figures_of known) ∷ Edits path edit reaction ∷ []))
+      (notes ≡ Answers (figures_of known) None ∷ [])
+      ⊎ ((path : List ℕ) × (edit : Edit) × (reaction : Reaction) × (notes ≡ Answers (figures_of known) (Some (path, edit)) ∷ Edits path edit reaction ∷ []))
 
-  -- The notes for an event of the poller: an edit only for a query, a tick only for a second that has passed, and none
+  -- The notes for an event of the poller: an edit only for a query for it, a tick only for a second that has passed, and none
   -- after a stop.
   abbrev pub IsRound : PollEvent → Known S → List (Note S) → Type 0
   IsRound (Ready number) known notes = AllByRecursion IsOfConnections notes
@@ -55,7 +55,7 @@ module _ {S : Type 0} where
 -- Which event may be refused in a round, after these notes.
 abbrev pub IsRefusedIn : {R N C S : Type 0} → PollEvent → Known S → List (Note S) → EventLoop R N C S → Happening → Type 0
 IsRefusedIn Second known notes now (Tick moment) = notes ≡ []
-IsRefusedIn Asked known notes now (Edited path edit) = notes ≡ Answers (figures_of known) ∷ []
+IsRefusedIn Asked known notes now (Edited path edit) = notes ≡ Answers (figures_of known) (Some (path, edit)) ∷ []
 IsRefusedIn Asked known notes now other = ⊥
 IsRefusedIn {S = S} event known notes now happening =
     (first last : List (Note S)) × (notes ≡ first ++ last) × IsRound event known first × IsTried now last happening
@@ -115,8 +115,8 @@ TicksOnce steps tells before (Err fault) after =
     (moment : ℕ) × tells before.clock moment after.clock × steps before.handler (Tick moment) (Err fault) after.handler
     × (after ≡ record before { handler = after.handler; clock = after.clock })
 
--- A query: the poller answers it by the figures, and the handler takes at most an edit.
+-- A query: the poller answers it by the figures, and the handler takes only the edit that it asked for.
 abbrev pub AsksOnce : {R N C S : Type 0} → Reacting R → Polling N S → EventLoop R N C S → Result (Unit {0}) StepFault → EventLoop R N C S → Type 0
 AsksOnce steps polls before result after =
-    EditsOnce steps before.handler result after.handler × polls before.poller (Answer (figures_of before.table)) after.poller
+    AnswersOne steps polls (figures_of before.table) before.poller before.handler result after.poller after.handler
     × (after ≡ record before { handler = after.handler; poller = after.poller })

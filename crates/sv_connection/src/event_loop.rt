@@ -114,7 +114,7 @@ impl<P: Peer + Drop, R: EventHandler + Queries, N: Poller<Peer = P>, C: Clock> E
         }
     }
 
-    // Answers a query, which brings at most an edit. It takes no time from the clock and acts on no connection.
+    // Answers a query, which brings only the edit that it asks for. It takes no time from the clock and acts on no connection.
     fn answer_query(&mut self) -> Result<(), StepFault>
         ensures { AsksOnce R.steps N.polls self.old result self.new }
     {

@@ -2,7 +2,7 @@
 
 ghost use Rattle.std.specs.Prelude.{◌≡◌, []};
 ghost use Rattle.sv_connection.specs.Ending.{ClosesLast};
-ghost use Rattle.sv_connection.specs.Finishing.{EndsAll, Finishes};
+ghost use Rattle.sv_connection.specs.Finishing.{EndsAll, Finishes, TakesLast};
 
 use crate::event_loop::EventLoop;
 use crate::limits::FINISH_SECONDS;
@@ -56,7 +56,7 @@ impl<P: Peer + Drop, R: EventHandler, N: Poller<Peer = P>, C: Clock> EventLoop<R
 
     // Handles an event of the poller, but only writes and answers status queries.
     fn take_last(&mut self, told: PollEvent)
-        ensures { Finishes P.ways R.steps R.awaited C.tells N.polls self.old self.new }
+        ensures { TakesLast P.ways R.steps R.awaited C.tells N.polls told self.old self.new }
     {
         match told {
             PollEvent::Ready(number) => self.send_out(number),

@@ -1,8 +1,8 @@
 //! Readiness, new connections and time.
 
 ghost use Rattle.std.specs.Prelude.{◌≡◌};
-ghost use Rattle.sv_connection.specs.Asking.{EditsOnce};
-ghost use Rattle.sv_connection.specs.Polling.{Accept, Answer, Close, Polling, Wait};
+ghost use Rattle.sv_connection.specs.Asking.{AnswersOne};
+ghost use Rattle.sv_connection.specs.Polling.{Accept, Close, Polling, Status, Wait};
 
 use crate::close_reason::Closing;
 use crate::peer::Peer;
@@ -49,8 +49,8 @@ pub trait Poller {
     fn close(&mut self, number: u64, peer: Self::Peer, closing: Closing)
         ensures { polls self.old (Close number peer closing) self.new };
 
-    /// Answers the query that was reported, by the figures and by the handler. For an edit of the constraints of a
-    /// context, the handler takes one event. It takes no other.
+    /// Answers the query that was reported, by the figures and by the handler. If the query asks for an edit of the
+    /// constraints of a context, the handler takes this edit as an event. It takes no other.
     ///
     /// # Errors
     /// The fault of the refused edit.
@@ -59,12 +59,11 @@ pub trait Poller {
         figures: Figures,
         handler: &mut R,
     ) -> Result<(), StepFault>
-        ensures edits { EditsOnce R.steps handler.old result handler.new }
-        ensures answers { polls self.old (Answer figures) self.new };
+        ensures { AnswersOne R.steps polls figures self.old handler.old result self.new handler.new };
 
     /// Answers the query that was reported, by the figures only, once the handler takes no more events.
     fn answer_status(&mut self, figures: Figures)
-        ensures { polls self.old (Answer figures) self.new };
+        ensures { polls self.old (Status figures) self.new };
 
     /// Returns the time in seconds since any fixed point. It should never go back.
     fn seconds(&self) -> u64;

@@ -1,2 +1,3 @@
+mod AnsweringLemmas
 mod DroppingLemmas
 mod SlewingLemmas
