@@ -110,6 +110,6 @@ module _ {S F L Words : Type 0} (moving : ComponentSteps S F L) (draws : Words �
       by_stop after.stopped refl
     where
       by_stop : (stopped : Bool) → after.stopped ≡ stopped
-          → MatchBool stopped (IsLawfulUpTo moving draws before happenings answers after) (IsLawfulRun moving draws before answers after)
+          → MatchBool stopped (IsLawfulUpTo moving draws before happenings answers after) (IsLawfulRun moving draws before happenings answers after)
       by_stop true is = up_to before after happenings answers (refused_at (contexts.theory moving draws) stops before after happenings answers runs is run)
       by_stop false is = law before after happenings answers run is

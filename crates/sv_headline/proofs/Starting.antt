@@ -60,12 +60,12 @@ module _ {S F L W : Type 0} (moving : ComponentSteps S F L) (draws : W → ℕ �
   all_accepted : EveryRunIsLawfulUntilRefused moving draws → (before after : State (ContextState S F L) W) (happenings : List Happening)
       (answers : List (Answer (ContextState S F L))) (reactions : List Reaction) → before.stopped ≡ false
       → Run (theory moving draws) before happenings answers after → map Ok reactions ≡ map answer_shown answers
-      → IsLawfulRun moving draws before answers after × (after.stopped ≡ false)
+      → IsLawfulRun moving draws before happenings answers after × (after.stopped ≡ false)
   all_accepted every before after happenings answers reactions runs run shown = by_stop after.stopped refl (every before after happenings answers runs run)
     where
       by_stop : (stopped : Bool) → after.stopped ≡ stopped
-          → MatchBool stopped (IsLawfulUpTo moving draws before happenings answers after) (IsLawfulRun moving draws before answers after)
-          → IsLawfulRun moving draws before answers after × (after.stopped ≡ false)
+          → MatchBool stopped (IsLawfulUpTo moving draws before happenings answers after) (IsLawfulRun moving draws before happenings answers after)
+          → IsLawfulRun moving draws before happenings answers after × (after.stopped ≡ false)
       by_stop true is up_to = absurd (none_wanted up_to.answered up_to.refused reactions (shown ∙ ap (map answer_shown) up_to.are_answered))
       by_stop false is lawful = (lawful, is)
 

@@ -9,6 +9,7 @@ use Rattle.sv_context.specs.Theory.{theory}
 use Rattle.sv_lifecycle.specs.declared.deployment.Deployment.{Deployment}
 use Rattle.sv_headline.specs.Callers.{CallersHaveLoggedIn}
 use Rattle.sv_journal.specs.Journal.{JournalState, new_journal}
+use Rattle.sv_script.specs.Asked.{events_of}
 use Rattle.sv_script.specs.Replay.{Played}
 use Rattle.sv_script.specs.declared.replay_fault.ReplayFault.{ReplayFault}
 use Rattle.sv_script.specs.WholeLaws.{PlaysALawfulRun, IsOneText}
@@ -36,7 +37,7 @@ module _ {S F L : Type 0} (moving : ComponentSteps S F L) where
   pub record RunsLawfully (container : Container S F L CountedWords) (played : Played (Running S F L CountedWords)) : Type 0 where
     pub plays : PlaysALawfulRun (StepsOf moving draws) (theory moving draws)
         run_of (record { container = container }) played
-    pub lawful : IsLawfulRun moving draws (state_of container) plays.answers (run_of played.handler)
+    pub lawful : IsLawfulRun moving draws (state_of container) (events_of 0 played.said) plays.answers (run_of played.handler)
     pub callers : CallersHaveLoggedIn moving draws plays.answers (run_of played.handler)
 
 module _ {S F L I O : Type 0} (moving : ComponentSteps S F L) (gives : Making I)

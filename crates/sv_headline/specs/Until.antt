@@ -25,7 +25,7 @@ module _ {S F L Words : Type 0} (moving : ComponentSteps S F L)
     pub are_answered : answers ≡ answered ++ Err NoMemory ∷ refused
     pub between : State (ContextState S F L) Words
     pub runs : Run (theory moving draws) before front answered between
-    pub lawful : IsLawfulRun moving draws before answered between
+    pub lawful : IsLawfulRun moving draws before front answered between
     pub breaks : Breaks (theory moving draws) between wanting after
     pub refuses : AllByRecursion (λ answer. answer ≡ Err Stopped) refused
 
@@ -33,7 +33,7 @@ module _ {S F L Words : Type 0} (moving : ComponentSteps S F L)
   abbrev pub IsLawfulUntilRefused : State (ContextState S F L) Words → List Happening → List (Answer (ContextState S F L)) → State (ContextState S F L) Words
       → Type 0
   IsLawfulUntilRefused before happenings answers after =
-      MatchBool after.stopped (IsLawfulUpTo before happenings answers after) (IsLawfulRun moving draws before answers after)
+      MatchBool after.stopped (IsLawfulUpTo before happenings answers after) (IsLawfulRun moving draws before happenings answers after)
 
   abbrev pub EveryRunIsLawfulUntilRefused : Type 0
   EveryRunIsLawfulUntilRefused =

@@ -10,6 +10,7 @@ mod laws;
 mod lives;
 mod record;
 mod runs;
+mod unlawful;
 
 pub use contexts::{
     callers_come_by_login, contexts_end_expired_sessions, contexts_tell_outcomes,
@@ -28,4 +29,9 @@ pub use runs::{
     callers_logged_in, callers_logged_in_since_the_start, constraints_change_by_edits_alone,
     orders_are_alike, orders_are_taken_alike, pieces_are_taken_in_parts, pieces_may_be_cut,
     pieces_may_come_in_parts, requests_enter_exactly_where_allowed,
+};
+pub use unlawful::{
+    access_is_decided_once, entries_call_their_servlet, logins_are_of_their_session,
+    messages_are_answered, messages_are_handled_by_their_context, outcomes_are_of_their_context,
+    responses_are_of_their_request, ticks_tell_expiries_alone,
 };

@@ -4,7 +4,6 @@ ghost use Rattle.sv_component.specs.Steps.{steps_of};
 ghost use Rattle.sv_headline.specs.Record.{EveryRunIsLawful};
 ghost use Rattle.sv_headline.specs.Until.{EveryRunIsLawfulUntilRefused};
 
-use crate::contexts::edits_alone_change_the_constraints;
 use sv_component::{Filter, Listener, Servlet, runs_are_journalled, runs_move_components};
 use sv_context::Context;
 use sv_login::just_one_case_holds;
@@ -26,7 +25,6 @@ pub fn every_run_is_lawful<S: Servlet, F: Filter, L: Listener, W: Words>()
     runs_are_journalled::<S, F, L>();
     runs_move_components::<S, F, L>();
     just_one_case_holds();
-    edits_alone_change_the_constraints::<S, F, L, W>();
 }
 
 /// Every run that starts with a running container is lawful as a whole, or it is lawful up to an event that ran out of

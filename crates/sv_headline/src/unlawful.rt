@@ -1,0 +1,68 @@
+//! What is not lawful. Each law takes a lawful message or event, and says that it is lawful no more if one thing in it is
+//! altered. Each is the contract of a function that only calls other laws.
+
+ghost use Rattle.sv_component.specs.Steps.{steps_of};
+ghost use Rattle.sv_headline.specs.DecidedOnce.{AccessIsDecidedOnce};
+ghost use Rattle.sv_headline.specs.Unlawful.{EntriesCallTheirServlet, LoginsAreOfTheirSession, MessagesAreAnswered, MessagesAreHandledByTheirContext, OutcomesAreOfTheirContext, ResponsesAreOfTheirRequest, TicksTellExpiriesAlone};
+
+use sv_component::{Filter, Listener, Servlet};
+use sv_login::just_one_case_holds;
+use sv_run::{Words, feedings_may_be_cut};
+use sv_wire::readings_are_unique;
+
+/// Nothing within a dispatch decides access again. If a message enters a context, and would enter it under other
+/// constraints, then all that was done for it is lawful under those constraints, too (Jakarta Servlet 6.0, sections 9.1
+/// and 13.8).
+pub fn access_is_decided_once<S: Servlet, F: Filter, L: Listener>()
+    ensures { AccessIsDecidedOnce (steps_of S.servlet_step F.filter_step L.listener_step) }
+{}
+
+/// A request that enters and goes to a servlet in service, without filters, calls this servlet with the exchange of the
+/// request. It is not lawful to call nothing, or to call the servlet with another exchange (Jakarta Servlet 6.0, sections
+/// 2.3.3 and 12.1).
+pub fn entries_call_their_servlet<S: Servlet, F: Filter, L: Listener>()
+    ensures { EntriesCallTheirServlet (steps_of S.servlet_step F.filter_step L.listener_step) }
+{}
+
+/// A message that enters is noted for its own context. It is not lawful to note it for another one.
+pub fn outcomes_are_of_their_context<S: Servlet, F: Filter, L: Listener>()
+    ensures { OutcomesAreOfTheirContext (steps_of S.servlet_step F.filter_step L.listener_step) }
+{}
+
+/// A login changes its own session alone. It is not lawful to leave any other sessions, such as those with the caller in
+/// another session (Jakarta Servlet 6.0, section 13.6.3).
+pub fn logins_are_of_their_session<S: Servlet, F: Filter, L: Listener>()
+    ensures { LoginsAreOfTheirSession (steps_of S.servlet_step F.filter_step L.listener_step) }
+{
+    just_one_case_holds();
+}
+
+/// A message is handled by the context that is at its place at that moment. It is not lawful to handle it by the
+/// constraints, the users or the sessions of any other context.
+pub fn messages_are_handled_by_their_context<S: Servlet, F: Filter, L: Listener>()
+    ensures { MessagesAreHandledByTheirContext (steps_of S.servlet_step F.filter_step L.listener_step) }
+{}
+
+/// A tick of the clock notes the ends of the expired sessions, and nothing else. It is not lawful to let a session expire
+/// in silence, or to note what no listener was told (Jakarta Servlet 6.0, sections 7.5 and 11.3.4).
+pub fn ticks_tell_expiries_alone<S: Servlet, F: Filter, L: Listener, W: Words>()
+    ensures { TicksTellExpiriesAlone (steps_of S.servlet_step F.filter_step L.listener_step) W.draws }
+{}
+
+/// A piece that completes a message brings the deed of that message. It is not lawful to swallow the message, or to refuse
+/// its bytes (RFC 9112, section 2.2).
+pub fn messages_are_answered<S: Servlet, F: Filter, L: Listener, W: Words>()
+    ensures { MessagesAreAnswered (steps_of S.servlet_step F.filter_step L.listener_step) W.draws }
+{
+    feedings_may_be_cut();
+    readings_are_unique();
+}
+
+/// The bytes that are sent for a message are the text of the response to it. It is not lawful to send the response of
+/// another request (RFC 9112, section 9.2).
+pub fn responses_are_of_their_request<S: Servlet, F: Filter, L: Listener, W: Words>()
+    ensures { ResponsesAreOfTheirRequest (steps_of S.servlet_step F.filter_step L.listener_step) W.draws }
+{
+    feedings_may_be_cut();
+    readings_are_unique();
+}
