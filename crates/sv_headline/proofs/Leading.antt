@@ -40,7 +40,7 @@ seen_same f (x ∷ xs) zero old new there same = ap (λ first. first ∷ map f x
 seen_same f (x ∷ xs) (suc place) old new there same = ap (λ rest. f x ∷ rest) (seen_same f xs place old new there same)
 
 -- the item at a place after another is set
-after_set : {X : Type 0} (xs : List X) (set place : ℕ) (old new : X) → slice_get xs set ≡ Some old
+pub after_set : {X : Type 0} (xs : List X) (set place : ℕ) (old new : X) → slice_get xs set ≡ Some old
     → ((set ≡ place) × ((set == place) ≡ true) × (slice_get (slice_set xs set new) place ≡ Some new) × (slice_get xs place ≡ Some old))
     ⊎ (((set == place) ≡ false) × (slice_get (slice_set xs set new) place ≡ slice_get xs place))
 after_set {X} xs set place old new there = elim (eqb_tells set place) [

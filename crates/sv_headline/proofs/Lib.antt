@@ -6,6 +6,7 @@ mod Cutting
 mod Deciding
 mod Ending
 mod Failing
+mod Hearing
 mod Leading
 mod Listening
 mod Living

@@ -81,7 +81,7 @@ all_uncalled listeners (event ∷ events) =
 pub all_joined : (listeners : ℕ) (front back : List Event) → all_told listeners (front ++ back) ≡ all_told listeners front ++ all_told listeners back
 all_joined listeners front back = flat_map-append (λ event. told event listeners) front back
 
-one_told : (listeners : ℕ) (event : Event) → all_told listeners (event ∷ []) ≡ told event listeners
+pub one_told : (listeners : ℕ) (event : Event) → all_told listeners (event ∷ []) ≡ told event listeners
 one_told listeners event = append-nil (told event listeners)
 
 -- the ends of sessions

@@ -7,6 +7,7 @@
 
 mod contexts;
 mod laws;
+mod listeners;
 mod lives;
 mod record;
 mod runs;
@@ -23,6 +24,7 @@ pub use laws::{
     what_a_refused_script_prints_is_cut, what_a_refused_start_prints_is_its_text,
     what_a_script_prints_is_lawful, what_an_event_loop_does_is_lawful,
 };
+pub use listeners::{listeners_hear_exactly, no_session_is_told_of_behind_want_of_memory};
 pub use lives::{components_are_destroyed_once, each_component_is_destroyed_once};
 pub use record::{every_run_is_lawful, every_run_is_lawful_until_memory_is_refused};
 pub use runs::{
