@@ -2,6 +2,7 @@ mod Admitting
 mod Answers
 mod Beginning
 mod Calling
+mod Completing
 mod Cutting
 mod Deciding
 mod Ending

@@ -45,7 +45,7 @@ module _ {S F L : Type 0} where
 
 module _ {S F L : Type 0} (moving : ComponentSteps S F L) (journalled : RunsAreJournalled moving) where
   -- a journal that is still whole has gained the entries of the calls
-  gained : (context after : ContextState S F L) (noted noted' : JournalState) (made : List Record)
+  pub gained : (context after : ContextState S F L) (noted noted' : JournalState) (made : List Record)
       → IsRun moving (world_of context noted) made (world_of after noted')
       → noted'.whole ≡ true → noted'.entries ≡ noted.entries ++ map (record_entry (world_of context unnoted)) made
   gained context after noted noted' made runs is_whole =

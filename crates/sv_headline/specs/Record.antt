@@ -50,3 +50,9 @@ module _ {S F L : Type 0} (moving : ComponentSteps S F L) where
     EveryRunIsLawful =
         (before after : State (ContextState S F L) Words) (happenings : List Happening) (answers : List (Answer (ContextState S F L)))
         → Run (theory moving draws) before happenings answers after → after.stopped ≡ false → IsLawfulRun before happenings answers after
+
+    -- and a lawful run is a run: the record says all that the definition of a run says
+    abbrev pub EveryLawfulRunIsARun : Type 0
+    EveryLawfulRunIsARun =
+        (before after : State (ContextState S F L) Words) (happenings : List Happening) (answers : List (Answer (ContextState S F L)))
+        → IsLawfulRun before happenings answers after → Run (theory moving draws) before happenings answers after

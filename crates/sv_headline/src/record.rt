@@ -1,7 +1,7 @@
 //! The theorem over every run, for our contexts.
 
 ghost use Rattle.sv_component.specs.Steps.{steps_of};
-ghost use Rattle.sv_headline.specs.Record.{EveryRunIsLawful};
+ghost use Rattle.sv_headline.specs.Record.{EveryLawfulRunIsARun, EveryRunIsLawful};
 ghost use Rattle.sv_headline.specs.Until.{EveryRunIsLawfulUntilRefused};
 
 use sv_component::{Filter, Listener, Servlet, runs_are_journalled, runs_move_components};
@@ -35,4 +35,13 @@ pub fn every_run_is_lawful_until_memory_is_refused<S: Servlet, F: Filter, L: Lis
 {
     every_run_is_lawful::<S, F, L, W>();
     want_of_memory_stops::<Context<S, F, L>, W>();
+}
+
+/// A lawful run is a run. So the record of a lawful run leaves out nothing that the definition of a run says, and every
+/// law of runs holds of lawful runs.
+pub fn every_lawful_run_is_a_run<S: Servlet, F: Filter, L: Listener, W: Words>()
+    ensures { EveryLawfulRunIsARun (steps_of S.servlet_step F.filter_step L.listener_step) W.draws }
+{
+    runs_are_journalled::<S, F, L>();
+    just_one_case_holds();
 }
