@@ -141,9 +141,9 @@ module _ {S F L : Type 0} (moving : ComponentSteps S F L) (one_case : JustOneCas
                   (done.stays.listeners ∙ own.0, ap (λ content. length content.app.listeners) done.stays.content ∙ own.1),
             )
         | inr apart ↦ (
-            ap notifications (cond-false (at == place) _ _ apart.0) ∙ ap (all_told count) (sym (cond-false (at == place) _ _ apart.0)),
-            subst (Listen count) (sym (ap (λ its. slice_get its place) leads.is_after ∙ apart.1)) listen,
-          )
+          ap notifications (cond-false (at == place) _ _ apart.0) ∙ ap (all_told count) (sym (cond-false (at == place) _ _ apart.0)),
+          subst (Listen count) (sym (ap (λ its. slice_get its place) leads.is_after ∙ apart.1)) listen,
+        )
       ]
 
   leads_heard : (place count : ℕ) (before after : List (ContextState S F L)) (transition : Transition S F L) → Leads moving before transition after
@@ -166,9 +166,9 @@ module _ {S F L : Type 0} (moving : ComponentSteps S F L) (one_case : JustOneCas
   leads_heard place count before after (EditAnswer (Some at) edit answer) leads listen =
       elim (after_set before at place leads.context (under leads.constraints leads.context) leads.there) [
         | inl here ↦ (
-            refl,
-            subst (Listen count) (sym (ap (λ its. slice_get its place) leads.is_after ∙ here.2)) (subst (Listen count) here.3 listen),
-          )
+          refl,
+          subst (Listen count) (sym (ap (λ its. slice_get its place) leads.is_after ∙ here.2)) (subst (Listen count) here.3 listen),
+        )
         | inr apart ↦ (refl, subst (Listen count) (sym (ap (λ its. slice_get its place) leads.is_after ∙ apart.1)) listen)
       ]
   leads_heard place count before after Closing leads listen =

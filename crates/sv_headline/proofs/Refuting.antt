@@ -17,9 +17,10 @@ use Rattle.sv_exchange.specs.Changing.{Change, SetHeader, SetStatus, answer, lef
 use Rattle.sv_exchange.specs.State as exchanges
 use Rattle.sv_exchange.specs.declared.exchange_fault.ExchangeFault.{ExchangeFault}
 use Rattle.sv_headline.proofs.Calling.{CallsFirst, served_calls, then_of}
+use Rattle.sv_headline.proofs.Hearing.{told_in_order}
 use Rattle.sv_headline.specs.Message.{IsBecause, IsDoneBy, IsLawfulMessage, MayEnter, exchange_for, findings_in, settled_for}
 use Rattle.sv_headline.specs.Transitions.{ContextAnswer, Leads}
-use Rattle.sv_headline.specs.Unlawful.{EntriesCallTheirServlet, GoesToServlet, LoginsAreOfTheirSession, MessagesAreHandledByTheirContext, OutcomesAreOfTheirContext, calls_with, first_exchange, site}
+use Rattle.sv_headline.specs.Unlawful.{EntriesCallTheirServlet, GoesToServlet, LoginsAreOfTheirSession, MessagesAreHandledByTheirContext, OutcomesAreOfTheirContext, TellingsAreInOrder, calls_with, first_exchange, site}
 use Rattle.sv_journal.specs.declared.entry.Entry.{Entry}
 use Rattle.sv_journal.specs.declared.entry.Entry.TheVariants as entries
 use Rattle.sv_listeners.specs.Telling.{told}
@@ -101,6 +102,14 @@ module _ {S F L : Type 0} (moving : ComponentSteps S F L) where
             (same_exchange place exchange (first_exchange moving handling made) its_step same.0 its_left same.1 others same.2
             (append_cancel_left (told RequestInitialized (site moving handling made).listeners) _ _ same.3));
       }
+
+  -- ---- notifications
+
+  pub tellings_are_in_order : JustOneCaseHolds → TellingsAreInOrder moving
+  tellings_are_in_order one_case handling made lawful = record {
+    order = told_in_order moving one_case handling made lawful;
+    other_order = λ entries others apart its. apart (told_in_order moving one_case (record handling { entries = entries }) others its);
+  }
 
   -- ---- the outcome
 

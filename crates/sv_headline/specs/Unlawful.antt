@@ -11,6 +11,7 @@ use Rattle.sv_context.specs.Theory.{theory}
 use Rattle.sv_exchange.specs.Keeping.{counted}
 use Rattle.sv_exchange.specs.State as exchanges
 use Rattle.sv_headline.specs.Events.{IsLawfulEvent}
+use Rattle.sv_headline.specs.Listeners.{IsToldInOrder}
 use Rattle.sv_headline.specs.Message.{IsBecause, IsLawfulMessage, MayEnter, exchange_for, path_in, settled_for}
 use Rattle.sv_headline.specs.Transitions.{ContextAnswer, Leads, Transition}
 use Rattle.sv_journal.specs.declared.entry.Entry.{Entry}
@@ -74,6 +75,13 @@ module _ {S F L : Type 0} (moving : ComponentSteps S F L) (handling : Handling (
     pub another_exchange : (entries : List Entry) (exchange : exchanges.State) (its_step : Step) (its_left : exchanges.State) (others : List Record)
         → exchange ≢ first_exchange
         → ¬ (IsLawfulMessage moving (record handling { entries = entries }) (calls_with place exchange its_step its_left others))
+
+  -- listeners are told of what the message and its calls did, each time in its place; with a notification more, with one fewer or
+  -- elsewhere the handling is not lawful
+  pub record TellsInOrder : Type 0 where
+    pub order : IsToldInOrder handling made
+    pub other_order : (entries : List Entry) (others : List Record) → ¬ (IsToldInOrder handling others)
+        → ¬ (IsLawfulMessage moving (record handling { entries = entries }) others)
 
   -- an outcome is noted for the context of the message; if another is noted, the handling is not lawful
   pub record NotesItsOwnContext : Type 0 where
@@ -157,6 +165,10 @@ module _ {S F L : Type 0} (moving : ComponentSteps S F L) where
   EntriesCallTheirServlet =
       (handling : Handling (ContextState S F L)) (made : List Record) (place : ℕ)
       → GoesToServlet moving handling made place → IsLawfulMessage moving handling made → CallsTheServlet moving handling made place
+
+  abbrev pub TellingsAreInOrder : Type 0
+  TellingsAreInOrder =
+      (handling : Handling (ContextState S F L)) (made : List Record) → IsLawfulMessage moving handling made → TellsInOrder moving handling made
 
   abbrev pub OutcomesAreOfTheirContext : Type 0
   OutcomesAreOfTheirContext =

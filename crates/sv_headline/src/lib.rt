@@ -37,5 +37,5 @@ pub use runs::{
 pub use unlawful::{
     access_is_decided_once, entries_call_their_servlet, logins_are_of_their_session,
     messages_are_answered, messages_are_handled_by_their_context, outcomes_are_of_their_context,
-    responses_are_of_their_request, ticks_tell_expiries_alone,
+    responses_are_of_their_request, tellings_are_in_order, ticks_tell_expiries_alone,
 };

@@ -9,16 +9,19 @@ use sv_context::Context;
 use sv_login::just_one_case_holds;
 use sv_run::{Words, want_of_memory_stops};
 
-/// Every run over a list of events is lawful, until memory runs out:
+/// Every run over a list of events is lawful, until memory runs out. Its events have transitions, one after another:
 ///
-/// - A message goes to the context whose path serves its target.
-/// - There it enters exactly if its path is not hidden, it is no login post, and the constraints allow it. These are
-///   the current combined constraints, applied to its method, its path and the caller of its session (Jakarta Servlet
-///   6.0, section 13.8). The journal notes that it enters, and a dispatch of the request gives its response.
-/// - Every other message has a named cause. Its response is a redirect, an error, an error page or a page of form
-///   login.
-/// - Within a dispatch nothing is decided again.
-/// - Each component is moved by exactly the calls that the journal notes for it, in their order.
+/// - First the sessions that have expired end, in every context, and each end is told to the listeners.
+/// - Then each message that the bytes complete is answered. The context whose path serves its target handles it, as that
+///   context is at that moment. The message enters exactly if its path is not hidden, it is no login post, and the
+///   constraints allow it: the combined constraints of that moment, applied to its method, its path and the caller of its
+///   session (Jakarta Servlet 6.0, section 13.8). Every other message has a named cause. Bytes are refused only if they
+///   have that fault.
+/// - An edit changes the constraints of its context. Nothing else does.
+///
+/// The journal notes the outcome of each message and then its calls, and nothing else. The bytes that are sent are the
+/// texts of the responses. The sessions are those that accesses, expiries, logins and the exchanges of requests leave. Each
+/// component is moved by exactly its calls, in their order.
 pub fn every_run_is_lawful<S: Servlet, F: Filter, L: Listener, W: Words>()
     ensures { EveryRunIsLawful (steps_of S.servlet_step F.filter_step L.listener_step) W.draws }
 {

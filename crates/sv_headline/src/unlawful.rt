@@ -3,7 +3,7 @@
 
 ghost use Rattle.sv_component.specs.Steps.{steps_of};
 ghost use Rattle.sv_headline.specs.DecidedOnce.{AccessIsDecidedOnce};
-ghost use Rattle.sv_headline.specs.Unlawful.{EntriesCallTheirServlet, LoginsAreOfTheirSession, MessagesAreAnswered, MessagesAreHandledByTheirContext, OutcomesAreOfTheirContext, ResponsesAreOfTheirRequest, TicksTellExpiriesAlone};
+ghost use Rattle.sv_headline.specs.Unlawful.{EntriesCallTheirServlet, LoginsAreOfTheirSession, MessagesAreAnswered, MessagesAreHandledByTheirContext, OutcomesAreOfTheirContext, ResponsesAreOfTheirRequest, TellingsAreInOrder, TicksTellExpiriesAlone};
 
 use sv_component::{Filter, Listener, Servlet};
 use sv_login::just_one_case_holds;
@@ -23,6 +23,14 @@ pub fn access_is_decided_once<S: Servlet, F: Filter, L: Listener>()
 pub fn entries_call_their_servlet<S: Servlet, F: Filter, L: Listener>()
     ensures { EntriesCallTheirServlet (steps_of S.servlet_step F.filter_step L.listener_step) }
 {}
+
+/// Listeners are told of what a message and its calls did, each time in its place. It is not lawful to tell them of anything
+/// else, to tell them less, or to tell them elsewhere (Jakarta Servlet 6.0, section 11.3.3).
+pub fn tellings_are_in_order<S: Servlet, F: Filter, L: Listener>()
+    ensures { TellingsAreInOrder (steps_of S.servlet_step F.filter_step L.listener_step) }
+{
+    just_one_case_holds();
+}
 
 /// A message that enters is noted for its own context. It is not lawful to note it for another one.
 pub fn outcomes_are_of_their_context<S: Servlet, F: Filter, L: Listener>()
