@@ -1,5 +1,5 @@
 -- A request that goes to a servlet in service without filters calls this servlet first.
-use Rattle.std.proofs.Common.{◌≡◌, ℕ, zero, suc, Bool, false, inl, inr, List, [], ◌∷◌, ◌++◌, Option, None, Some, refl, sym, ap, ◌∙◌, subst}
+use Rattle.std.proofs.Common.{◌≡◌, ℕ, zero, suc, false, inl, inr, List, [], ◌∷◌, ◌++◌, None, Some, sym, ap, ◌∙◌, subst}
 use Rattle.sv_component.specs.Call.{Serviced}
 use Rattle.sv_component.specs.Runs.{OfServlet, Record}
 use Rattle.sv_component.specs.declared.answers.Step.{Step}

@@ -1,5 +1,5 @@
 -- A lawful run is a run: the record says all that the definition of a run says.
-use Rattle.std.proofs.Common.{◌≡◌, ℕ, Bool, true, false, List, [], ◌∷◌, ◌++◌, map, length, Option, None, Some, Result, Ok, Err, refl, sym, ap, ◌∙◌, subst, slice_get, slice_set, bytes_eq, position, nat_le, cond}
+use Rattle.std.proofs.Common.{◌≡◌, ℕ, Bool, true, false, List, [], ◌∷◌, ◌++◌, map, Option, None, Some, Result, Ok, Err, refl, sym, ap, ◌∙◌, subst, bytes_eq, position, nat_le, cond}
 use Rattle.std.specs.Bool.{MatchBool}
 use Rattle.std.specs.List.{AllByRecursion, flat_map}
 use Rattle.sv_component.proofs.Running.{runs_join}
@@ -17,7 +17,7 @@ use Rattle.sv_headline.proofs.Messages.{gained}
 use Rattle.sv_headline.specs.Events.{Answers, AreOf, AreTransitionsOf, Brings, IsAnsweredBy, IsLawfulEvent, IsOf, IsRefusedEvent}
 use Rattle.sv_headline.specs.Message.{IsLawfulMessage}
 use Rattle.sv_headline.specs.Record.{EveryLawfulRunIsARun}
-use Rattle.sv_headline.specs.Transitions.{AreExpiries, ContextAnswer, Continuation, EditAnswer, Expiries, Expiry, IsEditedAt, IsExpiry, Leads, LeadsThrough, OwnAnswer, Refusal, Transition, effect_of, effect_of_all, entries_of, told_of, under}
+use Rattle.sv_headline.specs.Transitions.{AreExpiries, Expiries, Expiry, IsEditedAt, IsExpiry, Leads, LeadsThrough, Transition, effect_of, effect_of_all, entries_of, told_of, under}
 use Rattle.sv_journal.specs.Journal.{JournalState, new_journal, with_entry}
 use Rattle.sv_journal.specs.declared.entry.Entry.{Entry}
 use Rattle.sv_login.specs.OutcomeLaws.{JustOneCaseHolds}
@@ -28,7 +28,7 @@ use Rattle.sv_policy.specs.declared.edit_fault.EditFault.{EditFault}
 use Rattle.sv_run.specs.Connections.{Connections}
 use Rattle.sv_run.specs.Contexts.{Handling, Request}
 use Rattle.sv_run.specs.Editing.{EditsIn, place_with}
-use Rattle.sv_run.specs.Effect.{Effect, handled, joined, noting, nothing, whole}
+use Rattle.sv_run.specs.Effect.{Effect, handled, noting, whole}
 use Rattle.sv_run.specs.Events.{Accepts, Edited, Ended, ExpiresAll, Happening, Happens, Lost, Opened, Piece, Steps, Tick, fault_of, moment_after, opening_fault, unknown_fault}
 use Rattle.sv_run.specs.Items.{Responds, Takes, TakesItem, TakesNone, closes_behind}
 use Rattle.sv_run.specs.Messages.{Destination, Itself, Within, destination}

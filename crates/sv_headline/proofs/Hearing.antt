@@ -1,7 +1,7 @@
 -- Listeners of started containers are told exactly of the events of their contexts' lives.
-use Rattle.std.proofs.Common.{◌≡◌, ◌⊎◌, ℕ, zero, suc, Bool, true, false, cond, inl, inr, List, [], ◌∷◌, ◌++◌, map, length, reverse, Option, None, Some, Result, Ok, Err, refl, sym, ap, ◌∙◌, subst, slice_get, append-nil, append_assoc}
+use Rattle.std.proofs.Common.{◌≡◌, ℕ, zero, suc, true, false, cond, inl, inr, List, [], ◌∷◌, ◌++◌, map, length, reverse, Option, None, Some, Result, Ok, Err, refl, sym, ap, ◌∙◌, subst, slice_get, append-nil, append_assoc}
 use Rattle.std.specs.List.{AllByRecursion, flat_map}
-use Rattle.std.specs.Option.{option_map, option_map_or, option_to_list}
+use Rattle.std.specs.Option.{option_map, option_map_or}
 use Rattle.std.specs.Prelude.{◌==◌}
 use Rattle.std.proofs.lemmas.Bool.{cond-true, cond-false}
 use Rattle.std.proofs.lemmas.List.Elements.{filter-append}
@@ -10,11 +10,9 @@ use Rattle.sv_admission.specs.Answer.{answer_to}
 use Rattle.sv_component.specs.Runs.{Record, Runs}
 use Rattle.sv_component.specs.Steps.{ComponentSteps}
 use Rattle.sv_container.specs.Container.{state_of}
-use Rattle.sv_container.specs.Starting as containers
-use Rattle.sv_container.specs.Stopping.{AllStopQuietly, ShutsDown, StoppedContainersStopQuietly, contexts_to_stop, journal_to_stop}
-use Rattle.sv_container.specs.declared.container.Container.{Container}
+use Rattle.sv_container.specs.Stopping.{AllStopQuietly, StoppedContainersStopQuietly, contexts_to_stop, journal_to_stop}
 use Rattle.sv_context.specs.Conduct.{asked_of}
-use Rattle.sv_context.specs.Deployment.{Deploys, Undeploys, content_of, declared_policy, deployed, no_sessions}
+use Rattle.sv_context.specs.Deployment.{content_of, declared_policy, deployed, no_sessions}
 use Rattle.sv_context.specs.Handled.{state_in}
 use Rattle.sv_context.specs.Several.{DeploysAll, GivesBackParts, UndeploysAll}
 use Rattle.sv_context.specs.State.{ContextState, context_of, in_service, world_of}
@@ -22,9 +20,8 @@ use Rattle.sv_context.specs.Theory.{theory}
 use Rattle.sv_headline.proofs.Leading.{GoesOn, after_set, through_all, through_on}
 use Rattle.sv_headline.proofs.Listening.{all_heard, all_joined, answered_in_order, destroys_unheard, ends_joined, in_order_heard, inits_unheard, one_told, told_heard}
 use Rattle.sv_headline.specs.Events.{AreTransitionsOf, IsAnsweredBy}
-use Rattle.sv_headline.specs.Listeners.{IsMessageTold, IsToldExactly, IsToldInOrder, ListenersHearExactly, NoSessionIsToldOfBehindWantOfMemory, calls_of_life, calls_of_stop, events_at, events_in, events_of_life, is_dispatched, notifications, outcome_in, own_events}
+use Rattle.sv_headline.specs.Listeners.{IsMessageTold, IsToldInOrder, ListenersHearExactly, NoSessionIsToldOfBehindWantOfMemory, calls_of_life, calls_of_stop, events_at, events_in, events_of_life, is_dispatched, notifications, outcome_in, own_events}
 use Rattle.sv_headline.specs.Message.{IsDoneBy, IsLawfulMessage, exchange_for, findings_in, settled_for}
-use Rattle.sv_headline.specs.Refused.{is_dispatch}
 use Rattle.sv_headline.specs.Transitions.{Closing, ContextAnswer, Continuation, EditAnswer, Expiries, Expiry, IsExpiry, Leads, LeadsThrough, OwnAnswer, Refusal, Transition, calls_at, edits_at, told_of, under}
 use Rattle.sv_journal.specs.Journal.{JournalState, broken, new_journal}
 use Rattle.sv_lifecycle.specs.Calls.{Answered as Initialized, inited, start_calls}
@@ -36,10 +33,8 @@ use Rattle.sv_live.specs.Calls.{destroyed, stop_calls}
 use Rattle.sv_live.specs.SessionEnds.{by_number, end_events, ends_told}
 use Rattle.sv_live.specs.Standing.{LiveState}
 use Rattle.sv_live.specs.World.{world}
-use Rattle.sv_live.specs.declared.live.Parts.{Parts}
 use Rattle.sv_live.specs.declared.live.Place.{Place}
 use Rattle.sv_login.specs.OutcomeLaws.{JustOneCaseHolds}
-use Rattle.sv_login.specs.declared.outcome.Outcome.{Outcome}
 use Rattle.sv_login.specs.declared.outcome.Outcome.TheVariants as outcomes
 use Rattle.sv_run.specs.Contexts.{Handling}
 use Rattle.sv_run.specs.Events.{Happening}

@@ -15,7 +15,7 @@ use Rattle.sv_component.specs.World.{World}
 use Rattle.sv_context.specs.Conduct.{unnoted}
 use Rattle.sv_context.specs.State.{ContextState, IsSameDeployment, world_of}
 use Rattle.sv_headline.specs.Message.{IsLawfulMessage}
-use Rattle.sv_headline.specs.Transitions.{AreExpiries, Closing, ContextAnswer, Continuation, EditAnswer, Expiries, Expiry, IsEdited, IsExpiry, IsHandledAt, Leads, LeadsThrough, OwnAnswer, Refusal, Transition, calls_at, edits_at, told_of, under}
+use Rattle.sv_headline.specs.Transitions.{Closing, ContextAnswer, Continuation, EditAnswer, Expiries, Expiry, IsExpiry, IsHandledAt, Leads, LeadsThrough, OwnAnswer, Refusal, Transition, calls_at, edits_at, told_of, under}
 use Rattle.sv_mapping.specs.Chosen.{is_chosen}
 use Rattle.sv_message.specs.declared.message.Target.{Target}
 use Rattle.sv_policy.specs.Compiled.{Standing}
@@ -25,7 +25,7 @@ use Rattle.sv_policy.specs.declared.edit_fault.EditFault.{EditFault}
 use Rattle.sv_policy.specs.declared.edit_fault.EditFault.TheVariants as faults
 use Rattle.sv_run.proofs.Constraints.{get_apart, get_set}
 use Rattle.sv_run.specs.Contexts.{Handling, Theory}
-use Rattle.sv_run.specs.Messages.{Destination, destination, destination_of, place_for}
+use Rattle.sv_run.specs.Messages.{destination, destination_of, place_for}
 
 -- ---- lists
 

@@ -1,18 +1,15 @@
 -- Listeners of our contexts are told exactly of the events of their lives.
-use Rattle.std.proofs.Common.{◌≡◌, ℕ, zero, suc, Bool, true, false, not, cond, inl, inr, List, [], ◌∷◌, ◌++◌, map, length, reverse, Option, None, Some, Result, Ok, Err, refl, sym, ap, ◌∙◌, subst, slice_get, append-nil, append_assoc}
-use Rattle.std.specs.List.{AllByRecursion, filter, flat_map}
-use Rattle.std.specs.Option.{option_map_or, option_to_list}
-use Rattle.std.specs.Prelude.{◌==◌, codes}
+use Rattle.std.proofs.Common.{◌≡◌, ℕ, Bool, true, false, not, inl, inr, List, [], ◌∷◌, ◌++◌, map, Option, None, Some, refl, sym, ap, ◌∙◌, subst, append-nil, append_assoc}
+use Rattle.std.specs.List.{flat_map}
+use Rattle.std.specs.Option.{option_to_list}
+use Rattle.std.specs.Prelude.{codes}
 use Rattle.std.proofs.lemmas.List.Concat.{flat_map-append}
 use Rattle.std.proofs.lemmas.List.Elements.{filter-append}
-use Rattle.sv_admission.specs.Answer.{answer_to}
 use Rattle.sv_admission.specs.declared.answer.Answer.{Answer as Reply}
 use Rattle.sv_admission.specs.declared.answer.Answer.TheVariants as replies
 use Rattle.sv_admission.specs.declared.answer.TheConstants.{SEE_OTHER}
-use Rattle.sv_component.specs.Runs.{OfFilter, OfListener, OfServlet, Record, Runs}
-use Rattle.sv_component.specs.Steps.{ComponentSteps}
+use Rattle.sv_component.specs.Runs.{OfFilter, OfListener, OfServlet, Record}
 use Rattle.sv_context.specs.Answered.{Answered, Answers, Requested, SendsTo, Tells}
-use Rattle.sv_context.specs.Expiry as expiries
 use Rattle.sv_exchange.specs.Changing.{SetHeader, SetStatus, Write}
 use Rattle.sv_headline.proofs.Calling.{then_of}
 use Rattle.sv_headline.specs.Listeners.{component_calls, events_within, notifications, within_request}
@@ -26,7 +23,6 @@ use Rattle.sv_live.specs.declared.live.Place.TheVariants.{Filter, Servlet}
 use Rattle.sv_descriptor.specs.declared.web_app.WebApp.{WebApp}
 use Rattle.sv_mapping.specs.declared.kind.Kind.{Kind}
 use Rattle.sv_mapping.specs.declared.kind.Kind.TheVariants as kinds
-use Rattle.sv_session.specs.declared.ended_sessions.EndedSession.{EndedSession}
 use Rattle.sv_session.specs.declared.event.Event.{Event}
 use Rattle.sv_session.specs.declared.event.Event.TheVariants.{RequestDestroyed, RequestInitialized}
 use Rattle.sv_tree.proofs.Doing.{chosen_then, wants_then}

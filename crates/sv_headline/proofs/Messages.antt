@@ -1,11 +1,10 @@
 -- Each message that a context of ours handles is lawful, and each expiry of its sessions is.
-use Rattle.std.proofs.Common.{◌≡◌, ◌≢◌, ◌⊎◌, ℕ, true, inl, inr, List, [], ◌∷◌, ◌++◌, map, Some, refl, sym, ap, ◌∙◌, subst, append-nil, length}
+use Rattle.std.proofs.Common.{◌≡◌, ◌≢◌, ◌⊎◌, ℕ, true, inl, inr, List, [], ◌∷◌, ◌++◌, map, refl, sym, ap, ◌∙◌, subst, append-nil, length}
 use Rattle.sv_admission.specs.Admission.{outcome_in}
 use Rattle.sv_component.proofs.Running.{runs_grown}
 use Rattle.sv_component.specs.Laws.{RunsAreJournalled}
 use Rattle.sv_component.specs.Runs.{IsRun, OfFilter, OfListener, OfServlet, Record, record_entry}
 use Rattle.sv_component.specs.Steps.{ComponentSteps}
-use Rattle.sv_component.specs.World.{World}
 use Rattle.sv_context.proofs.Journals.{runs_unnoted}
 use Rattle.sv_context.specs.Conduct.{asked_of, conduct, unnoted}
 use Rattle.sv_context.specs.Expiry.{ends_told}

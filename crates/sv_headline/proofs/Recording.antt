@@ -2,14 +2,13 @@
 use Rattle.std.proofs.Common.{◌≡◌, ℕ, Bool, true, false, List, [], ◌∷◌, ◌++◌, map, Option, None, Some, Result, Ok, Err, refl, sym, ap, ◌∙◌, subst, slice_get, slice_set, bytes_eq, position}
 use Rattle.std.specs.Bool.{MatchBool}
 use Rattle.std.specs.List.{AllByRecursion, flat_map}
-use Rattle.std.proofs.lemmas.List.Concat.{flat_map-append}
 use Rattle.sv_component.specs.Laws.{RunsAreJournalled, RunsMoveComponents}
 use Rattle.sv_component.specs.Runs.{Record}
 use Rattle.sv_component.specs.Steps.{ComponentSteps}
 use Rattle.sv_context.specs.Conduct.{conduct, unnoted}
 use Rattle.sv_context.specs.State.{ContextState, world_of}
 use Rattle.sv_context.specs.Theory.{theory}
-use Rattle.sv_headline.proofs.Leading.{GoesOn, Through, leads_paths, path_of, same_destination, through_all, through_on, through_parts}
+use Rattle.sv_headline.proofs.Leading.{GoesOn, leads_paths, path_of, same_destination, through_all, through_on, through_parts}
 use Rattle.sv_headline.proofs.Messages.{expiry_of, is_expiry, message_is_lawful, told_are}
 use Rattle.sv_headline.specs.Events.{Answers, AreOf, AreTransitionsOf, Brings, IsAnsweredBy, IsLawfulEvent, IsOf}
 use Rattle.sv_headline.specs.Record.{AreDecidedByThen, EveryRunIsLawful, IsMovedBy}
@@ -21,9 +20,9 @@ use Rattle.sv_message.specs.declared.message.Target.{Target}
 use Rattle.sv_policy.specs.declared.edit.Edit.{Edit}
 use Rattle.sv_policy.specs.declared.edit_fault.EditFault.{EditFault}
 use Rattle.sv_run.proofs.Callers.{runs_on, stopped_stays}
-use Rattle.sv_run.specs.Contexts.{Handling, Request}
+use Rattle.sv_run.specs.Contexts.{Request}
 use Rattle.sv_run.specs.Editing.{EditsIn, place_with}
-use Rattle.sv_run.specs.Effect.{Effect, handled, joined, nothing, telling}
+use Rattle.sv_run.specs.Effect.{Effect, handled, joined, telling}
 use Rattle.sv_run.specs.Events.{Accepts, Edited, Ended, ExpiresAll, Happening, Happens, Lost, Opened, Piece, Tick, moment_after}
 use Rattle.sv_run.specs.Feeding.{FeedsWhere}
 use Rattle.sv_run.specs.Items.{Responds, Takes, TakesItem, TakesNone, closes_behind}

@@ -9,27 +9,24 @@ use Rattle.sv_component.specs.Call.{Serviced}
 use Rattle.sv_component.specs.Runs.{OfServlet, Record}
 use Rattle.sv_component.specs.Steps.{ComponentSteps}
 use Rattle.sv_component.specs.declared.answers.Step.{Step}
-use Rattle.sv_context.specs.Answered.{Answered, Answers, Requested, SendsTo, Tells}
+use Rattle.sv_context.specs.Answered.{Answered, Requested, SendsTo, Tells}
 use Rattle.sv_context.specs.Conduct.{asked_of}
 use Rattle.sv_context.specs.Handled.{state_in}
 use Rattle.sv_context.specs.State.{ContextState}
 use Rattle.sv_exchange.specs.Changing.{Change, SetHeader, SetStatus, answer, left_by}
 use Rattle.sv_exchange.specs.State as exchanges
 use Rattle.sv_exchange.specs.declared.exchange_fault.ExchangeFault.{ExchangeFault}
-use Rattle.sv_headline.proofs.Calling.{CallsFirst, served_calls, then_of}
+use Rattle.sv_headline.proofs.Calling.{served_calls, then_of}
 use Rattle.sv_headline.proofs.Hearing.{told_in_order}
-use Rattle.sv_headline.specs.Message.{IsBecause, IsDoneBy, IsLawfulMessage, MayEnter, exchange_for, findings_in, settled_for}
-use Rattle.sv_headline.specs.Transitions.{ContextAnswer, Leads}
+use Rattle.sv_headline.specs.Message.{IsBecause, IsDoneBy, IsLawfulMessage, exchange_for, findings_in, settled_for}
 use Rattle.sv_headline.specs.Unlawful.{EntriesCallTheirServlet, GoesToServlet, LoginsAreOfTheirSession, MessagesAreHandledByTheirContext, OutcomesAreOfTheirContext, TellingsAreInOrder, calls_with, first_exchange, site}
 use Rattle.sv_journal.specs.declared.entry.Entry.{Entry}
 use Rattle.sv_journal.specs.declared.entry.Entry.TheVariants as entries
 use Rattle.sv_listeners.specs.Telling.{told}
 use Rattle.sv_login.specs.OutcomeLaws.{JustOneCaseHolds}
-use Rattle.sv_login.specs.declared.outcome.Outcome.{Outcome}
 use Rattle.sv_login.specs.declared.outcome.Outcome.TheVariants as outcomes
 use Rattle.sv_mapping.specs.declared.kind.Kind.TheVariants as kinds
 use Rattle.sv_run.specs.Contexts.{Handling}
-use Rattle.sv_session.specs.Store.{Store}
 use Rattle.sv_session.specs.declared.event.Event.{Event}
 use Rattle.sv_session.specs.declared.event.Event.TheVariants.{RequestDestroyed, RequestInitialized}
 use Rattle.sv_tree.proofs.Doing.{absurd_result}

@@ -1,6 +1,6 @@
 -- The transitions of an event: from the bytes of a connection to messages and refusals, and back to the bytes that are sent
 -- (RFC 9112, section 9; Jakarta Servlet 6.0, section 7.5).
-use Rattle.std.specs.Prelude.{◌≡◌, ℕ, false, List, [], ◌∷◌, ◌++◌, Option, None, Some, Result, Ok, Err}
+use Rattle.std.specs.Prelude.{◌≡◌, ℕ, false, List, [], ◌∷◌, ◌++◌, None, Some, Result, Ok, Err}
 use Rattle.std.specs.Bool.{MatchBool}
 use Rattle.sv_component.specs.Runs.{Record}
 use Rattle.sv_component.specs.Steps.{ComponentSteps}
