@@ -1,4 +1,4 @@
--- Listeners of started containers are told exactly of the events of their contexts' lives.
+-- Listeners of started containers are notified exactly of the events of their contexts' lives.
 use Rattle.std.proofs.Common.{◌≡◌, ℕ, zero, suc, true, false, cond, inl, inr, List, [], ◌∷◌, ◌++◌, map, length, reverse, Option, None, Some, Result, Ok, Err, refl, sym, ap, ◌∙◌, subst, slice_get, append-nil, append_assoc}
 use Rattle.std.specs.List.{AllByRecursion, flat_map}
 use Rattle.std.specs.Option.{option_map, option_map_or}
@@ -20,7 +20,7 @@ use Rattle.sv_context.specs.Theory.{theory}
 use Rattle.sv_headline.proofs.Leading.{GoesOn, after_set, through_all, through_on}
 use Rattle.sv_headline.proofs.Listening.{all_heard, all_joined, answered_in_order, destroys_unheard, ends_joined, in_order_heard, inits_unheard, one_told, told_heard}
 use Rattle.sv_headline.specs.Events.{AreTransitionsOf, IsAnsweredBy}
-use Rattle.sv_headline.specs.Listeners.{IsMessageTold, IsToldInOrder, ListenersHearExactly, NoSessionIsToldOfBehindWantOfMemory, calls_of_life, calls_of_stop, events_at, events_in, events_of_life, is_dispatched, notifications, outcome_in, own_events}
+use Rattle.sv_headline.specs.Listeners.{NotifiesOfMessage, NotifiesInOrder, ListenersHearExactly, NoSessionEventAfterRunningOutOfMemory, calls_of_life, calls_of_stop, events_at, events_in, events_of_life, is_dispatched, notifications, outcome_in, own_events}
 use Rattle.sv_headline.specs.Message.{IsDoneBy, IsLawfulMessage, exchange_for, findings_in, settled_for}
 use Rattle.sv_headline.specs.Transitions.{Closing, ContextAnswer, Continuation, EditAnswer, Expiries, Expiry, IsExpiry, Leads, LeadsThrough, OwnAnswer, Refusal, Transition, calls_at, edits_at, told_of, under}
 use Rattle.sv_journal.specs.Journal.{JournalState, broken, new_journal}
@@ -70,28 +70,28 @@ module _ {S F L : Type 0} (moving : ComponentSteps S F L) (one_case : JustOneCas
   done_in handling made (inr out) =
       subst (IsDoneBy moving handling made) (sym ((one_case (findings_in handling.context handling.request) out.1.cause).0 out.1.because)) out.1.done
 
-  pub told_in_order : (handling : Handling (ContextState S F L)) (made : List Record) → IsLawfulMessage moving handling made → IsToldInOrder handling made
-  told_in_order handling made lawful =
+  pub notified_in_order : (handling : Handling (ContextState S F L)) (made : List Record) → IsLawfulMessage moving handling made → NotifiesInOrder handling made
+  notified_in_order handling made lawful =
       let context = handling.context in
       let outcome = outcome_in handling made in
       let done = done_in handling made lawful in
       answered_in_order (site_of context.content) (asked_of context handling.request).canon (settled_for context handling.request outcome).event
       (answer_to context.content outcome) (state_in context (exchange_for context handling.request outcome)) (state_in handling.after done.exchange) made done.answers
 
-  message_told : (before after : List (ContextState S F L)) (transition : Transition S F L) → Leads moving before transition after → IsMessageTold transition
-  message_told before after (Expiries moment expiries) leads = tt
-  message_told before after Continuation leads = tt
-  message_told before after (Refusal fault text) leads = tt
-  message_told before after (OwnAnswer message entry response text) leads = tt
-  message_told before after (ContextAnswer place handling made text) leads = told_in_order handling made leads.lawful
-  message_told before after (EditAnswer place edit answer) leads = tt
-  message_told before after Closing leads = tt
+  message_notified : (before after : List (ContextState S F L)) (transition : Transition S F L) → Leads moving before transition after → NotifiesOfMessage transition
+  message_notified before after (Expiries moment expiries) leads = tt
+  message_notified before after Continuation leads = tt
+  message_notified before after (Refusal fault text) leads = tt
+  message_notified before after (OwnAnswer message entry response text) leads = tt
+  message_notified before after (ContextAnswer place handling made text) leads = notified_in_order handling made leads.lawful
+  message_notified before after (EditAnswer place edit answer) leads = tt
+  message_notified before after Closing leads = tt
 
-  messages_told : (before after : List (ContextState S F L)) (transitions : List (Transition S F L)) → LeadsThrough moving before transitions after
-      → AllByRecursion IsMessageTold transitions
-  messages_told before after [] leads = tt
-  messages_told before after (transition ∷ transitions) leads =
-      (message_told before leads.0 transition leads.1, messages_told leads.0 after transitions leads.2)
+  messages_notified : (before after : List (ContextState S F L)) (transitions : List (Transition S F L)) → LeadsThrough moving before transitions after
+      → AllByRecursion NotifiesOfMessage transitions
+  messages_notified before after [] leads = tt
+  messages_notified before after (transition ∷ transitions) leads =
+      (message_notified before leads.0 transition leads.1, messages_notified leads.0 after transitions leads.2)
 
   -- ---- the notifications of a context
 
@@ -129,7 +129,7 @@ module _ {S F L : Type 0} (moving : ComponentSteps S F L) (one_case : JustOneCas
             let own : Listen count (Some handling.context) = subst (Listen count) here.3 listen in
             let done = done_in handling made leads.lawful in (
               ap notifications (cond-true (at == place) _ _ here.1)
-                  ∙ in_order_heard (site_of handling.context.content) (own_events handling made) (is_dispatched handling made) made (told_in_order handling made leads.lawful)
+                  ∙ in_order_heard (site_of handling.context.content) (own_events handling made) (is_dispatched handling made) made (notified_in_order handling made leads.lawful)
                   ∙ ap (λ its. all_told its (events_in handling made)) own.1
                   ∙ ap (all_told count) (sym (cond-true (at == place) _ _ here.1)),
               subst (Listen count) (sym (ap (λ its. slice_get its place) leads.is_after ∙ here.2))
@@ -335,7 +335,7 @@ module _ {S F L : Type 0} (moving : ComponentSteps S F L) (one_case : JustOneCas
         let gives : GivesBackParts moving after.world.contexts (journal_to_stop false) parts journal =
         subst (λ stopped. GivesBackParts moving (contexts_to_stop stopped after.world.contexts) (journal_to_stop stopped) parts journal) goes.1 shuts in
         record {
-          messages = messages_told before.world.contexts after.world.contexts lawful.transitions goes.0;
+          messages = messages_notified before.world.contexts after.world.contexts lawful.transitions goes.0;
           back = gives.back;
           parts_are = gives.are;
           contexts = λ place deployment first there is.
@@ -378,8 +378,8 @@ module _ {S F L : Type 0} (moving : ComponentSteps S F L) (one_case : JustOneCas
     silent_stops [] = tt
     silent_stops (context ∷ contexts) = (stop_heard (length context.listeners) (in_service context) [], silent_stops contexts)
 
-    pub no_session_is_told_of : WantOfMemoryStops (theory moving draws) → StoppedContainersStopQuietly moving Words → NoSessionIsToldOfBehindWantOfMemory moving draws
-    no_session_is_told_of stops quietly before between after happening happenings answers parts journal breaks run shuts =
+    pub no_session_event : WantOfMemoryStops (theory moving draws) → StoppedContainersStopQuietly moving Words → NoSessionEventAfterRunningOutOfMemory moving draws
+    no_session_event stops quietly before between after happening happenings answers parts journal breaks run shuts =
         let rest = stops before between after happening happenings answers breaks run in
         let stopped : after.stopped ≡ true = ap (λ (state : Whole). state.stopped) rest.1 ∙ breaks.stops in
         let same = ap (λ (state : Whole). state.world.contexts) rest.1 in

@@ -1,4 +1,4 @@
--- Listeners of our contexts are told exactly of the events of their lives.
+-- Listeners of our contexts are notified exactly of the events of their lives.
 use Rattle.std.proofs.Common.{◌≡◌, ℕ, Bool, true, false, not, inl, inr, List, [], ◌∷◌, ◌++◌, map, Option, None, Some, refl, sym, ap, ◌∙◌, subst, append-nil, append_assoc}
 use Rattle.std.specs.List.{flat_map}
 use Rattle.std.specs.Option.{option_to_list}
@@ -73,7 +73,7 @@ all_uncalled listeners (event ∷ events) =
     filter-append (λ call. not (is_of_listener call)) (told event listeners) (all_told listeners events)
     ∙ (λ i. told_uncalled event listeners i ++ all_uncalled listeners events i)
 
--- events that are told one list after another
+-- events that are notified one list after another
 pub all_joined : (listeners : ℕ) (front back : List Event) → all_told listeners (front ++ back) ≡ all_told listeners front ++ all_told listeners back
 all_joined listeners front back = flat_map-append (λ event. told event listeners) front back
 

@@ -17,9 +17,9 @@ use Rattle.sv_exchange.specs.Changing.{Change, SetHeader, SetStatus, answer, lef
 use Rattle.sv_exchange.specs.State as exchanges
 use Rattle.sv_exchange.specs.declared.exchange_fault.ExchangeFault.{ExchangeFault}
 use Rattle.sv_headline.proofs.Calling.{served_calls, then_of}
-use Rattle.sv_headline.proofs.Hearing.{told_in_order}
+use Rattle.sv_headline.proofs.Hearing.{notified_in_order}
 use Rattle.sv_headline.specs.Message.{IsBecause, IsDoneBy, IsLawfulMessage, exchange_for, findings_in, settled_for}
-use Rattle.sv_headline.specs.Unlawful.{EntriesCallTheirServlet, GoesToServlet, LoginsAreOfTheirSession, MessagesAreHandledByTheirContext, OutcomesAreOfTheirContext, TellingsAreInOrder, calls_with, first_exchange, site}
+use Rattle.sv_headline.specs.Unlawful.{EntriesCallTheirServlet, GoesToServlet, LoginsAreOfTheirSession, MessagesAreHandledByTheirContext, OutcomesAreOfTheirContext, NotificationsAreInOrder, calls_with, first_exchange, site}
 use Rattle.sv_journal.specs.declared.entry.Entry.{Entry}
 use Rattle.sv_journal.specs.declared.entry.Entry.TheVariants as entries
 use Rattle.sv_listeners.specs.Telling.{told}
@@ -102,10 +102,10 @@ module _ {S F L : Type 0} (moving : ComponentSteps S F L) where
 
   -- ---- notifications
 
-  pub tellings_are_in_order : JustOneCaseHolds → TellingsAreInOrder moving
-  tellings_are_in_order one_case handling made lawful = record {
-    order = told_in_order moving one_case handling made lawful;
-    other_order = λ entries others apart its. apart (told_in_order moving one_case (record handling { entries = entries }) others its);
+  pub notifications_are_in_order : JustOneCaseHolds → NotificationsAreInOrder moving
+  notifications_are_in_order one_case handling made lawful = record {
+    order = notified_in_order moving one_case handling made lawful;
+    other_order = λ entries others apart its. apart (notified_in_order moving one_case (record handling { entries = entries }) others its);
   }
 
   -- ---- the outcome

@@ -13,7 +13,7 @@ use Rattle.sv_context.specs.State.{ContextState, world_of}
 use Rattle.sv_context.specs.Theory.{theory}
 use Rattle.sv_headline.specs.Events.{Answers, AreOf, IsLawfulEvent, IsOf}
 use Rattle.sv_headline.specs.Transitions.{Expiries, Expiry, IsExpiry, LeadsThrough, Transition, effect_of, effect_of_all, entries_of}
-use Rattle.sv_headline.specs.Unlawful.{AnswersTheMessage, BeginsWith, IsDeedOf, MessagesAreAnswered, ResponsesAreOfTheirRequest, SendsItsResponse, TicksTellExpiriesAlone}
+use Rattle.sv_headline.specs.Unlawful.{AnswersTheMessage, BeginsWith, IsDeedOf, MessagesAreAnswered, ResponsesAreOfTheirRequest, SendsItsResponse, TicksNotifyOnlyOfExpiries}
 use Rattle.sv_journal.specs.declared.entry.Entry.{Entry}
 use Rattle.sv_journal.specs.declared.entry.Entry.TheVariants as entries
 use Rattle.sv_journal.specs.declared.refusal_cause.RefusalCause.TheVariants as causes
@@ -115,7 +115,7 @@ module _ {S F L : Type 0} (moving : ComponentSteps S F L) where
       let rest = entries_once moment expiries others (same_rest same) one.1 other.1 in
       λ i. entries_from (contexts i) (ended i) ++ rest i
 
-  -- the context at a place has no session to end if nothing is told
+  -- the context at a place has no session to end if nothing is notified
   silent_at : (moment place : ℕ) (expiries : List (Expiry S F L)) (context : ContextState S F L) → AllByRecursion (IsExpiry moving moment) expiries
       → flat_map entries_of expiries ≡ [] → slice_get (map (λ (expiry : Expiry S F L). expiry.context) expiries) place ≡ Some context
       → length context.listeners ≢ 0 → expiring moment context.store ≡ None
@@ -160,8 +160,8 @@ module _ {S F L : Type 0} (moving : ComponentSteps S F L) where
               ∙ append-nil (flat_map entries_of lawful.expiries);
         }
 
-    pub ticks_tell_expiries_alone : TicksTellExpiriesAlone moving draws
-    ticks_tell_expiries_alone before after effect transitions moment lawful =
+    pub ticks_notify_only_of_expiries : TicksNotifyOnlyOfExpiries moving draws
+    ticks_notify_only_of_expiries before after effect transitions moment lawful =
         let own = ticked before after moment effect transitions lawful in
         let now = moment_after before.moment (Tick moment) in
         record {
@@ -170,7 +170,7 @@ module _ {S F L : Type 0} (moving : ComponentSteps S F L) where
               (silent_at now expired.place own.expiries expired.context own.each (sym own.are ∙ silent)
               (ap (λ contexts. slice_get contexts expired.place) (sym own.contexts) ∙ expired.there) expired.listens)
               expired.ends;
-          other_tellings = λ journal apart others its_after its.
+          other_notifications = λ journal apart others its_after its.
               let other = ticked before its_after moment (record effect { journal = journal }) others its in
               apart (other.are ∙ entries_once now other.expiries own.expiries (sym other.contexts ∙ own.contexts) other.each own.each ∙ sym own.are);
         }

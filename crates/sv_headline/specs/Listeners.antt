@@ -1,4 +1,4 @@
--- What the listeners of a context are told, from the start of its container over any run to its stop (Jakarta Servlet 6.0,
+-- What the listeners of a context are notified, from the start of its container over any run to its stop (Jakarta Servlet 6.0,
 -- sections 11.3.3 and 11.3.4).
 use Rattle.std.specs.Prelude.{◌≡◌, ◌==◌, ℕ, Bool, true, false, not, List, [], ◌∷◌, ◌++◌, length, map, Some, Ok, Err, slice_get, if◌then◌else◌}
 use Rattle.std.specs.List.{AllByRecursion, filter, flat_map}
@@ -72,10 +72,10 @@ module _ {S F L : Type 0} (handling : Handling (ContextState S F L)) (made : Lis
   abbrev pub events_in : List Event
   events_in = own_events ++ events_within is_dispatched (flat_map left_events made)
 
-  -- the calls of a message: listeners are told of its session first and of its request before and after all other calls; each
+  -- the calls of a message: listeners are notified of its session first and of its request before and after all other calls; each
   -- call of a filter or servlet is followed at once by the notifications of what it did to the session
-  abbrev pub IsToldInOrder : Type 0
-  IsToldInOrder =
+  abbrev pub NotifiesInOrder : Type 0
+  NotifiesInOrder =
       made
       ≡ all_told (length handling.context.content.app.listeners) own_events
       ++ within_request is_dispatched (length handling.context.content.app.listeners)
@@ -92,14 +92,14 @@ module _ {S F L : Type 0} where
   events_at place (EditAnswer other edit answer) = []
   events_at place Closing = []
 
-  abbrev pub IsMessageTold : Transition S F L → Type 0
-  IsMessageTold (ContextAnswer place handling made text) = IsToldInOrder handling made
-  IsMessageTold (Expiries moment expiries) = Unit {0}
-  IsMessageTold Continuation = Unit {0}
-  IsMessageTold (Refusal fault text) = Unit {0}
-  IsMessageTold (OwnAnswer message entry response text) = Unit {0}
-  IsMessageTold (EditAnswer other edit answer) = Unit {0}
-  IsMessageTold Closing = Unit {0}
+  abbrev pub NotifiesOfMessage : Transition S F L → Type 0
+  NotifiesOfMessage (ContextAnswer place handling made text) = NotifiesInOrder handling made
+  NotifiesOfMessage (Expiries moment expiries) = Unit {0}
+  NotifiesOfMessage Continuation = Unit {0}
+  NotifiesOfMessage (Refusal fault text) = Unit {0}
+  NotifiesOfMessage (OwnAnswer message entry response text) = Unit {0}
+  NotifiesOfMessage (EditAnswer other edit answer) = Unit {0}
+  NotifiesOfMessage Closing = Unit {0}
 
   -- the events of a context's whole life: its start, those of the run, the end of each session that is left, and its stop
   abbrev pub events_of_life : ℕ → List (Transition S F L) → ContextState S F L → List Event
@@ -119,9 +119,9 @@ module _ {S F L : Type 0} where
 
 module _ {S F L : Type 0} (moving : ComponentSteps S F L) where
   -- the context at a place is started with the deployment, lives through the transitions and stops; these are all the calls of
-  -- its components; and the notifications among them are exactly those of the events of its life, each told to every listener
+  -- its components; and the notifications among them are exactly those of the events of its life, each reported to every listener
   -- in the order of the specification
-  pub record IsToldExactly (place : ℕ) (deployment : Deployment S F L) (first : ContextState S F L) (transitions : List (Transition S F L))
+  pub record IsNotifiedExactly (place : ℕ) (deployment : Deployment S F L) (first : ContextState S F L) (transitions : List (Transition S F L))
       (last : ContextState S F L) (stopped : Deployment S F L) : Type 0 where
     pub begun : List Answered
     pub noted : JournalState
@@ -135,18 +135,18 @@ module _ {S F L : Type 0} (moving : ComponentSteps S F L) where
         ≡ all_told (length first.listeners) (events_of_life place transitions last)
 
   module _ {Words : Type 0} (draws : Words → ℕ × ℕ → Words → Type 0) where
-    -- over every run of a started container to its stop, listeners are told exactly of the lifecycle, of requests and of
+    -- over every run of a started container to its stop, listeners are notified exactly of the lifecycle, of requests and of
     -- sessions, each in its place
-    pub record ListenersAreTold (deployments : List (Deployment S F L)) (before after : State (ContextState S F L) Words)
+    pub record ListenersAreNotified (deployments : List (Deployment S F L)) (before after : State (ContextState S F L) Words)
         (transitions : List (Transition S F L)) (parts : List (Parts S F L)) : Type 0 where
-      pub messages : AllByRecursion IsMessageTold transitions
+      pub messages : AllByRecursion NotifiesOfMessage transitions
       pub back : List (Deployment S F L)
       pub parts_are : parts ≡ map (λ deployment. deployment.parts) back
       pub contexts : (place : ℕ) (deployment : Deployment S F L) (first : ContextState S F L)
           → slice_get deployments place ≡ Some deployment → slice_get before.world.contexts place ≡ Some first
           → (last : ContextState S F L) × (stopped : Deployment S F L)
           × (slice_get after.world.contexts place ≡ Some last) × (slice_get back place ≡ Some stopped)
-          × IsToldExactly place deployment first transitions last stopped
+          × IsNotifiedExactly place deployment first transitions last stopped
 
     abbrev pub ListenersHearExactly : Type 0
     ListenersHearExactly =
@@ -156,10 +156,10 @@ module _ {S F L : Type 0} (moving : ComponentSteps S F L) where
         → Starts moving deployments words noted (Ok container) noted_after
         → (lawful : IsLawfulRun moving draws (state_of container) happenings answers after)
         → ShutsDown moving after parts journal
-        → ListenersAreTold deployments (state_of container) after lawful.transitions parts
+        → ListenersAreNotified deployments (state_of container) after lawful.transitions parts
 
-    -- after an event has run out of memory nothing happens but the stop, of which each listener is told, and of no session
-    pub record StopsInSilence (contexts : List (ContextState S F L)) (after : State (ContextState S F L) Words) (answers : List (Answer (ContextState S F L)))
+    -- after an event has run out of memory nothing happens but the stop, of which each listener is notified; no session is reported
+    pub record StopsWithoutSessions (contexts : List (ContextState S F L)) (after : State (ContextState S F L) Words) (answers : List (Answer (ContextState S F L)))
         (parts : List (Parts S F L)) (journal : JournalState) : Type 0 where
       pub refused : AllByRecursion (λ answer. answer ≡ Err Stopped) answers
       pub stays : after.world.contexts ≡ contexts
@@ -169,9 +169,9 @@ module _ {S F L : Type 0} (moving : ComponentSteps S F L) where
           notifications (stop_calls (length context.listeners) (in_service context) []) ≡ told ContextDestroyed (length context.listeners))
           contexts
 
-    abbrev pub NoSessionIsToldOfBehindWantOfMemory : Type 0
-    NoSessionIsToldOfBehindWantOfMemory =
+    abbrev pub NoSessionEventAfterRunningOutOfMemory : Type 0
+    NoSessionEventAfterRunningOutOfMemory =
         (before between after : State (ContextState S F L) Words) (happening : Happening) (happenings : List Happening)
         (answers : List (Answer (ContextState S F L))) (parts : List (Parts S F L)) (journal : JournalState)
         → Steps (theory moving draws) before happening (Err NoMemory) between → Run (theory moving draws) between happenings answers after
-        → ShutsDown moving after parts journal → StopsInSilence between.world.contexts after answers parts journal
+        → ShutsDown moving after parts journal → StopsWithoutSessions between.world.contexts after answers parts journal

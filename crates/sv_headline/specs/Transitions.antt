@@ -35,7 +35,7 @@ pub record Expiry (S F L : Type 0) : Type 0 where
 pub data Transition (S F L : Type 0) : Type 0 where
   -- the sessions of every context that have expired at a time end
   Expiries : ℕ → List (Expiry S F L) → Transition S F L
-  -- a client is told to send the body of its message
+  -- a client is asked to send the body of its message
   Continuation : Transition S F L
   -- bytes that are no message are refused, by a text
   Refusal : WireFault → List ℕ → Transition S F L
@@ -110,7 +110,7 @@ module _ {S F L : Type 0} where
   IsEditedAt (Some place) edit answer before after = IsEdited place edit answer before after
 
 module _ {S F L : Type 0} (moving : ComponentSteps S F L) where
-  -- the sessions that have expired at the time end, and no others; each listener is told of each end, in order, and nothing
+  -- the sessions that have expired at the time end, and no others; each listener is notified of each end, in order, and nothing
   -- else changes
   pub record IsExpiry (moment : ℕ) (expiry : Expiry S F L) : Type 0 where
     pub ends : sessions.Expires moment expiry.context.store expiry.ended expiry.after.store

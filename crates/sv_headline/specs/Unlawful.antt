@@ -11,7 +11,7 @@ use Rattle.sv_context.specs.Theory.{theory}
 use Rattle.sv_exchange.specs.Keeping.{counted}
 use Rattle.sv_exchange.specs.State as exchanges
 use Rattle.sv_headline.specs.Events.{IsLawfulEvent}
-use Rattle.sv_headline.specs.Listeners.{IsToldInOrder}
+use Rattle.sv_headline.specs.Listeners.{NotifiesInOrder}
 use Rattle.sv_headline.specs.Message.{IsBecause, IsLawfulMessage, MayEnter, exchange_for, path_in, settled_for}
 use Rattle.sv_headline.specs.Transitions.{ContextAnswer, Leads, Transition}
 use Rattle.sv_journal.specs.declared.entry.Entry.{Entry}
@@ -53,7 +53,7 @@ module _ {S F L : Type 0} (moving : ComponentSteps S F L) (handling : Handling (
   first_exchange =
       counted (begun site kinds.Request (asked_of handling.context handling.request).canon (exchange_for handling.context handling.request outcomes.Entered))
 
-  -- the calls of a request that enters: listeners are told of the request, and then the servlet is called with an exchange
+  -- the calls of a request that enters: listeners are notified of the request, and then the servlet is called with an exchange
   abbrev pub calls_with : ℕ → exchanges.State → Step → exchanges.State → List Record → List Record
   calls_with place exchange step left behind = told RequestInitialized site.listeners ++ OfServlet place (Serviced exchange 0 step left) ∷ behind
 
@@ -76,11 +76,11 @@ module _ {S F L : Type 0} (moving : ComponentSteps S F L) (handling : Handling (
         → exchange ≢ first_exchange
         → ¬ (IsLawfulMessage moving (record handling { entries = entries }) (calls_with place exchange its_step its_left others))
 
-  -- listeners are told of what the message and its calls did, each time in its place; with a notification more, with one fewer or
+  -- listeners are notified of what the message and its calls did, each time in its place; with a notification more, with one fewer or
   -- elsewhere the handling is not lawful
-  pub record TellsInOrder : Type 0 where
-    pub order : IsToldInOrder handling made
-    pub other_order : (entries : List Entry) (others : List Record) → ¬ (IsToldInOrder handling others)
+  pub record NotifiesItsOwn : Type 0 where
+    pub order : NotifiesInOrder handling made
+    pub other_order : (entries : List Entry) (others : List Record) → ¬ (NotifiesInOrder handling others)
         → ¬ (IsLawfulMessage moving (record handling { entries = entries }) others)
 
   -- an outcome is noted for the context of the message; if another is noted, the handling is not lawful
@@ -123,11 +123,11 @@ module _ {S F L Words : Type 0} (moving : ComponentSteps S F L) (draws : Words �
     pub ends : expiring moment context.store ≡ Some session
     pub listens : length context.listeners ≢ 0
 
-  -- an expired session is told of; and a tick of the clock notes the ends of the expired sessions and nothing else: with more
+  -- an expired session is notified of; and a tick of the clock notes the ends of the expired sessions and nothing else: with more
   -- entries, with fewer or with others it is not lawful
-  pub record TellsExpiries (moment : ℕ) : Type 0 where
+  pub record NotifiesOfExpiries (moment : ℕ) : Type 0 where
     pub told : HasExpired (moment_after before.moment (Tick moment)) → effect.journal ≢ []
-    pub other_tellings : (journal : List Entry) → journal ≢ effect.journal → IsLawfulNever (Tick moment) (record effect { journal = journal })
+    pub other_notifications : (journal : List Entry) → journal ≢ effect.journal → IsLawfulNever (Tick moment) (record effect { journal = journal })
 
   -- the deed of a message: its context handled it, or the container answered it itself, by the target
   abbrev pub IsDeedOf : MessageRecord → Deed (ContextState S F L) → Type 0
@@ -166,9 +166,9 @@ module _ {S F L : Type 0} (moving : ComponentSteps S F L) where
       (handling : Handling (ContextState S F L)) (made : List Record) (place : ℕ)
       → GoesToServlet moving handling made place → IsLawfulMessage moving handling made → CallsTheServlet moving handling made place
 
-  abbrev pub TellingsAreInOrder : Type 0
-  TellingsAreInOrder =
-      (handling : Handling (ContextState S F L)) (made : List Record) → IsLawfulMessage moving handling made → TellsInOrder moving handling made
+  abbrev pub NotificationsAreInOrder : Type 0
+  NotificationsAreInOrder =
+      (handling : Handling (ContextState S F L)) (made : List Record) → IsLawfulMessage moving handling made → NotifiesItsOwn moving handling made
 
   abbrev pub OutcomesAreOfTheirContext : Type 0
   OutcomesAreOfTheirContext =
@@ -187,10 +187,10 @@ module _ {S F L : Type 0} (moving : ComponentSteps S F L) where
       → Leads moving before (ContextAnswer place handling made text) after → IsHandledByItsContext moving before place handling
 
   module _ {Words : Type 0} (draws : Words → ℕ × ℕ → Words → Type 0) where
-    abbrev pub TicksTellExpiriesAlone : Type 0
-    TicksTellExpiriesAlone =
+    abbrev pub TicksNotifyOnlyOfExpiries : Type 0
+    TicksNotifyOnlyOfExpiries =
         (before after : State (ContextState S F L) Words) (effect : Effect (ContextState S F L)) (transitions : List (Transition S F L)) (moment : ℕ)
-        → IsLawfulEvent moving draws before (Tick moment) effect transitions after → TellsExpiries moving draws before effect moment
+        → IsLawfulEvent moving draws before (Tick moment) effect transitions after → NotifiesOfExpiries moving draws before effect moment
 
     abbrev pub MessagesAreAnswered : Type 0
     MessagesAreAnswered =

@@ -24,7 +24,7 @@ pub use laws::{
     what_a_refused_script_prints_is_cut, what_a_refused_start_prints_is_its_text,
     what_a_script_prints_is_lawful, what_an_event_loop_does_is_lawful,
 };
-pub use listeners::{listeners_hear_exactly, no_session_is_told_of_behind_want_of_memory};
+pub use listeners::{listeners_hear_exactly, no_session_event_after_running_out_of_memory};
 pub use lives::{components_are_destroyed_once, each_component_is_destroyed_once};
 pub use record::{
     every_lawful_run_is_a_run, every_run_is_lawful, every_run_is_lawful_until_memory_is_refused,
@@ -36,6 +36,6 @@ pub use runs::{
 };
 pub use unlawful::{
     access_is_decided_once, entries_call_their_servlet, logins_are_of_their_session,
-    messages_are_answered, messages_are_handled_by_their_context, outcomes_are_of_their_context,
-    responses_are_of_their_request, tellings_are_in_order, ticks_tell_expiries_alone,
+    messages_are_answered, messages_are_handled_by_their_context, notifications_are_in_order,
+    outcomes_are_of_their_context, responses_are_of_their_request, ticks_notify_only_of_expiries,
 };

@@ -11,7 +11,7 @@ use sv_run::{Words, want_of_memory_stops};
 
 /// Every run over a list of events is lawful, until memory runs out. Its events have transitions, one after another:
 ///
-/// - First the sessions that have expired end, in every context, and each end is told to the listeners.
+/// - First the sessions that have expired end, in every context, and each end is notified to the listeners.
 /// - Then each message that the bytes complete is answered. The context whose path serves its target handles it, as that
 ///   context is at that moment. The message enters exactly if its path is not hidden, it is no login post, and the
 ///   constraints allow it: the combined constraints of that moment, applied to its method, its path and the caller of its

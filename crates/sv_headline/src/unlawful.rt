@@ -3,7 +3,7 @@
 
 ghost use Rattle.sv_component.specs.Steps.{steps_of};
 ghost use Rattle.sv_headline.specs.DecidedOnce.{AccessIsDecidedOnce};
-ghost use Rattle.sv_headline.specs.Unlawful.{EntriesCallTheirServlet, LoginsAreOfTheirSession, MessagesAreAnswered, MessagesAreHandledByTheirContext, OutcomesAreOfTheirContext, ResponsesAreOfTheirRequest, TellingsAreInOrder, TicksTellExpiriesAlone};
+ghost use Rattle.sv_headline.specs.Unlawful.{EntriesCallTheirServlet, LoginsAreOfTheirSession, MessagesAreAnswered, MessagesAreHandledByTheirContext, OutcomesAreOfTheirContext, ResponsesAreOfTheirRequest, NotificationsAreInOrder, TicksNotifyOnlyOfExpiries};
 
 use sv_component::{Filter, Listener, Servlet};
 use sv_login::just_one_case_holds;
@@ -24,10 +24,10 @@ pub fn entries_call_their_servlet<S: Servlet, F: Filter, L: Listener>()
     ensures { EntriesCallTheirServlet (steps_of S.servlet_step F.filter_step L.listener_step) }
 {}
 
-/// Listeners are told of what a message and its calls did, each time in its place. It is not lawful to tell them of anything
-/// else, to tell them less, or to tell them elsewhere (Jakarta Servlet 6.0, section 11.3.3).
-pub fn tellings_are_in_order<S: Servlet, F: Filter, L: Listener>()
-    ensures { TellingsAreInOrder (steps_of S.servlet_step F.filter_step L.listener_step) }
+/// Listeners are notified of what a message and its calls did, each time in its place. It is not lawful to notify them of anything
+/// else, to notify them of less, or to do so elsewhere (Jakarta Servlet 6.0, section 11.3.3).
+pub fn notifications_are_in_order<S: Servlet, F: Filter, L: Listener>()
+    ensures { NotificationsAreInOrder (steps_of S.servlet_step F.filter_step L.listener_step) }
 {
     just_one_case_holds();
 }
@@ -52,9 +52,9 @@ pub fn messages_are_handled_by_their_context<S: Servlet, F: Filter, L: Listener>
 {}
 
 /// A tick of the clock notes the ends of the expired sessions, and nothing else. It is not lawful to let a session expire
-/// in silence, or to note what no listener was told (Jakarta Servlet 6.0, sections 7.5 and 11.3.4).
-pub fn ticks_tell_expiries_alone<S: Servlet, F: Filter, L: Listener, W: Words>()
-    ensures { TicksTellExpiriesAlone (steps_of S.servlet_step F.filter_step L.listener_step) W.draws }
+/// in silence, or to note what no listener was notified of (Jakarta Servlet 6.0, sections 7.5 and 11.3.4).
+pub fn ticks_notify_only_of_expiries<S: Servlet, F: Filter, L: Listener, W: Words>()
+    ensures { TicksNotifyOnlyOfExpiries (steps_of S.servlet_step F.filter_step L.listener_step) W.draws }
 {}
 
 /// A piece that completes a message brings the deed of that message. It is not lawful to swallow the message, or to refuse
