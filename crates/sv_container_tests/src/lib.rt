@@ -11,6 +11,8 @@ mod calls;
 #[cfg(test)]
 mod configurations;
 #[cfg(test)]
+mod connections;
+#[cfg(test)]
 mod containers;
 #[cfg(test)]
 mod counted_components;
