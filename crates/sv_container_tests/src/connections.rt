@@ -1,6 +1,7 @@
 //! Connections whose reads or writes fail, and those that are served after them by the same container.
 
-use crate::containers::{Does, TestContainer, answer_with};
+use crate::containers::{Does, answer_with};
+use crate::deployments::TestContainer;
 use std::alloc::Global;
 use sv_connection::{AcceptFailed, Acceptor, Over, run_connection, serve_connections};
 use sv_rows::{Asks, Draft, Strays, cell, hold, unescaped};
