@@ -1,7 +1,8 @@
 //! The number of calls of each component over the events of a container.
 
-use crate::containers::{Does, Ending, TestContainer, live, note, tell_cause};
-use crate::counted_components::Counts;
+use crate::containers::{Does, Ending, live, note, tell_cause};
+use crate::counted_components::{Count, Counts};
+use crate::deployments::TestContainer;
 use crate::happenings::step;
 use std::alloc::Global;
 use sv_rows::{Asks, Draft, Strays, cell, hold};
@@ -38,7 +39,11 @@ impl Asks for Calls {
         let entries = entries.finish()?;
         tell_ending(&ending, &mut told);
         told.add(" | ");
-        counts.tell(str::from_utf8(entries.as_slice()).unwrap_or(""), &mut told);
+        tell_counts(
+            &counts,
+            str::from_utf8(entries.as_slice()).unwrap_or(""),
+            &mut told,
+        );
         told.add_to(answer)
     }
 }
@@ -62,6 +67,38 @@ fn tell_ending(ending: &Ending, told: &mut Draft) {
             tell_cause(*code, context.as_str(), told);
         }
     }
+}
+
+/// Adds the number of calls of each component, and the number of its entries if they differ.
+fn tell_counts(counts: &Counts, journal: &str, told: &mut Draft) {
+    let mut front = "";
+    for count in counts.as_slice() {
+        told.add(front);
+        front = ", ";
+        tell_count(count, journal, told);
+    }
+}
+
+fn tell_count(count: &Count, journal: &str, told: &mut Draft) {
+    let calls = count.calls();
+    let entries = entries_of(journal, count.front.as_str());
+    told.add(count.front.as_str());
+    told.add_shown(&calls);
+    if entries != calls {
+        told.add(" but entries ");
+        told.add_shown(&entries);
+    }
+}
+
+/// Returns the number of lines that begin with `front`.
+fn entries_of(journal: &str, front: &str) -> u64 {
+    let mut entries = 0u64;
+    for line in journal.lines() {
+        if line.starts_with(front) {
+            entries = entries.saturating_add(1);
+        }
+    }
+    entries
 }
 
 /// The columns: deployments; events; end of the container, and the calls of each component.

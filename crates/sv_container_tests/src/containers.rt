@@ -1,28 +1,13 @@
 //! The container of a row.
 
-use crate::counted_components::{Counted, Counts};
-use crate::deployments::{deployments, shown};
+use crate::counted_components::Counts;
+use crate::deployments::{TestContainer, TestFault, deployments, shown};
 use std::alloc::Global;
-use sv_container::{Container, NewCode, NewFault};
-use sv_deployments::{ProgramFilter, ProgramListener, ProgramServlet};
+use sv_container::{Container, NewCode};
 use sv_journal::Journal;
 use sv_rows::{Draft, cell};
 use sv_run::CountedWords;
 use sv_text::{NoMemory, Text};
-
-/// A container of the program's own classes that counts their calls.
-pub type TestContainer = Container<
-    Counted<ProgramServlet>,
-    Counted<ProgramFilter>,
-    Counted<ProgramListener>,
-    CountedWords,
->;
-
-type TestFault = NewFault<
-    Counted<ProgramServlet>,
-    Counted<ProgramFilter>,
-    Counted<ProgramListener>,
->;
 
 /// An action on the container of a row.
 pub trait Does {

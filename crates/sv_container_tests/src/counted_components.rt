@@ -4,27 +4,39 @@ use std::alloc::Global;
 use std::cell::Cell;
 use std::rc::Rc;
 use sv_component::{Config, Event, Exchange, Filter, Gate, Init, Listener, Servlet, Step};
-use sv_rows::Draft;
 use sv_text::NoMemory;
 
 /// A component that counts the calls of another one, in a cell that it shares with the test.
 #[derive(Drop)]
 pub struct Counted<C> {
-    calls: Rc<Cell<u64>>,
+    tally: Rc<Cell<Tally>>,
     component: C,
 }
 
-/// The number of calls of each component, with the text that its entries begin with.
+/// The counts of a component.
+#[derive(Clone, Copy)]
+struct Tally {
+    calls: u64,
+    /// The calls of `init` that made the component ready, or the starts that a listener was notified of.
+    starts: u64,
+    /// The calls of `destroy`, or the ends that a listener was notified of.
+    ends: u64,
+    /// The events of sessions that a listener was notified of.
+    session_events: u64,
+}
+
+/// The counts of all components.
 #[derive(Drop)]
 pub struct Counts {
     alloc: Global,
     counts: Vec<Count>,
 }
 
+/// The counts of a component, with the text that its entries begin with.
 #[derive(Drop)]
-struct Count {
-    front: String,
-    calls: Rc<Cell<u64>>,
+pub struct Count {
+    pub front: String,
+    tally: Rc<Cell<Tally>>,
 }
 
 impl Counts {
@@ -42,62 +54,102 @@ impl Counts {
         front: String,
         component: C,
     ) -> Result<Counted<C>, NoMemory> {
-        let calls = self.cell(front)?;
-        Ok(Counted { calls, component })
+        let tally = self.tally(front)?;
+        Ok(Counted { tally, component })
     }
 
-    fn cell(&mut self, front: String) -> Result<Rc<Cell<u64>>, NoMemory> {
-        let calls = Rc::new(self.alloc, Cell::new(0))?;
-        let shared = calls.clone()?;
-        self.counts.push(Count { front, calls })?;
+    fn tally(&mut self, front: String) -> Result<Rc<Cell<Tally>>, NoMemory> {
+        let none = Tally {
+            calls: 0,
+            starts: 0,
+            ends: 0,
+            session_events: 0,
+        };
+        let tally = Rc::new(self.alloc, Cell::new(none))?;
+        let shared = tally.clone()?;
+        self.counts.push(Count { front, tally })?;
         Ok(shared)
     }
 
-    /// Adds the number of calls of each component, and the number of its entries if they differ.
-    pub fn tell(&self, journal: &str, told: &mut Draft) {
-        let mut front = "";
+    /// Returns the counts of each component.
+    pub fn as_slice(&self) -> &[Count] {
+        self.counts.as_slice()
+    }
+
+    /// Returns whether there are components, and each was started once.
+    pub fn all_started(&self) -> bool {
+        let mut all = !self.counts.is_empty();
         for count in self.counts.as_slice() {
-            told.add(front);
-            front = ", ";
-            count.tell(journal, told);
+            all = all && count.tally.get().starts == 1;
         }
+        all
+    }
+
+    /// Returns whether each component was started at most once, and has ended as often as it was started.
+    pub fn all_ended(&self) -> bool {
+        let mut all = true;
+        for count in self.counts.as_slice() {
+            let Tally { starts, ends, .. } = count.tally.get();
+            all = all && starts <= 1 && ends == starts;
+        }
+        all
+    }
+
+    /// Returns the number of session events that listeners were notified of, each counted once for each listener.
+    pub fn session_events(&self) -> u64 {
+        let mut events = 0u64;
+        for count in self.counts.as_slice() {
+            events = events.saturating_add(count.tally.get().session_events);
+        }
+        events
     }
 }
 
 impl Count {
-    fn tell(&self, journal: &str, told: &mut Draft) {
-        let calls = self.calls.get();
-        let entries = entries_of(journal, self.front.as_str());
-        told.add(self.front.as_str());
-        told.add_shown(&calls);
-        if entries != calls {
-            told.add(" but entries ");
-            told.add_shown(&entries);
-        }
+    /// Returns the number of calls.
+    pub fn calls(&self) -> u64 {
+        self.tally.get().calls
     }
-}
-
-/// Returns the number of lines that begin with `front`.
-fn entries_of(journal: &str, front: &str) -> u64 {
-    let mut entries = 0u64;
-    for line in journal.lines() {
-        if line.starts_with(front) {
-            entries = entries.saturating_add(1);
-        }
-    }
-    entries
 }
 
 impl<C> Counted<C> {
     fn count(&self) {
-        self.calls.set(self.calls.get().saturating_add(1));
+        let mut tally = self.tally.get();
+        tally.calls = tally.calls.saturating_add(1);
+        self.tally.set(tally);
+    }
+
+    fn count_init(&self, answer: Init) {
+        self.count();
+        if answer == Init::Ready {
+            self.count_start();
+        }
+    }
+
+    fn count_start(&self) {
+        let mut tally = self.tally.get();
+        tally.starts = tally.starts.saturating_add(1);
+        self.tally.set(tally);
+    }
+
+    fn count_end(&self) {
+        let mut tally = self.tally.get();
+        tally.ends = tally.ends.saturating_add(1);
+        self.tally.set(tally);
+    }
+
+    fn count_session_event(&self) {
+        let mut tally = self.tally.get();
+        tally.session_events = tally.session_events.saturating_add(1);
+        self.tally.set(tally);
     }
 }
 
 impl<S: Servlet> Servlet for Counted<S> {
     fn init(&mut self, alloc: Global, config: &Config) -> Init {
-        self.count();
-        self.component.init(alloc, config)
+        let answer = self.component.init(alloc, config);
+        self.count_init(answer);
+        answer
     }
 
     fn service(&mut self, alloc: Global, exchange: &mut Exchange, turn: u32) -> Step {
@@ -107,14 +159,16 @@ impl<S: Servlet> Servlet for Counted<S> {
 
     fn destroy(&mut self) {
         self.count();
+        self.count_end();
         self.component.destroy();
     }
 }
 
 impl<F: Filter> Filter for Counted<F> {
     fn init(&mut self, alloc: Global, config: &Config) -> Init {
-        self.count();
-        self.component.init(alloc, config)
+        let answer = self.component.init(alloc, config);
+        self.count_init(answer);
+        answer
     }
 
     fn before(&mut self, alloc: Global, exchange: &mut Exchange) -> Gate {
@@ -129,6 +183,7 @@ impl<F: Filter> Filter for Counted<F> {
 
     fn destroy(&mut self) {
         self.count();
+        self.count_end();
         self.component.destroy();
     }
 }
@@ -136,6 +191,12 @@ impl<F: Filter> Filter for Counted<F> {
 impl<L: Listener> Listener for Counted<L> {
     fn hear(&mut self, event: &Event) {
         self.count();
+        match event {
+            Event::ContextInitialized => self.count_start(),
+            Event::ContextDestroyed => self.count_end(),
+            Event::RequestInitialized | Event::RequestDestroyed => {}
+            _ => self.count_session_event(),
+        }
         self.component.hear(event);
     }
 }

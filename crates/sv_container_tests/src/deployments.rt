@@ -1,20 +1,37 @@
 //! The deployments of a row.
 
 use crate::counted_components::{Counted, Counts};
-use crate::descriptors::descriptor_text;
+use crate::descriptors::{descriptor_text, file_lines};
 use crate::results::{beside, both, made, push};
 use std::alloc::Global;
 use sv_component::Named;
+use sv_container::{Container, NewFault};
 use sv_deployments::{ProgramFilter, ProgramListener, ProgramServlet, parts_of};
 use sv_descriptor::{Descriptor, read_descriptor, read_users};
-use sv_files::Files;
+use sv_files::{File, Files};
 use sv_lifecycle::Deployment;
 use sv_live::Parts;
 use sv_realm::{MAX_USERS, Realm};
-use sv_text::{NoMemory, Text};
+use sv_run::CountedWords;
+use sv_text::{Bytes, NoMemory, Text};
 
 /// The deployment of a context with counted components of the program's own classes.
 pub type TestDeployment = Deployment<
+    Counted<ProgramServlet>,
+    Counted<ProgramFilter>,
+    Counted<ProgramListener>,
+>;
+
+/// A container of the program's own classes that counts their calls.
+pub type TestContainer = Container<
+    Counted<ProgramServlet>,
+    Counted<ProgramFilter>,
+    Counted<ProgramListener>,
+    CountedWords,
+>;
+
+/// A start of such a container that failed.
+pub type TestFault = NewFault<
     Counted<ProgramServlet>,
     Counted<ProgramFilter>,
     Counted<ProgramListener>,
@@ -81,7 +98,7 @@ fn deployment(
     path: &str,
     counts: &mut Counts,
 ) -> Result<TestDeployment, NoMemory> {
-    let kept = both(files(alloc), users(alloc));
+    let kept = both(files(alloc, file_lines(name)), users(alloc));
     let named = both(Text::copy_of(alloc, path), kept);
     match both(named, described(alloc, name, path, counts)) {
         Ok(values) => Ok(deployment_of(values)),
@@ -115,8 +132,22 @@ fn described(
     beside(descriptor, parts)
 }
 
-fn files(alloc: Global) -> Result<Files, NoMemory> {
-    made(Files::from_list(alloc, Vec::new(alloc)))
+/// Returns the files of these lines: each is a path and the text of that file, which ends in a line feed.
+fn files(alloc: Global, lines: &str) -> Result<Files, NoMemory> {
+    let mut files = Vec::new(alloc);
+    for line in lines.lines() {
+        push(&mut files, file(alloc, line))?;
+    }
+    made(Files::from_list(alloc, files))
+}
+
+fn file(alloc: Global, line: &str) -> Result<File, NoMemory> {
+    let (path, text) = line.split_once(' ').unwrap_or((line, ""));
+    let text = format!(in alloc; "{text}\n")?;
+    Ok(File {
+        path: Text::copy_of(alloc, path)?,
+        bytes: Bytes::copy_of(alloc, text.as_bytes())?,
+    })
 }
 
 fn users(alloc: Global) -> Result<Realm, NoMemory> {

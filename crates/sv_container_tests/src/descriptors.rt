@@ -1,4 +1,4 @@
-//! The descriptors of a row's contexts.
+//! The descriptors and the files of a row's contexts.
 
 use sv_rows::{BAD, DEMO, TWO};
 
@@ -13,6 +13,19 @@ pub fn descriptor_text(name: &str) -> &'static str {
         _ => "",
     }
 }
+
+/// Returns the files of the context of this name: each line is a path and the text of that file.
+pub fn file_lines(name: &str) -> &'static str {
+    match name {
+        "demo" => DEMO_FILES,
+        _ => "",
+    }
+}
+
+const DEMO_FILES: &str = "/WEB-INF/page.html page
+/admin/x.txt secret
+/error.html no
+/login.html login";
 
 /// A context with one servlet and one listener.
 const WHO: &str = r#"

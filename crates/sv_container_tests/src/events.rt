@@ -1,6 +1,7 @@
 //! Events of connections, edits, and explanations.
 
-use crate::containers::{Does, TestContainer, answer_with};
+use crate::containers::{Does, answer_with};
+use crate::deployments::TestContainer;
 use crate::happenings::step;
 use crate::results::made;
 use std::alloc::Global;

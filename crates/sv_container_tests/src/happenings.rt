@@ -1,6 +1,6 @@
 //! The events of rows.
 
-use crate::containers::TestContainer;
+use crate::deployments::TestContainer;
 use std::alloc::Global;
 use sv_rows::unescaped;
 use sv_run::{Happening, Reaction, StepFault};

@@ -1,6 +1,7 @@
 //! Starts that succeed or fail.
 
-use crate::containers::{Does, TestContainer, answer_with};
+use crate::containers::{Does, answer_with};
+use crate::deployments::TestContainer;
 use std::alloc::Global;
 use sv_rows::{Asks, Draft, Strays, hold};
 use sv_text::NoMemory;

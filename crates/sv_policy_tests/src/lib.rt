@@ -16,6 +16,8 @@ mod edit_load;
 #[cfg(test)]
 mod edits;
 #[cfg(test)]
+mod expiry_load;
+#[cfg(test)]
 mod load;
 #[cfg(test)]
 mod logins;
