@@ -185,10 +185,8 @@ module _ {S F L : Type 0} (moving : ComponentSteps S F L) (one_case : JustOneCas
 
   -- ---- the start and the stop of a context
 
-  record Started (deployment : Deployment S F L) (first : ContextState S F L) : Type 0 where
+  record Started (deployment : Deployment S F L) (noted : JournalState) (first : ContextState S F L) (noted_first : JournalState) : Type 0 where
     pub begun : List Initialized
-    pub noted : JournalState
-    pub noted_first : JournalState
     pub starts : Runs moving (world deployment.path deployment.parts noted) (start_calls deployment.descriptor begun) (world_of first noted_first)
     pub app : first.content.app ≡ deployment.descriptor
     pub listeners : length first.listeners ≡ length deployment.descriptor.listeners
@@ -199,63 +197,97 @@ module _ {S F L : Type 0} (moving : ComponentSteps S F L) (one_case : JustOneCas
 
   by_outcome : (deployment : Deployment S F L) (live : LiveState S F L) (noted noted_first : JournalState) (outcome : starting.Outcome)
       → Runs moving (world deployment.path deployment.parts noted) (starting.calls_of deployment.descriptor outcome) (world deployment.path live.parts noted_first)
-      → starting.IsResultOf deployment.path deployment.descriptor deployment.parts outcome (Ok live) noted_first → Started deployment (made_of deployment live)
-  by_outcome deployment live noted noted_first (starting.Started inits) runs is = record {
-    begun = inits.begun;
-    noted = noted;
-    noted_first = noted_first;
-    starts = runs;
-    app = refl;
-    listeners = is.1.listeners;
-  }
+      → starting.IsResultOf deployment.path deployment.descriptor deployment.parts outcome (Ok live) noted_first
+      → Started deployment noted (made_of deployment live) noted_first
+  by_outcome deployment live noted noted_first (starting.Started inits) runs is =
+      record { begun = inits.begun; starts = runs; app = refl; listeners = is.1.listeners }
   by_outcome deployment live noted noted_first (starting.Undone inits) runs is = absurd is
   by_outcome deployment live noted noted_first starting.Untouched runs is = absurd is
 
   by_result : (deployment : Deployment S F L) (started : Result (LiveState S F L) (StartFault S F L)) (first : ContextState S F L) (noted noted_first : JournalState)
       → starting.Starts moving deployment.path deployment.descriptor deployment.parts noted started noted_first → Ok first ≡ deployed deployment started
-      → Started deployment first
+      → Started deployment noted first noted_first
   by_result deployment (Ok live) first noted noted_first starts is =
-      subst (Started deployment) (sym (ok_is is)) (by_outcome deployment live noted noted_first starts.outcome starts.made starts.is)
+      subst (λ its. Started deployment noted its noted_first) (sym (ok_is is)) (by_outcome deployment live noted noted_first starts.outcome starts.made starts.is)
   by_result deployment (Err fault) first noted noted_first starts is = absurd (cc)
 
+  -- the journal before the start of the context at a place
+  abbrev start_journal : (deployments : List (Deployment S F L)) (contexts : List (ContextState S F L)) (noted noted_after : JournalState)
+      → DeploysAll moving deployments noted contexts noted_after → ℕ → JournalState
+  start_journal [] contexts noted noted_after deploys place = noted
+  start_journal (one ∷ deployments) contexts noted noted_after deploys zero = noted
+  start_journal (one ∷ deployments) contexts noted noted_after deploys (suc place) =
+      start_journal deployments deploys.1 deploys.2 noted_after deploys.4 place
+
+  start_first : (deployments : List (Deployment S F L)) (contexts : List (ContextState S F L)) (noted noted_after : JournalState)
+      (deploys : DeploysAll moving deployments noted contexts noted_after) → start_journal deployments contexts noted noted_after deploys 0 ≡ noted
+  start_first [] contexts noted noted_after deploys = refl
+  start_first (one ∷ deployments) contexts noted noted_after deploys = refl
+
+  start_last : (deployments : List (Deployment S F L)) (contexts : List (ContextState S F L)) (noted noted_after : JournalState)
+      (deploys : DeploysAll moving deployments noted contexts noted_after)
+      → start_journal deployments contexts noted noted_after deploys (length deployments) ≡ noted_after
+  start_last [] contexts noted noted_after deploys = sym deploys.1
+  start_last (one ∷ deployments) contexts noted noted_after deploys = start_last deployments deploys.1 deploys.2 noted_after deploys.4
+
   started_at : (deployments : List (Deployment S F L)) (contexts : List (ContextState S F L)) (noted noted_after : JournalState)
-      → DeploysAll moving deployments noted contexts noted_after → (place : ℕ) (deployment : Deployment S F L) (first : ContextState S F L)
-      → slice_get deployments place ≡ Some deployment → slice_get contexts place ≡ Some first → Started deployment first
+      (deploys : DeploysAll moving deployments noted contexts noted_after) (place : ℕ) (deployment : Deployment S F L) (first : ContextState S F L)
+      → slice_get deployments place ≡ Some deployment → slice_get contexts place ≡ Some first
+      → Started deployment (start_journal deployments contexts noted noted_after deploys place) first
+      (start_journal deployments contexts noted noted_after deploys (suc place))
   started_at [] contexts noted noted_after deploys place deployment first there is = absurd (cc)
   started_at (one ∷ deployments) contexts noted noted_after deploys zero deployment first there is =
       let same : deploys.0 ≡ first = some_is (sym (ap (λ its. slice_get its 0) deploys.5) ∙ is) in
-      subst (λ its. Started its first) (some_is there)
-      (subst (Started one) same (by_result one deploys.3.started deploys.0 noted deploys.2 deploys.3.starts deploys.3.is))
+      subst (Started deployment noted first) (sym (start_first deployments deploys.1 deploys.2 noted_after deploys.4))
+      (subst (λ its. Started its noted first deploys.2) (some_is there)
+      (subst (λ its. Started one noted its deploys.2) same (by_result one deploys.3.started deploys.0 noted deploys.2 deploys.3.starts deploys.3.is)))
   started_at (one ∷ deployments) contexts noted noted_after deploys (suc place) deployment first there is =
       started_at deployments deploys.1 deploys.2 noted_after deploys.4 place deployment first there
       (sym (ap (λ its. slice_get its (suc place)) deploys.5) ∙ is)
 
-  record Undeployed (last : ContextState S F L) (back : List (Deployment S F L)) (place : ℕ) : Type 0 where
+  -- the journal before the stop of the context at a place
+  abbrev stop_journal : (contexts : List (ContextState S F L)) (back : List (Deployment S F L)) (noted noted_after : JournalState)
+      → UndeploysAll moving contexts noted back noted_after → ℕ → JournalState
+  stop_journal [] back noted noted_after undeploys place = noted
+  stop_journal (context ∷ contexts) back noted noted_after undeploys zero = noted
+  stop_journal (context ∷ contexts) back noted noted_after undeploys (suc place) =
+      stop_journal contexts undeploys.1 undeploys.2 noted_after undeploys.4 place
+
+  stop_first : (contexts : List (ContextState S F L)) (back : List (Deployment S F L)) (noted noted_after : JournalState)
+      (undeploys : UndeploysAll moving contexts noted back noted_after) → stop_journal contexts back noted noted_after undeploys 0 ≡ noted
+  stop_first [] back noted noted_after undeploys = refl
+  stop_first (context ∷ contexts) back noted noted_after undeploys = refl
+
+  stop_last : (contexts : List (ContextState S F L)) (back : List (Deployment S F L)) (noted noted_after : JournalState)
+      (undeploys : UndeploysAll moving contexts noted back noted_after)
+      → stop_journal contexts back noted noted_after undeploys (length back) ≡ noted_after
+  stop_last [] back noted noted_after undeploys = sym undeploys.1
+  stop_last (context ∷ contexts) back noted noted_after undeploys =
+      ap (λ (its : List (Deployment S F L)). stop_journal (context ∷ contexts) back noted noted_after undeploys (length its)) undeploys.5
+      ∙ stop_last contexts undeploys.1 undeploys.2 noted_after undeploys.4
+
+  record Undeployed (noted : JournalState) (last : ContextState S F L) (back : List (Deployment S F L)) (place : ℕ) (noted_stop : JournalState) : Type 0 where
     pub stopped : Deployment S F L
     pub there : slice_get back place ≡ Some stopped
-    pub noted_last : JournalState
-    pub noted_stop : JournalState
-    pub stops : Runs moving (world_of last noted_last) (calls_of_stop last) (world stopped.path stopped.parts noted_stop)
+    pub stops : Runs moving (world_of last noted) (calls_of_stop last) (world stopped.path stopped.parts noted_stop)
 
   undeployed_at : (contexts : List (ContextState S F L)) (back : List (Deployment S F L)) (noted noted_after : JournalState)
-      → UndeploysAll moving contexts noted back noted_after → (place : ℕ) (last : ContextState S F L) → slice_get contexts place ≡ Some last
-      → Undeployed last back place
+      (undeploys : UndeploysAll moving contexts noted back noted_after) (place : ℕ) (last : ContextState S F L) → slice_get contexts place ≡ Some last
+      → Undeployed (stop_journal contexts back noted noted_after undeploys place) last back place
+      (stop_journal contexts back noted noted_after undeploys (suc place))
   undeployed_at [] back noted noted_after undeploys place last is = absurd (cc)
   undeployed_at (context ∷ contexts) back noted noted_after undeploys zero last is =
-      subst (λ its. Undeployed its back 0) (some_is is) record {
+      subst (Undeployed noted last back 0) (sym (stop_first contexts undeploys.1 undeploys.2 noted_after undeploys.4))
+      (subst (λ its. Undeployed noted its back 0 undeploys.2) (some_is is) record {
         stopped = undeploys.0;
         there = ap (λ its. slice_get its 0) undeploys.5;
-        noted_last = noted;
-        noted_stop = undeploys.2;
         stops = undeploys.3.stops;
-      }
+      })
   undeployed_at (context ∷ contexts) back noted noted_after undeploys (suc place) last is =
       let rest = undeployed_at contexts undeploys.1 undeploys.2 noted_after undeploys.4 place last is in
       record {
         stopped = rest.stopped;
         there = ap (λ its. slice_get its (suc place)) undeploys.5 ∙ rest.there;
-        noted_last = rest.noted_last;
-        noted_stop = rest.noted_stop;
         stops = rest.stops;
       }
 
@@ -280,11 +312,11 @@ module _ {S F L : Type 0} (moving : ComponentSteps S F L) (one_case : JustOneCas
       ∙ (λ i. (ap notifications (ends_joined count (λ session. end_events (ended session)) (by_number sessions)) ∙ all_heard count events) i
       ++ told_heard ContextDestroyed count i)
 
-  life_heard : (place : ℕ) (deployment : Deployment S F L) (first : ContextState S F L) (started : Started deployment first)
-      (transitions : List (Transition S F L)) (last : ContextState S F L) (count : ℕ) → length first.listeners ≡ count
+  life_heard : (place : ℕ) (deployment : Deployment S F L) (first : ContextState S F L) (noted noted_first : JournalState)
+      (started : Started deployment noted first noted_first) (transitions : List (Transition S F L)) (last : ContextState S F L) (count : ℕ) → length first.listeners ≡ count
       → Heard count (flat_map (calls_at place) transitions) (flat_map (events_at place) transitions) (Some last)
       → notifications (calls_of_life deployment started.begun place transitions last) ≡ all_told count (events_of_life place transitions last)
-  life_heard place deployment first started transitions last count is heard =
+  life_heard place deployment first noted noted_first started transitions last count is heard =
       let begins = start_calls deployment.descriptor started.begun in
       let goes = flat_map (calls_at place) transitions in
       let own = flat_map (events_at place) transitions in
@@ -332,12 +364,19 @@ module _ {S F L : Type 0} (moving : ComponentSteps S F L) (one_case : JustOneCas
     listeners_hear_exactly deployments words noted noted_after container happenings answers after parts journal starts lawful shuts =
         let before = state_of container in
         let goes = events_through before after happenings answers lawful.transitions lawful.are (ap (λ (state : Whole). state.stopped) starts.3) in
-        let gives : GivesBackParts moving after.world.contexts (journal_to_stop false) parts journal =
+        let gives : GivesBackParts moving after.world.contexts new_journal parts journal =
         subst (λ stopped. GivesBackParts moving (contexts_to_stop stopped after.world.contexts) (journal_to_stop stopped) parts journal) goes.1 shuts in
+        let journals = start_journal deployments starts.0 noted noted_after starts.1 in
         record {
           messages = messages_notified before.world.contexts after.world.contexts lawful.transitions goes.0;
+          started_with = journals;
+          start_begins = start_first deployments starts.0 noted noted_after starts.1;
+          start_ends = start_last deployments starts.0 noted noted_after starts.1;
           back = gives.back;
           parts_are = gives.are;
+          stopped_with = stop_journal after.world.contexts gives.back new_journal journal gives.undeploys;
+          stop_begins = stop_first after.world.contexts gives.back new_journal journal gives.undeploys;
+          stop_ends = stop_last after.world.contexts gives.back new_journal journal gives.undeploys;
           contexts = λ place deployment first there is.
               let started = started_at deployments starts.0 noted noted_after starts.1 place deployment first there
               (sym (ap (λ (state : Whole). slice_get state.world.contexts place) starts.3) ∙ is) in
@@ -347,23 +386,19 @@ module _ {S F L : Type 0} (moving : ComponentSteps S F L) (one_case : JustOneCas
               (refl, ap (λ app. length app.listeners) started.app ∙ sym started.listeners) in
               let heard = through_heard place (length first.listeners) before.world.contexts after.world.contexts lawful.transitions goes.0
               (subst (Listen (length first.listeners)) (sym is) listen) in
-              let stops = undeployed_at after.world.contexts gives.back (journal_to_stop false) journal gives.undeploys place through.0 through.1 in (
+              let stops = undeployed_at after.world.contexts gives.back new_journal journal gives.undeploys place through.0 through.1 in (
                 through.0,
                 stops.stopped,
                 through.1,
                 stops.there,
                 record {
                   begun = started.begun;
-                  noted = started.noted;
-                  noted_first = started.noted_first;
                   starts = started.starts;
                   lives = through.2;
-                  noted_last = stops.noted_last;
-                  noted_stop = stops.noted_stop;
                   stops = stops.stops;
                   told =
-                      life_heard place deployment first started lawful.transitions through.0 (length first.listeners) refl
-                      (heard.0, subst (Listen (length first.listeners)) through.1 heard.1);
+                      life_heard place deployment first (journals place) (journals (suc place)) started lawful.transitions through.0 (length first.listeners)
+                      refl (heard.0, subst (Listen (length first.listeners)) through.1 heard.1);
                 },
               );
         }

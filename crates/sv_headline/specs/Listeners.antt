@@ -1,6 +1,6 @@
 -- What the listeners of a context are notified, from the start of its container over any run to its stop (Jakarta Servlet 6.0,
 -- sections 11.3.3 and 11.3.4).
-use Rattle.std.specs.Prelude.{◌≡◌, ◌==◌, ℕ, Bool, true, false, not, List, [], ◌∷◌, ◌++◌, length, map, Some, Ok, Err, slice_get, if◌then◌else◌}
+use Rattle.std.specs.Prelude.{◌≡◌, ◌==◌, ℕ, suc, Bool, true, false, not, List, [], ◌∷◌, ◌++◌, length, map, Some, Ok, Err, slice_get, if◌then◌else◌}
 use Rattle.std.specs.List.{AllByRecursion, filter, flat_map}
 use Rattle.std.specs.Option.{option_map_or, option_to_list}
 use Rattle.sv_admission.specs.Answer.{answer_to}
@@ -120,33 +120,40 @@ module _ {S F L : Type 0} where
 module _ {S F L : Type 0} (moving : ComponentSteps S F L) where
   -- the context at a place is started with the deployment, lives through the transitions and stops; these are all the calls of
   -- its components; and the notifications among them are exactly those of the events of its life, each reported to every listener
-  -- in the order of the specification
-  pub record IsNotifiedExactly (place : ℕ) (deployment : Deployment S F L) (first : ContextState S F L) (transitions : List (Transition S F L))
-      (last : ContextState S F L) (stopped : Deployment S F L) : Type 0 where
+  -- in the order of the specification. The calls of the start and of the stop are noted in these journals
+  pub record IsNotifiedExactly (started_with stopped_with : ℕ → JournalState) (place : ℕ) (deployment : Deployment S F L) (first : ContextState S F L)
+      (transitions : List (Transition S F L)) (last : ContextState S F L) (stopped : Deployment S F L) : Type 0 where
     pub begun : List Answered
-    pub noted : JournalState
-    pub noted_first : JournalState
-    pub starts : Runs moving (world deployment.path deployment.parts noted) (start_calls deployment.descriptor begun) (world_of first noted_first)
+    pub starts : Runs moving
+        (world deployment.path deployment.parts (started_with place)) (start_calls deployment.descriptor begun) (world_of first (started_with (suc place)))
     pub lives : IsRun moving (world_of first unnoted) (flat_map (calls_at place) transitions) (world_of last unnoted)
-    pub noted_last : JournalState
-    pub noted_stop : JournalState
-    pub stops : Runs moving (world_of last noted_last) (calls_of_stop last) (world stopped.path stopped.parts noted_stop)
+    pub stops : Runs moving
+        (world_of last (stopped_with place)) (calls_of_stop last) (world stopped.path stopped.parts (stopped_with (suc place)))
     pub told : notifications (calls_of_life deployment begun place transitions last)
         ≡ all_told (length first.listeners) (events_of_life place transitions last)
 
   module _ {Words : Type 0} (draws : Words → ℕ × ℕ → Words → Type 0) where
     -- over every run of a started container to its stop, listeners are notified exactly of the lifecycle, of requests and of
     -- sessions, each in its place
-    pub record ListenersAreNotified (deployments : List (Deployment S F L)) (before after : State (ContextState S F L) Words)
-        (transitions : List (Transition S F L)) (parts : List (Parts S F L)) : Type 0 where
+    pub record ListenersAreNotified (deployments : List (Deployment S F L)) (noted noted_after : JournalState)
+        (before after : State (ContextState S F L) Words) (transitions : List (Transition S F L)) (parts : List (Parts S F L)) (journal : JournalState)
+        : Type 0 where
       pub messages : AllByRecursion NotifiesOfMessage transitions
+      -- contexts start one after another, and the journal of the start notes their calls in this order
+      pub started_with : ℕ → JournalState
+      pub start_begins : started_with 0 ≡ noted
+      pub start_ends : started_with (length deployments) ≡ noted_after
+      -- so they stop, with a journal of their own
       pub back : List (Deployment S F L)
       pub parts_are : parts ≡ map (λ deployment. deployment.parts) back
+      pub stopped_with : ℕ → JournalState
+      pub stop_begins : stopped_with 0 ≡ new_journal
+      pub stop_ends : stopped_with (length back) ≡ journal
       pub contexts : (place : ℕ) (deployment : Deployment S F L) (first : ContextState S F L)
           → slice_get deployments place ≡ Some deployment → slice_get before.world.contexts place ≡ Some first
           → (last : ContextState S F L) × (stopped : Deployment S F L)
           × (slice_get after.world.contexts place ≡ Some last) × (slice_get back place ≡ Some stopped)
-          × IsNotifiedExactly place deployment first transitions last stopped
+          × IsNotifiedExactly started_with stopped_with place deployment first transitions last stopped
 
     abbrev pub ListenersHearExactly : Type 0
     ListenersHearExactly =
@@ -156,7 +163,7 @@ module _ {S F L : Type 0} (moving : ComponentSteps S F L) where
         → Starts moving deployments words noted (Ok container) noted_after
         → (lawful : IsLawfulRun moving draws (state_of container) happenings answers after)
         → ShutsDown moving after parts journal
-        → ListenersAreNotified deployments (state_of container) after lawful.transitions parts
+        → ListenersAreNotified deployments noted noted_after (state_of container) after lawful.transitions parts journal
 
     -- after an event has run out of memory nothing happens but the stop, of which each listener is notified; no session is reported
     pub record StopsWithoutSessions (contexts : List (ContextState S F L)) (after : State (ContextState S F L) Words) (answers : List (Answer (ContextState S F L)))
