@@ -17,11 +17,12 @@ use Rattle.sv_context.specs.Handled.{state_in}
 use Rattle.sv_context.specs.Several.{DeploysAll, GivesBackParts, UndeploysAll}
 use Rattle.sv_context.specs.State.{ContextState, context_of, in_service, world_of}
 use Rattle.sv_context.specs.Theory.{theory}
-use Rattle.sv_headline.proofs.Leading.{GoesOn, after_set, through_all, through_on}
+use Rattle.sv_headline.proofs.Leading.{GoesOn, after_set, some_is, through_all, through_on}
 use Rattle.sv_headline.proofs.Listening.{all_heard, all_joined, answered_in_order, destroys_unheard, ends_joined, in_order_heard, inits_unheard, one_told, told_heard}
 use Rattle.sv_headline.specs.Events.{AreTransitionsOf, IsAnsweredBy}
-use Rattle.sv_headline.specs.Listeners.{NotifiesOfMessage, NotifiesInOrder, ListenersHearExactly, NoSessionEventAfterRunningOutOfMemory, calls_of_life, calls_of_stop, events_at, events_in, events_of_life, is_dispatched, notifications, outcome_in, own_events}
+use Rattle.sv_headline.specs.Listeners.{NotifiesOfMessage, NotifiesInOrder, ListenersHearExactly, NoSessionEventAfterRunningOutOfMemory, calls_of_life, calls_of_stop, events_at, events_in, events_of_life, notifications, outcome_in, own_events}
 use Rattle.sv_headline.specs.Message.{IsDoneBy, IsLawfulMessage, exchange_for, findings_in, settled_for}
+use Rattle.sv_headline.specs.Refused.{is_dispatched}
 use Rattle.sv_headline.specs.Transitions.{Closing, ContextAnswer, Continuation, EditAnswer, Expiries, Expiry, IsExpiry, Leads, LeadsThrough, OwnAnswer, Refusal, Transition, calls_at, edits_at, told_of, under}
 use Rattle.sv_journal.specs.Journal.{JournalState, broken, new_journal}
 use Rattle.sv_lifecycle.specs.Calls.{Answered as Initialized, inited, start_calls}
@@ -48,9 +49,6 @@ use Rattle.sv_session.specs.declared.event.Event.TheVariants.{ContextDestroyed, 
 use Rattle.sv_tree.specs.Laws.{is_of_listener}
 use Rattle.sv_tree.specs.SiteOfDescriptor.{site_of}
 use Rattle.sv_tree.specs.Telling.{all_told}
-
-some_is : {X : Type 0} {one other : X} → ◌≡◌ {A = Option X} (Some one) (Some other) → one ≡ other
-some_is same = cc
 
 ok_is : {X Y : Type 0} {one other : X} → ◌≡◌ {A = Result X Y} (Ok one) (Ok other) → one ≡ other
 ok_is same = cc
@@ -129,7 +127,7 @@ module _ {S F L : Type 0} (moving : ComponentSteps S F L) (one_case : JustOneCas
             let own : Listen count (Some handling.context) = subst (Listen count) here.3 listen in
             let done = done_in handling made leads.lawful in (
               ap notifications (cond-true (at == place) _ _ here.1)
-                  ∙ in_order_heard (site_of handling.context.content) (own_events handling made) (is_dispatched handling made) made (notified_in_order handling made leads.lawful)
+                  ∙ in_order_heard (site_of handling.context.content) (own_events handling made) (is_dispatched handling.context handling.request) made (notified_in_order handling made leads.lawful)
                   ∙ ap (λ its. all_told its (events_in handling made)) own.1
                   ∙ ap (all_told count) (sym (cond-true (at == place) _ _ here.1)),
               subst (Listen count) (sym (ap (λ its. slice_get its place) leads.is_after ∙ here.2))

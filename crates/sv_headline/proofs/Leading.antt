@@ -29,7 +29,7 @@ use Rattle.sv_run.specs.Messages.{destination, destination_of, place_for}
 
 -- ---- lists
 
-some_is : {X : Type 0} {one other : X} → ◌≡◌ {A = Option X} (Some one) (Some other) → one ≡ other
+pub some_is : {X : Type 0} {one other : X} → ◌≡◌ {A = Option X} (Some one) (Some other) → one ≡ other
 some_is same = cc
 
 -- if one item of a list changes but its image does not, the images of the list stay the same

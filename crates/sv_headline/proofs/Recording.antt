@@ -8,7 +8,7 @@ use Rattle.sv_component.specs.Steps.{ComponentSteps}
 use Rattle.sv_context.specs.Conduct.{conduct, unnoted}
 use Rattle.sv_context.specs.State.{ContextState, world_of}
 use Rattle.sv_context.specs.Theory.{theory}
-use Rattle.sv_headline.proofs.Leading.{GoesOn, leads_paths, path_of, same_destination, through_all, through_on, through_parts}
+use Rattle.sv_headline.proofs.Leading.{GoesOn, leads_paths, path_of, same_destination, some_is, through_all, through_on, through_parts}
 use Rattle.sv_headline.proofs.Messages.{expiry_of, is_expiry, message_is_lawful, told_are}
 use Rattle.sv_headline.specs.Events.{Answers, AreOf, AreTransitionsOf, Brings, IsAnsweredBy, IsLawfulEvent, IsOf}
 use Rattle.sv_headline.specs.Record.{AreDecidedByThen, EveryRunIsLawful, IsMovedBy}
@@ -383,9 +383,6 @@ module _ {S F L Words : Type 0} (moving : ComponentSteps S F L) (draws : Words �
         let goes = subst (λ its. GoesOn moving its (flat_map (calls_at place) earlier) (flat_map (edits_at place) earlier) (slice_get parts.between place)) there
         (through_on moving place before parts.between earlier parts.first) in
         ap (λ (context : ContextState S F L). context.policy) (some_is (sym parts.later.1.there ∙ goes.1)) ∙ goes.3
-      where
-        some_is : {one other : ContextState S F L} → ◌≡◌ {A = Option (ContextState S F L)} (Some one) (Some other) → one ≡ other
-        some_is same = cc
 
     pub every_run_is_lawful : EveryRunIsLawful moving draws
     every_run_is_lawful before after happenings answers run runs =

@@ -17,6 +17,7 @@ use Rattle.sv_exchange.specs.Changing.{Change, SetHeader, SetStatus, answer, lef
 use Rattle.sv_exchange.specs.State as exchanges
 use Rattle.sv_exchange.specs.declared.exchange_fault.ExchangeFault.{ExchangeFault}
 use Rattle.sv_headline.proofs.Calling.{served_calls, then_of}
+use Rattle.sv_headline.proofs.Leading.{some_is}
 use Rattle.sv_headline.proofs.Hearing.{notified_in_order}
 use Rattle.sv_headline.specs.Message.{IsBecause, IsDoneBy, IsLawfulMessage, exchange_for, findings_in, settled_for}
 use Rattle.sv_headline.specs.Unlawful.{EntriesCallTheirServlet, GoesToServlet, LoginsAreOfTheirSession, MessagesAreHandledByTheirContext, OutcomesAreOfTheirContext, NotificationsAreInOrder, calls_with, first_exchange, site}
@@ -202,6 +203,3 @@ module _ {S F L : Type 0} (moving : ComponentSteps S F L) where
     there = leads.there;
     another_context = λ other others its_text its_after apart its. apart (some_is (sym its.there ∙ leads.there));
   }
-    where
-      some_is : {one other : ContextState S F L} → ◌≡◌ {A = Option (ContextState S F L)} (Some one) (Some other) → one ≡ other
-      some_is same = cc

@@ -11,6 +11,7 @@ use Rattle.sv_context.specs.Conduct.{unnoted}
 use Rattle.sv_context.specs.Expiry.{ends_told}
 use Rattle.sv_context.specs.State.{ContextState, world_of}
 use Rattle.sv_context.specs.Theory.{theory}
+use Rattle.sv_headline.proofs.Leading.{some_is}
 use Rattle.sv_headline.specs.Events.{Answers, AreOf, IsLawfulEvent, IsOf}
 use Rattle.sv_headline.specs.Transitions.{Expiries, Expiry, IsExpiry, LeadsThrough, Transition, effect_of, effect_of_all, entries_of}
 use Rattle.sv_headline.specs.Unlawful.{AnswersTheMessage, BeginsWith, IsDeedOf, MessagesAreAnswered, ResponsesAreOfTheirRequest, SendsItsResponse, TicksNotifyOnlyOfExpiries}
@@ -45,9 +46,6 @@ use Rattle.sv_wire.specs.Reads.{Reads}
 use Rattle.sv_wire.specs.declared.item.Item.{Item}
 use Rattle.sv_wire.specs.declared.item.Item.TheVariants.{Message}
 use Rattle.sv_wire.specs.declared.wire_fault.WireFault.{WireFault}
-
-some_is : {X : Type 0} {one other : X} → ◌≡◌ {A = Option X} (Some one) (Some other) → one ≡ other
-some_is same = cc
 
 none_not_some : {X : Type 0} (value : X) → ◌≡◌ {A = Option X} None (Some value) → ⊥
 none_not_some value same = absurd (cc)

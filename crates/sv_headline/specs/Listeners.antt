@@ -3,7 +3,6 @@
 use Rattle.std.specs.Prelude.{◌≡◌, ◌==◌, ℕ, suc, Bool, true, false, not, List, [], ◌∷◌, ◌++◌, length, map, Some, Ok, Err, slice_get, if◌then◌else◌}
 use Rattle.std.specs.List.{AllByRecursion, filter, flat_map}
 use Rattle.std.specs.Option.{option_map_or, option_to_list}
-use Rattle.sv_admission.specs.Answer.{answer_to}
 use Rattle.sv_component.specs.Runs.{IsRun, Record, Runs}
 use Rattle.sv_component.specs.Steps.{ComponentSteps}
 use Rattle.sv_container.specs.Container.{state_of}
@@ -15,7 +14,7 @@ use Rattle.sv_context.specs.State.{ContextState, in_service, world_of}
 use Rattle.sv_context.specs.Theory.{theory}
 use Rattle.sv_headline.specs.Message.{findings_in, settled_for}
 use Rattle.sv_headline.specs.Record.{IsLawfulRun}
-use Rattle.sv_headline.specs.Refused.{is_dispatch}
+use Rattle.sv_headline.specs.Refused.{is_dispatched}
 use Rattle.sv_headline.specs.Transitions.{Closing, ContextAnswer, Continuation, EditAnswer, Expiries, OwnAnswer, Refusal, Transition, calls_at}
 use Rattle.sv_journal.specs.Journal.{JournalState, broken, new_journal}
 use Rattle.sv_lifecycle.specs.Calls.{Answered, start_calls}
@@ -59,10 +58,6 @@ module _ {S F L : Type 0} (handling : Handling (ContextState S F L)) (made : Lis
   abbrev pub outcome_in : Outcome
   outcome_in = outcome (findings_in handling.context handling.request)
 
-  -- whether the message is answered by a dispatch
-  abbrev pub is_dispatched : Bool
-  is_dispatched = is_dispatch (answer_to handling.context.content outcome_in)
-
   -- the event of the session that the message itself opened or renamed
   abbrev pub own_events : List Event
   own_events = option_to_list (settled_for handling.context handling.request outcome_in).event
@@ -70,7 +65,7 @@ module _ {S F L : Type 0} (handling : Handling (ContextState S F L)) (made : Lis
   -- the events of a message: that one, the beginning of the request, what its calls did to the session, and the end of the
   -- request
   abbrev pub events_in : List Event
-  events_in = own_events ++ events_within is_dispatched (flat_map left_events made)
+  events_in = own_events ++ events_within (is_dispatched handling.context handling.request) (flat_map left_events made)
 
   -- the calls of a message: listeners are notified of its session first and of its request before and after all other calls; each
   -- call of a filter or servlet is followed at once by the notifications of what it did to the session
@@ -78,7 +73,7 @@ module _ {S F L : Type 0} (handling : Handling (ContextState S F L)) (made : Lis
   NotifiesInOrder =
       made
       ≡ all_told (length handling.context.content.app.listeners) own_events
-      ++ within_request is_dispatched (length handling.context.content.app.listeners)
+      ++ within_request (is_dispatched handling.context handling.request) (length handling.context.content.app.listeners)
       (flat_map (told_behind (site_of handling.context.content)) (component_calls made))
 
 module _ {S F L : Type 0} where
