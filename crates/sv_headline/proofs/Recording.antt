@@ -10,7 +10,7 @@ use Rattle.sv_context.specs.State.{ContextState, world_of}
 use Rattle.sv_context.specs.Theory.{theory}
 use Rattle.sv_headline.proofs.Leading.{GoesOn, leads_paths, path_of, same_destination, some_is, through_all, through_on, through_parts}
 use Rattle.sv_headline.proofs.Messages.{expiry_of, is_expiry, message_is_lawful, told_are}
-use Rattle.sv_headline.specs.Events.{Answers, AreOf, AreTransitionsOf, Brings, IsAnsweredBy, IsLawfulEvent, IsOf}
+use Rattle.sv_headline.specs.Events.{Answers, AreOf, AreTransitionsOf, Brings, IsAnsweredBy, IsLawfulEvent, IsOf, Only}
 use Rattle.sv_headline.specs.Record.{AreDecidedByThen, EveryRunIsLawful, IsMovedBy}
 use Rattle.sv_headline.specs.Transitions.{Closing, ContextAnswer, Continuation, EditAnswer, Expiries, Expiry, IsExpiry, Leads, LeadsThrough, OwnAnswer, Refusal, Transition, calls_at, edits_at, effect_of, effect_of_all, entries_of}
 use Rattle.sv_journal.specs.declared.entry.Entry.{Entry}
@@ -20,9 +20,10 @@ use Rattle.sv_message.specs.declared.message.Target.{Target}
 use Rattle.sv_policy.specs.declared.edit.Edit.{Edit}
 use Rattle.sv_policy.specs.declared.edit_fault.EditFault.{EditFault}
 use Rattle.sv_run.proofs.Callers.{runs_on, stopped_stays}
+use Rattle.sv_run.specs.Connections.{Connections, forgotten, opened}
 use Rattle.sv_run.specs.Contexts.{Request}
 use Rattle.sv_run.specs.Editing.{EditsIn, place_with}
-use Rattle.sv_run.specs.Effect.{Effect, handled, joined, telling}
+use Rattle.sv_run.specs.Effect.{Effect, handled, joined, nothing, telling}
 use Rattle.sv_run.specs.Events.{Accepts, Edited, Ended, ExpiresAll, Happening, Happens, Lost, Opened, Piece, Tick, moment_after}
 use Rattle.sv_run.specs.Feeding.{FeedsWhere}
 use Rattle.sv_run.specs.Items.{Responds, Takes, TakesItem, TakesNone, closes_behind}
@@ -220,18 +221,25 @@ module _ {S F L Words : Type 0} (moving : ComponentSteps S F L) (draws : Words �
       → place_with (theory moving draws) other path ≡ place_with (theory moving draws) one path
   same_place one other same path = ap (λ paths. position (bytes_eq path) paths) same
 
+  -- an event that brings no transition
+  own_nothing : (before after : Whole) (happening : Happening) (contexts : Contexts) (effect : Effect (ContextState S F L)) (connections : Connections)
+      → effect ≡ nothing → after ≡ record (settled_at (moment_after before.moment happening) contexts before) { connections = connections }
+      → (Only moving draws [] connections before [] after → Brings moving draws before happening [] after) → OwnBrought before happening contexts effect after
+  own_nothing before after happening contexts effect connections none is brings = record {
+    goes_on = ap (λ (state : Whole). state.stopped) is;
+    time = ap (λ (state : Whole). state.moment) is;
+    transitions = [];
+    brings = brings (refl, ap (λ (state : Whole). state.connections) is, ap (λ (state : Whole). state.world.words) is);
+    leads = ap (λ (state : Whole). state.world.contexts) is;
+    effect_is = none;
+  }
+
   own : (before after : Whole) (happening : Happening) (contexts : Contexts) (effect : Effect (ContextState S F L))
       → map path_of contexts ≡ map path_of before.world.contexts
       → Happens (theory moving draws) (settled_at (moment_after before.moment happening) contexts before) happening effect after
       → OwnBrought before happening contexts effect after
-  own before after (Opened number) contexts effect same happens = record {
-    goes_on = ap (λ (state : Whole). state.stopped) happens.1;
-    time = ap (λ (state : Whole). state.moment) happens.1;
-    transitions = [];
-    brings = (refl, ap (λ (state : Whole). state.connections) happens.1, ap (λ (state : Whole). state.world.words) happens.1);
-    leads = ap (λ (state : Whole). state.world.contexts) happens.1;
-    effect_is = happens.0;
-  }
+  own before after (Opened number) contexts effect same happens =
+      own_nothing before after (Opened number) contexts effect (opened number before.connections) happens.0 happens.1 (λ its. its)
   own before after (Piece number bytes moment) contexts effect same happens =
       let now = moment_after before.moment (Piece number bytes moment) in
       let settled = settled_at now contexts before in
@@ -265,22 +273,10 @@ module _ {S F L Words : Type 0} (moving : ComponentSteps S F L) (draws : Words �
     leads = (contexts, refl, ap (λ (state : Whole). state.world.contexts) happens.1);
     effect_is = happens.0;
   }
-  own before after (Lost number) contexts effect same happens = record {
-    goes_on = ap (λ (state : Whole). state.stopped) happens.1;
-    time = ap (λ (state : Whole). state.moment) happens.1;
-    transitions = [];
-    brings = (refl, ap (λ (state : Whole). state.connections) happens.1, ap (λ (state : Whole). state.world.words) happens.1);
-    leads = ap (λ (state : Whole). state.world.contexts) happens.1;
-    effect_is = happens.0;
-  }
-  own before after (Tick moment) contexts effect same happens = record {
-    goes_on = ap (λ (state : Whole). state.stopped) happens.1;
-    time = ap (λ (state : Whole). state.moment) happens.1;
-    transitions = [];
-    brings = (refl, ap (λ (state : Whole). state.connections) happens.1, ap (λ (state : Whole). state.world.words) happens.1);
-    leads = ap (λ (state : Whole). state.world.contexts) happens.1;
-    effect_is = happens.0;
-  }
+  own before after (Lost number) contexts effect same happens =
+      own_nothing before after (Lost number) contexts effect (forgotten number before.connections) happens.0 happens.1 (λ its. its)
+  own before after (Tick moment) contexts effect same happens =
+      own_nothing before after (Tick moment) contexts effect before.connections happens.0 happens.1 (λ its. its)
   own before after (Edited path edit) contexts effect same happens =
       let place = place_with (theory moving draws) before.world.contexts path in
       let leads = edits_lead place edit happens.answer contexts happens.contexts
