@@ -1,4 +1,4 @@
-"""What a descriptor of this program can hold (README, "Ask what a configuration does")."""
+"""What a descriptor of this program can hold (docs/COMMANDS.md, "The files, key by key")."""
 from __future__ import annotations
 
 import re
