@@ -147,6 +147,7 @@ def ran(script: Path, arguments: list[str], room: Path, given: dict[str, str]) -
             contextlib.chdir(room),
             contextlib.redirect_stdout(stdout),
             contextlib.redirect_stderr(stderr),
+            masked(0o022),
             limited(int(given.get("file-limit", "0"))),
             timed(MAX_SECONDS),
         ):
@@ -163,6 +164,14 @@ def status_of(tool: ModuleType, arguments: list[str]) -> object:
         return end.code
     except (Exception, TooLong) as fault:
         return f"{type(fault).__name__} {fault}"
+
+
+@contextlib.contextmanager
+def masked(mask: int) -> Iterator[None]:
+    """Sets the mask of the modes of new files."""
+    old = os.umask(mask)
+    yield
+    os.umask(old)
 
 
 @contextlib.contextmanager
