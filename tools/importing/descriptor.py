@@ -2,8 +2,6 @@
 from __future__ import annotations
 
 import dataclasses
-import zipfile
-from pathlib import Path
 
 from . import components, pages, security, toml, tree
 from .elements import shortened, taken, tell_what_is_not_taken
@@ -27,7 +25,6 @@ _PUBLIC_IDS = (
     "-//Sun Microsystems, Inc.//DTD Web Application 2.2//EN",
     "-//Sun Microsystems, Inc.//DTD Web Application 2.3//EN",
 )
-_FRAGMENT = "META-INF/web-fragment.xml"
 
 
 @dataclasses.dataclass
@@ -169,21 +166,6 @@ def _check_length(key: str, length: int, told: Told) -> None:
         raise told.fault(
             1, f"{length} of {key} are more than {MAX_LIST_ITEMS}, which a descriptor may have"
         )
-
-
-def tell_fragments(web_xml: Path, told: Told) -> None:
-    """Tells of the libraries beside a web.xml those that have a fragment, and those that cannot be read."""
-    for path in sorted(web_xml.parent.glob("lib/*.jar")):
-        try:
-            with zipfile.ZipFile(path) as library:
-                has_fragment = _FRAGMENT in library.namelist()
-        except (OSError, zipfile.BadZipFile):
-            told.tell(
-                1, f"lib/{path.name} cannot be read: whether it has a web-fragment.xml is not known"
-            )
-        else:
-            if has_fragment:
-                told.tell(1, f"lib/{path.name} has a web-fragment.xml, which is not read")
 
 
 def server_text(seed: str, context: str, users: str) -> str:
