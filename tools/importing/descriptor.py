@@ -7,7 +7,7 @@ from . import components, pages, security, toml, tree
 from .elements import shortened, taken, tell_what_is_not_taken
 from .limits import MAX_LIST_ITEMS
 from .toml import Value
-from .told import Told
+from .told import Rank, Told
 from .tree import Document, Element
 from .words import Table, words
 
@@ -61,17 +61,20 @@ def _check_root(document: Document, told: Told) -> None:
         raise told.fault(root.line, f"{root.name} is no web-app")
     if root.namespace not in _NAMESPACES:
         told.tell(
+            Rank.BEHAVIOR,
             root.line,
             f"the namespace {root.namespace} is none of web.xml: its elements are read as if it were",
         )
     version = root.attributes.get("version", "")
     if version and version not in _VERSIONS:
         told.tell(
+            Rank.BEHAVIOR,
             root.line,
             f"version {shortened(version)} is none from 2.4 to 6.1: it is read as if it were 6.1",
         )
     if document.doctype_line and document.public_id not in _PUBLIC_IDS:
         told.tell(
+            Rank.BEHAVIOR,
             document.doctype_line,
             "the DOCTYPE is none of Servlet 2.2 and 2.3: what it declares is not read",
         )
@@ -86,11 +89,13 @@ def _top(root: Element, told: Told) -> Table:
     top: Table = {} if deny is None else {"deny-uncovered-http-methods": True}
     if deny is not None and deny.text:
         told.tell(
+            Rank.SECURITY,
             deny.line,
             f"deny-uncovered-http-methods holds no value: {shortened(deny.text)} changes nothing, it is set",
         )
     if not _is_complete(root):
         told.tell(
+            Rank.SECURITY,
             root.line,
             "metadata-complete is not true: what annotations of classes and web-fragment.xml files would add is not read",
         )
@@ -106,6 +111,7 @@ def _tell_encoding(root: Element, told: Told) -> None:
     encoding = root.first("request-character-encoding")
     if encoding is not None and encoding.text.upper() != "UTF-8":
         told.tell(
+            Rank.BEHAVIOR,
             encoding.line,
             f"request-character-encoding {shortened(encoding.text)}: parameters are read as UTF-8",
         )

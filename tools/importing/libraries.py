@@ -8,7 +8,7 @@ from pathlib import Path
 
 from .elements import shortened
 from .files import open_regular
-from .told import Told
+from .told import Rank, Told
 
 _FRAGMENT = "META-INF/web-fragment.xml"
 _DRIVE = re.compile("[A-Za-z]:")
@@ -24,14 +24,19 @@ def tell_fragments(web_xml: Path, told: Told) -> None:
                 names = library.namelist()
         except _UNREADABLE:
             told.tell(
-                1, f"lib/{path.name} cannot be read: whether it has a web-fragment.xml is not known"
+                Rank.SECURITY,
+                1,
+                f"lib/{path.name} cannot be read: whether it has a web-fragment.xml is not known",
             )
             continue
         if _FRAGMENT in names:
-            told.tell(1, f"lib/{path.name} has a web-fragment.xml, which is not read")
+            told.tell(
+                Rank.SECURITY, 1, f"lib/{path.name} has a web-fragment.xml, which is not read"
+            )
         outside = next(filter(_leads_out, names), None)
         if outside is not None:
             told.tell(
+                Rank.SECURITY,
                 1,
                 f"lib/{path.name} has the entry {shortened(outside)}, which leads out of the folder it is unpacked to",
             )

@@ -11,7 +11,7 @@ from .limits import (
     is_location,
     is_name,
 )
-from .told import Told
+from .told import Rank, Told
 from .tree import Element
 from .words import Table, truth, whole
 
@@ -29,6 +29,7 @@ def session_config(root: Element, told: Told) -> Table | None:
     for mode in element.all("tracking-mode"):
         if mode.text != "COOKIE":
             told.tell(
+                Rank.BEHAVIOR,
                 mode.line,
                 f"tracking-mode {shortened(mode.text)}: sessions are found by their cookie alone",
             )
@@ -41,12 +42,14 @@ def _timeout(element: Element, told: Told) -> Table:
     minutes = whole(element)
     if minutes is None:
         told.tell(
+            Rank.BEHAVIOR,
             element.line,
             f"session-timeout {shortened(element.text)} is no number of minutes: a session lives 30 minutes without a request",
         )
         return {}
     if minutes > MAX_SESSION_TIMEOUT:
         told.tell(
+            Rank.BEHAVIOR,
             element.line,
             f"session-timeout {minutes} is more than a year: it stands as {MAX_SESSION_TIMEOUT}",
         )
@@ -64,6 +67,7 @@ def _cookie_config(cookie: Element, told: Told) -> Table:
         settings["http-only"] = False
     if secure is not None and truth(cookie, "secure", False, told):
         told.tell(
+            Rank.SECURITY,
             secure.line,
             "secure: the cookie of a session has no attribute Secure; what gives TLS in front of this program may add it",
         )
@@ -75,6 +79,7 @@ def _cookie_name(name: Element | None, told: Told) -> Table:
         return {}
     if not is_cookie_name(name.text):
         told.tell(
+            Rank.BEHAVIOR,
             name.line,
             f"name {shortened(name.text)} is no name of a cookie: the cookie of a session is {_COOKIE}",
         )
@@ -87,6 +92,7 @@ def _cookie_path(path: Element | None, told: Told) -> Table:
         return {}
     if not is_cookie_path(path.text):
         told.tell(
+            Rank.BEHAVIOR,
             path.line,
             f"path {shortened(path.text)} is no path of a cookie: the cookie of a session has the path of its context",
         )
@@ -99,9 +105,17 @@ def _cookie_age(age: Element | None, told: Told) -> Table:
         return {}
     seconds = whole(age)
     if seconds is None:
-        told.tell(age.line, f"max-age {shortened(age.text)} is no number of seconds: {_LASTS}")
+        told.tell(
+            Rank.BEHAVIOR,
+            age.line,
+            f"max-age {shortened(age.text)} is no number of seconds: {_LASTS}",
+        )
     elif seconds > MAX_COOKIE_AGE:
-        told.tell(age.line, f"max-age {seconds} is more than {MAX_COOKIE_AGE}, and stands so")
+        told.tell(
+            Rank.BEHAVIOR,
+            age.line,
+            f"max-age {seconds} is more than {MAX_COOKIE_AGE}, and stands so",
+        )
     return {} if seconds is None or seconds < 0 else {"max-age": min(seconds, MAX_COOKIE_AGE)}
 
 
@@ -115,12 +129,14 @@ def welcome_files(root: Element, told: Told) -> Table | None:
             name = child.text.strip("/")
             if not name:
                 told.tell(
+                    Rank.BEHAVIOR,
                     child.line,
                     f"welcome-file {shortened(child.text)} names no file, and is not read",
                 )
                 continue
             if name != child.text:
                 told.tell(
+                    Rank.BEHAVIOR,
                     child.line,
                     f"welcome-file {shortened(child.text)} may not begin or end with a slash: it stands as {name}",
                 )
@@ -138,6 +154,7 @@ def error_pages(root: Element, told: Told) -> list[Table]:
         if location is None or not is_location(location.text):
             text = "" if location is None else location.text
             told.tell(
+                Rank.BEHAVIOR,
                 element.line,
                 f"the location {shortened(text)} of an error page is no path within the context: the page is not read",
             )
@@ -145,6 +162,7 @@ def error_pages(root: Element, told: Told) -> list[Table]:
             kind = str(errors)
             if kind in seen:
                 told.tell(
+                    Rank.BEHAVIOR,
                     element.line,
                     "an error page for the same errors stands above: the first one counts; in Tomcat the last one does",
                 )
@@ -158,13 +176,16 @@ def _errors(element: Element, told: Told) -> Table | None:
     code, kind = element.first("error-code"), element.first("exception-type")
     if code is not None and kind is not None:
         told.tell(
-            kind.line, "an error page is for a code or for a type: exception-type is not read"
+            Rank.BEHAVIOR,
+            kind.line,
+            "an error page is for a code or for a type: exception-type is not read",
         )
     if code is not None:
         number = whole(code)
         if number is not None and number in ERROR_CODES:
             return {"error-code": number}
         told.tell(
+            Rank.BEHAVIOR,
             code.line,
             f"error-code {shortened(code.text)} is no status of an error from 400 to 599: the page is not read",
         )
@@ -173,11 +194,13 @@ def _errors(element: Element, told: Told) -> Table | None:
         return {}
     if not is_name(kind.text):
         told.tell(
+            Rank.BEHAVIOR,
             kind.line,
             f"exception-type {shortened(kind.text)} is no name of 1 to 64 bytes: the page is not read",
         )
         return None
     told.tell(
+        Rank.BEHAVIOR,
         kind.line,
         f"exception-type {kind.text} is compared with the name of a fault alone: there are no classes below it",
     )

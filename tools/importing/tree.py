@@ -5,7 +5,7 @@ import dataclasses
 from typing import Iterator
 from xml.parsers import expat
 
-from .told import Told
+from .told import Rank, Told
 
 # The most elements that may stand within one another: descriptors have six levels.
 DEEPEST = 64
@@ -102,7 +102,9 @@ class _Builder:
 
     def instruction(self, target: str, _text: str) -> None:
         self.told.tell(
-            self.parser.CurrentLineNumber, f"the processing instruction {target} means nothing here"
+            Rank.IGNORED,
+            self.parser.CurrentLineNumber,
+            f"the processing instruction {target} means nothing here",
         )
 
 

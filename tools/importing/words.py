@@ -3,7 +3,7 @@ from __future__ import annotations
 
 from .elements import shortened
 from .toml import Value
-from .told import Told, on_one_line
+from .told import Rank, Told, on_one_line
 from .tree import Element
 
 Table = dict[str, Value]
@@ -33,6 +33,7 @@ def truth(element: Element, name: str, default: bool, told: Told) -> bool:
         return True
     if child.text.lower() not in ("false", "0"):
         told.tell(
+            Rank.BEHAVIOR,
             child.line,
             f"{name} {shortened(child.text)} is neither true nor false: it counts as false",
         )
@@ -57,10 +58,12 @@ def init_params(element: Element, told: Told) -> Table:
     for param in element.all("init-param"):
         name = param.text_of("param-name")
         if not name:
-            told.tell(param.line, "a parameter without a name is not read")
+            told.tell(Rank.BEHAVIOR, param.line, "a parameter without a name is not read")
         elif name in params:
             told.tell(
-                param.line, f"the parameter {name} stands here once more: the first one counts"
+                Rank.BEHAVIOR,
+                param.line,
+                f"the parameter {name} stands here once more: the first one counts",
             )
         else:
             params[name] = param.text_of("param-value")
