@@ -39,8 +39,11 @@ class Names:
     def declare(self, element: Element, told: Told) -> str | None:
         """The name for a component that is declared, `None` where it cannot be declared."""
         name = element.text_of(f"{self.kind}-name")
-        if not name:
+        named = element.first(f"{self.kind}-name")
+        if named is None:
             told.tell(Rank.BEHAVIOR, element.line, f"a {self.kind} without a name is not read")
+        elif not name:
+            told.tell(Rank.ERROR, named.line, f"{named.name} is empty")
         elif name in self._written:
             told.tell(
                 Rank.BEHAVIOR,
@@ -148,20 +151,21 @@ def _load_on_startup(element: Element, told: Told) -> Table:
     order = element.first("load-on-startup")
     if order is None:
         return {}
-    number = whole(order)
-    if number is not None and -(2**31) <= number < 2**31:
-        return {"load-on-startup": number}
-    if order.text:
-        told.tell(
-            Rank.BEHAVIOR,
-            order.line,
-            f"load-on-startup {shortened(order.text)} is no number of 32 bits: the servlet asks for no place in the order of starts",
-        )
-    else:
+    if not order.text:
         told.tell(
             Rank.BEHAVIOR,
             order.line,
             "load-on-startup is empty: the servlet asks for no place in the order of starts",
+        )
+        return {}
+    number = whole(order, told)
+    if number is not None and -(2**31) <= number < 2**31:
+        return {"load-on-startup": number}
+    if number is not None:
+        told.tell(
+            Rank.BEHAVIOR,
+            order.line,
+            f"load-on-startup {number} is no number of 32 bits: the servlet asks for no place in the order of starts",
         )
     return {}
 
@@ -244,9 +248,9 @@ def is_pattern_told(pattern: Element, rank: Rank, told: Told) -> bool:
         return False
     if not is_pattern(pattern.text):
         told.tell(
-            rank,
+            Rank.ERROR,
             pattern.line,
-            f"url-pattern {shortened(pattern.text)} is no pattern, and is not read; Tomcat does not start such an application",
+            f"url-pattern {shortened(pattern.text)} is no pattern; Tomcat does not start such an application",
         )
         return False
     if "%" in pattern.text:
@@ -347,9 +351,9 @@ def _dispatchers(element: Element, told: Told) -> list[str] | None:
             )
         else:
             told.tell(
-                Rank.BEHAVIOR,
+                Rank.ERROR,
                 child.line,
-                f"dispatcher {shortened(child.text)} is none, and is not read",
+                f"dispatcher {shortened(child.text)} is none of REQUEST, FORWARD, INCLUDE, ERROR and ASYNC",
             )
     if found or element.first("dispatcher") is None:
         return found

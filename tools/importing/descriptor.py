@@ -48,6 +48,7 @@ def read(text: bytes, told: Told) -> Descriptor:
     _check_root(document, told)
     tell_what_is_not_taken(document.root, told)
     root = taken(document.root)
+    _check_completeness(root, told)
     _tell_encoding(root, told)
     top, tables = _top(root, told), _tables(root, told)
     descriptor = Descriptor({**_version(tables), **top}, tables, _is_complete(root))
@@ -84,14 +85,24 @@ def _is_complete(root: Element) -> bool:
     return root.attributes.get("metadata-complete", "").strip() in ("true", "1")
 
 
+def _check_completeness(root: Element, told: Told) -> None:
+    text = root.attributes.get("metadata-complete", "false").strip()
+    if text not in ("true", "false", "1", "0"):
+        told.tell(
+            Rank.ERROR,
+            root.line,
+            f"metadata-complete {shortened(text)} is none of true, false, 1 and 0",
+        )
+
+
 def _top(root: Element, told: Told) -> Table:
     deny = root.first("deny-uncovered-http-methods")
     top: Table = {} if deny is None else {"deny-uncovered-http-methods": True}
     if deny is not None and deny.text:
         told.tell(
-            Rank.SECURITY,
+            Rank.ERROR,
             deny.line,
-            f"deny-uncovered-http-methods holds no value: {shortened(deny.text)} changes nothing, it is set",
+            f"deny-uncovered-http-methods is not empty: {shortened(deny.text)} does not turn it off",
         )
     if not _is_complete(root):
         told.tell(

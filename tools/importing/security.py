@@ -9,8 +9,9 @@ from .limits import (
     MAX_NAME_BYTES,
     MAX_PATTERNS_OF_CONSTRAINT,
     is_location,
-    is_method,
     is_name,
+    is_token,
+    size,
 )
 from .told import Rank, Told
 from .tree import Element
@@ -111,15 +112,20 @@ def _methods(element: Element, told: Told) -> Table:
 
 
 def _is_method_told(element: Element, told: Told) -> bool:
-    if is_method(element.text):
-        return True
-    effect = "not covered" if element.name == "http-method" else "covered"
-    told.tell(
-        Rank.SECURITY,
-        element.line,
-        f"{element.name} {shortened(element.text)} is no token of 1 to {MAX_METHOD_BYTES} bytes, and is not read: requests with it are {effect}",
-    )
-    return False
+    if not is_token(element.text):
+        told.tell(
+            Rank.ERROR, element.line, f"{element.name} {shortened(element.text)} is no method"
+        )
+        return False
+    if size(element.text) > MAX_METHOD_BYTES:
+        effect = "not covered" if element.name == "http-method" else "covered"
+        told.tell(
+            Rank.SECURITY,
+            element.line,
+            f"{element.name} {shortened(element.text)} has more than {MAX_METHOD_BYTES} bytes, and is not read: requests with it are {effect}",
+        )
+        return False
+    return True
 
 
 def _parts(collections: list[Table]) -> list[list[Table]]:
@@ -173,11 +179,11 @@ def _transport(element: Element, told: Told) -> Table:
     asked = guarantee.text
     if asked not in _GUARANTEES:
         told.tell(
-            Rank.SECURITY,
+            Rank.ERROR,
             guarantee.line,
-            f"transport-guarantee {shortened(asked)} is none of NONE, INTEGRAL and CONFIDENTIAL: it stands as CONFIDENTIAL, as in Tomcat",
+            f"transport-guarantee {shortened(asked)} is none of NONE, INTEGRAL and CONFIDENTIAL; Tomcat reads it as CONFIDENTIAL",
         )
-        asked = "CONFIDENTIAL"
+        return {}
     if asked != "NONE":
         told.tell(
             Rank.SECURITY,
@@ -252,6 +258,11 @@ def _page(login: Element, form: Element | None, key: str, default: str, told: To
         return default
     if is_location(page.text):
         return page.text
+    if not page.text.startswith("/"):
+        told.tell(
+            Rank.ERROR, page.line, f"{key} {shortened(page.text)} does not begin with a slash"
+        )
+        return default
     told.tell(
         Rank.SECURITY,
         page.line,

@@ -19,6 +19,8 @@ class Rank(enum.IntEnum):
     BEHAVIOR = enum.auto()
     # No response depends on it.
     IGNORED = enum.auto()
+    # A value is wrong by the schemas or the specification. Nothing is written.
+    ERROR = enum.auto()
 
     def __str__(self) -> str:
         return self.name.lower()
@@ -28,7 +30,7 @@ class Fault(Exception):
     """The file cannot be imported at all; `str` of it is the line that says why."""
 
     def __init__(self, file: str, line: int, why: str) -> None:
-        super().__init__(f"{file}:{line}: {why}")
+        super().__init__(f"{file}:{line}: {Rank.ERROR}: {why}")
 
 
 class Told:
@@ -45,6 +47,10 @@ class Told:
     def fault(self, line: int, why: str) -> Fault:
         """What ends the reading at a line."""
         return Fault(self.file, line, on_one_line(why))
+
+    def has_errors(self) -> bool:
+        """Whether the file has a wrong value."""
+        return any(rank is Rank.ERROR for rank, _, _ in self._told)
 
     def lines(self) -> list[str]:
         """Returns the lines by rank, and within a rank by the line of the file. Sentences of one line keep their order."""
