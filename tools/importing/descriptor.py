@@ -3,7 +3,7 @@ from __future__ import annotations
 
 import dataclasses
 
-from . import components, pages, security, toml, tree
+from . import components, guards, pages, security, toml, tree
 from .elements import shortened, taken, tell_what_is_not_taken
 from .limits import MAX_LIST_ITEMS
 from .toml import Value
@@ -51,6 +51,7 @@ def read(text: bytes, told: Told) -> Descriptor:
     _check_completeness(root, told)
     _tell_encoding(root, told)
     top, tables = _top(root, told), _tables(root, told)
+    guards.tell_guards(root, told)
     descriptor = Descriptor({**_version(tables), **top}, tables, _is_complete(root))
     _check_lists(descriptor, told)
     return descriptor

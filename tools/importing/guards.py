@@ -1,0 +1,180 @@
+"""Filters that may decide access in code: those of known products, and those that are mapped over constrained paths. No constraint shows what they decide."""
+from __future__ import annotations
+
+from typing import Iterator
+
+from .components import EVERY_SERVLET, FILE_SERVLET
+from .elements import shortened
+from .limits import is_pattern
+from .told import Rank, Told
+from .tree import Element
+
+# Products whose filters decide access, by the name of a class, or by a package with its dot.
+_KNOWN = {
+    "org.springframework.security.": "Spring Security",
+    "org.acegisecurity.": "Acegi Security",
+    "org.springframework.web.filter.DelegatingFilterProxy": "Spring, often for Spring Security",
+    "com.google.inject.servlet.GuiceFilter": "Guice, for filters that code names",
+    "org.apache.shiro.": "Apache Shiro",
+    "org.jsecurity.": "JSecurity",
+    "org.keycloak.": "Keycloak",
+    "org.wildfly.security.": "WildFly Elytron",
+    "org.picketlink.": "PicketLink",
+    "org.pac4j.": "pac4j",
+    "org.jasig.cas.client.": "the CAS client",
+    "org.apereo.cas.client.": "the CAS client",
+    "org.josso.": "JOSSO",
+    "com.sun.identity.agents.filter.": "the OpenAM agent",
+    "org.forgerock.openam.": "OpenAM",
+    "oracle.security.": "Oracle Platform Security",
+    "org.apache.hadoop.security.": "Hadoop",
+    "hudson.security.": "Jenkins",
+    "com.atlassian.seraph.": "Atlassian Seraph",
+    "com.liferay.portal.servlet.filters.secure.": "Liferay",
+    "com.stormpath.": "Stormpath",
+    "com.auth0.": "Auth0",
+    "com.okta.": "Okta",
+    "waffle.servlet.": "Waffle",
+    "jcifs.http.": "jCIFS",
+    "net.sourceforge.spnego.": "SPNEGO",
+    "org.securityfilter.filter.": "SecurityFilter",
+    "org.owasp.csrfguard.": "OWASP CSRFGuard",
+    "org.owasp.esapi.filters.": "OWASP ESAPI",
+    "org.apache.catalina.filters.CorsFilter": "Tomcat",
+    "org.apache.catalina.filters.CsrfPreventionFilter": "Tomcat",
+    "org.apache.catalina.filters.RestCsrfPreventionFilter": "Tomcat",
+    "org.apache.catalina.filters.RemoteAddrFilter": "Tomcat",
+    "org.apache.catalina.filters.RemoteCIDRFilter": "Tomcat",
+    "org.apache.catalina.filters.RemoteHostFilter": "Tomcat",
+}
+_UNKNOWN = "the policy does not show it"
+# The most patterns that a line names.
+_MOST_NAMED = 3
+
+
+def tell_guards(root: Element, told: Told) -> None:
+    """Reports the filters that may decide access in code."""
+    for element in root.all("filter"):
+        class_element = element.first("filter-class")
+        product = None if class_element is None else _product(class_element.text)
+        if class_element is not None and product is not None:
+            told.tell(
+                Rank.SECURITY,
+                class_element.line,
+                f"class {class_element.text} decides access in code ({product}): {_UNKNOWN}",
+            )
+    areas = _Areas(root)
+    declared = {element.text_of("filter-name") for element in root.all("filter")}
+    for mapping in root.all("filter-mapping"):
+        name = mapping.text_of("filter-name")
+        covered = areas.constrained_in(list(_patterns_of(mapping, root)))
+        if covered and name in declared:
+            told.tell(
+                Rank.SECURITY,
+                mapping.line,
+                f"filter {shortened(name)} is mapped over paths that are constrained by {_listed(covered)}, and may refuse requests there: {_UNKNOWN}",
+            )
+
+
+def _product(class_name: str) -> str | None:
+    """The product that a class belongs to, if it is known to decide access."""
+    packages = [class_name[: place + 1] for place, it in enumerate(class_name) if it == "."]
+    return next((_KNOWN[name] for name in [class_name, *packages] if name in _KNOWN), None)
+
+
+def _listed(patterns: list[str]) -> str:
+    named = ", ".join(map(shortened, patterns[:_MOST_NAMED]))
+    more = len(patterns) - _MOST_NAMED
+    return f"{named} and {more} more" if more > 0 else named
+
+
+def _patterns_of(mapping: Element, root: Element) -> Iterator[str]:
+    """The patterns of a filter mapping, and those of the servlets that it names."""
+    yield from filter(_can_match, mapping.texts("url-pattern"))
+    for servlet in mapping.texts("servlet-name"):
+        if servlet in (EVERY_SERVLET, FILE_SERVLET):
+            yield "/*"
+        for other in root.all("servlet-mapping"):
+            if other.text_of("servlet-name") == servlet:
+                yield from filter(_can_match, other.texts("url-pattern"))
+
+
+def _can_match(pattern: str) -> bool:
+    """Whether a text is a pattern that matches a path: the extension of a path has no dot (Jakarta Servlet 6.0, section 12.1)."""
+    return is_pattern(pattern) and not (pattern.startswith("*.") and "." in pattern[2:])
+
+
+class _Areas:
+    """The patterns of constraints: those of one that requires something, and those of constraints that require nothing."""
+
+    def __init__(self, root: Element) -> None:
+        self.constrained: dict[str, None] = {}
+        self.open: dict[str, None] = {}
+        for constraint in root.all("security-constraint"):
+            patterns = self.constrained if _requires(constraint) else self.open
+            for collection in constraint.all("web-resource-collection"):
+                patterns |= dict.fromkeys(filter(_can_match, collection.texts("url-pattern")))
+
+    def constrained_in(self, patterns: list[str]) -> list[str]:
+        """The patterns of constraints by which a path may be constrained that one of these patterns matches."""
+        return [
+            area
+            for area in self.constrained
+            if any(_meet(area, it) and not self._is_open(it, area) for it in patterns)
+        ]
+
+    def _is_open(self, pattern: str, area: str) -> bool:
+        """Whether each path of a pattern is left open by a better pattern than that of an area."""
+        return any(
+            _covers(it, pattern) and _precedence(it) > _precedence(area)
+            for it in self.open.keys() - self.constrained.keys()
+        )
+
+
+def _requires(constraint: Element) -> bool:
+    """Whether a constraint requires a role, a login or a protected transport."""
+    transport = constraint.first("user-data-constraint")
+    guarantee = "" if transport is None else transport.text_of("transport-guarantee")
+    return constraint.first("auth-constraint") is not None or guarantee not in ("", "NONE")
+
+
+# The kinds of patterns, by the precedence of Jakarta Servlet 6.0, section 12.1, the least first.
+_DEFAULT, _EXTENSION, _PREFIX, _EXACT = range(4)
+
+
+def _kind(pattern: str) -> int:
+    if pattern == "/":
+        return _DEFAULT
+    if pattern.startswith("*."):
+        return _EXTENSION
+    return _PREFIX if pattern.endswith("/*") else _EXACT
+
+
+def _precedence(pattern: str) -> tuple[int, int]:
+    return _kind(pattern), len(pattern) if _kind(pattern) == _PREFIX else 0
+
+
+def _covers(outer: str, inner: str) -> bool:
+    """Whether each path that the inner pattern matches is matched by the outer one."""
+    if outer in ("/", "/*") or outer == inner:
+        return True
+    if _kind(inner) == _EXACT:
+        return _matches(outer, inner or "/")
+    both_prefixes = _kind(outer) == _kind(inner) == _PREFIX
+    return both_prefixes and inner.startswith(outer[:-1])
+
+
+def _matches(pattern: str, path: str) -> bool:
+    if _kind(pattern) == _PREFIX:
+        return path == pattern[:-2] or path.startswith(pattern[:-1])
+    if _kind(pattern) == _EXTENSION:
+        _, dot, extension = path.rpartition("/")[2].rpartition(".")
+        return dot + extension == pattern[1:]
+    return pattern == "/" or (pattern or "/") == path
+
+
+def _meet(one: str, other: str) -> bool:
+    """Whether a path is matched by both patterns."""
+    if {_kind(one), _kind(other)} == {_PREFIX, _EXTENSION}:
+        return True
+    return _covers(one, other) or _covers(other, one)
