@@ -21,12 +21,15 @@ _IS_NOT_REGULAR = "is not a regular file"
 
 @dataclasses.dataclass(frozen=True)
 class NewFile:
-    """A file to write into a folder: its name, its text and its mode, and whether it may replace a file."""
+    """A file to write into a folder: its name, its text and its mode, and whether it may replace a file.
+
+    If it is like another file, it has the mode and the owner of that one."""
 
     name: str
     text: str
     mode: int = PUBLIC
     may_replace: bool = False
+    like: os.stat_result | None = None
 
 
 def open_regular(path: Path, flags: int = 0) -> BinaryIO:
@@ -97,6 +100,9 @@ def _check_target(folder: int, file: NewFile) -> None:
 def _write(folder: int, name: str, new: NewFile) -> None:
     flags = os.O_WRONLY | os.O_CREAT | os.O_EXCL | os.O_NOFOLLOW
     with open(os.open(name, flags, new.mode, dir_fd=folder), "w", encoding="utf-8") as file:
+        if new.like is not None:
+            os.fchown(file.fileno(), new.like.st_uid, new.like.st_gid)
+            os.fchmod(file.fileno(), stat.S_IMODE(new.like.st_mode))
         file.write(new.text)
         file.flush()
         os.fsync(file.fileno())
