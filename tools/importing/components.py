@@ -6,12 +6,10 @@ from .limits import (
     FILTER_CLASSES,
     LISTENER_CLASSES,
     MAX_NAME_BYTES,
-    MAX_PATTERN_BYTES,
     SERVLET_CLASSES,
     is_name,
-    is_pattern,
-    size,
 )
+from .patterns import is_pattern_told
 from .told import Rank, Told
 from .tree import Element
 from .words import Table, init_params, truth, whole, words
@@ -234,31 +232,6 @@ def _is_free(pattern: Element, name: str, owners: dict[str, str], told: Told) ->
         )
         return False
     owners[pattern.text] = name
-    return True
-
-
-def is_pattern_told(pattern: Element, rank: Rank, told: Told) -> bool:
-    """Whether an element's text is a pattern. Reports one that is not, and one that Tomcat reads differently."""
-    if size(pattern.text) > MAX_PATTERN_BYTES:
-        told.tell(
-            rank,
-            pattern.line,
-            f"url-pattern {shortened(pattern.text)} has more than {MAX_PATTERN_BYTES} bytes, and is not read",
-        )
-        return False
-    if not is_pattern(pattern.text):
-        told.tell(
-            Rank.ERROR,
-            pattern.line,
-            f"url-pattern {shortened(pattern.text)} is no pattern; Tomcat does not start such an application",
-        )
-        return False
-    if "%" in pattern.text:
-        told.tell(
-            rank,
-            pattern.line,
-            f"url-pattern {shortened(pattern.text)} is compared as it is written; Tomcat decodes it first",
-        )
     return True
 
 

@@ -5,7 +5,7 @@ from typing import Iterator
 
 from .components import EVERY_SERVLET, FILE_SERVLET
 from .elements import shortened
-from .limits import is_pattern
+from .patterns import can_match, covers, meet, precedence
 from .told import Rank, Told
 from .tree import Element
 
@@ -90,18 +90,13 @@ def _listed(patterns: list[str]) -> str:
 
 def _patterns_of(mapping: Element, root: Element) -> Iterator[str]:
     """The patterns of a filter mapping, and those of the servlets that it names."""
-    yield from filter(_can_match, mapping.texts("url-pattern"))
+    yield from filter(can_match, mapping.texts("url-pattern"))
     for servlet in mapping.texts("servlet-name"):
         if servlet in (EVERY_SERVLET, FILE_SERVLET):
             yield "/*"
         for other in root.all("servlet-mapping"):
             if other.text_of("servlet-name") == servlet:
-                yield from filter(_can_match, other.texts("url-pattern"))
-
-
-def _can_match(pattern: str) -> bool:
-    """Whether a text is a pattern that matches a path: the extension of a path has no dot (Jakarta Servlet 6.0, section 12.1)."""
-    return is_pattern(pattern) and not (pattern.startswith("*.") and "." in pattern[2:])
+                yield from filter(can_match, other.texts("url-pattern"))
 
 
 class _Areas:
@@ -113,20 +108,20 @@ class _Areas:
         for constraint in root.all("security-constraint"):
             patterns = self.constrained if _requires(constraint) else self.open
             for collection in constraint.all("web-resource-collection"):
-                patterns |= dict.fromkeys(filter(_can_match, collection.texts("url-pattern")))
+                patterns |= dict.fromkeys(filter(can_match, collection.texts("url-pattern")))
 
     def constrained_in(self, patterns: list[str]) -> list[str]:
         """The patterns of constraints by which a path may be constrained that one of these patterns matches."""
         return [
             area
             for area in self.constrained
-            if any(_meet(area, it) and not self._is_open(it, area) for it in patterns)
+            if any(meet(area, it) and not self._is_open(it, area) for it in patterns)
         ]
 
     def _is_open(self, pattern: str, area: str) -> bool:
         """Whether each path of a pattern is left open by a better pattern than that of an area."""
         return any(
-            _covers(it, pattern) and _precedence(it) > _precedence(area)
+            covers(it, pattern) and precedence(it) > precedence(area)
             for it in self.open.keys() - self.constrained.keys()
         )
 
@@ -136,45 +131,3 @@ def _requires(constraint: Element) -> bool:
     transport = constraint.first("user-data-constraint")
     guarantee = "" if transport is None else transport.text_of("transport-guarantee")
     return constraint.first("auth-constraint") is not None or guarantee not in ("", "NONE")
-
-
-# The kinds of patterns, by the precedence of Jakarta Servlet 6.0, section 12.1, the least first.
-_DEFAULT, _EXTENSION, _PREFIX, _EXACT = range(4)
-
-
-def _kind(pattern: str) -> int:
-    if pattern == "/":
-        return _DEFAULT
-    if pattern.startswith("*."):
-        return _EXTENSION
-    return _PREFIX if pattern.endswith("/*") else _EXACT
-
-
-def _precedence(pattern: str) -> tuple[int, int]:
-    return _kind(pattern), len(pattern) if _kind(pattern) == _PREFIX else 0
-
-
-def _covers(outer: str, inner: str) -> bool:
-    """Whether each path that the inner pattern matches is matched by the outer one."""
-    if outer in ("/", "/*") or outer == inner:
-        return True
-    if _kind(inner) == _EXACT:
-        return _matches(outer, inner or "/")
-    both_prefixes = _kind(outer) == _kind(inner) == _PREFIX
-    return both_prefixes and inner.startswith(outer[:-1])
-
-
-def _matches(pattern: str, path: str) -> bool:
-    if _kind(pattern) == _PREFIX:
-        return path == pattern[:-2] or path.startswith(pattern[:-1])
-    if _kind(pattern) == _EXTENSION:
-        _, dot, extension = path.rpartition("/")[2].rpartition(".")
-        return dot + extension == pattern[1:]
-    return pattern == "/" or (pattern or "/") == path
-
-
-def _meet(one: str, other: str) -> bool:
-    """Whether a path is matched by both patterns."""
-    if {_kind(one), _kind(other)} == {_PREFIX, _EXTENSION}:
-        return True
-    return _covers(one, other) or _covers(other, one)

@@ -1,7 +1,6 @@
 """Security constraints, roles, login."""
 from __future__ import annotations
 
-from .components import is_pattern_told
 from .elements import shortened
 from .gaps import tell_readings
 from .limits import (
@@ -13,6 +12,7 @@ from .limits import (
     is_token,
     size,
 )
+from .patterns import is_pattern_told
 from .told import Rank, Told
 from .tree import Element
 from .words import Table, words
