@@ -22,7 +22,7 @@ from library import load_script
 SEED = "0" * 64
 WRITTEN = ("web.toml", "server.toml", "users.toml")
 MAX_SECONDS = 10
-# Where the header of an entry within an archive's directory has what is made odd (APPNOTE.TXT, section 4.3.12).
+# The places in the header of an entry, within an archive's directory, that are made odd (APPNOTE.TXT, section 4.3.12).
 DIRECTORY_HEADER = b"PK\x01\x02"
 VERSION_OFFSET, NAME_OFFSET = 6, 46
 ODD_VERSION, ODD_BYTE = 990, b"\xff"
