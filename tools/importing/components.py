@@ -46,13 +46,13 @@ class Names:
             told.tell(
                 Rank.BEHAVIOR,
                 element.line,
-                f"{self.kind} {shortened(name)} is declared once more: the first one counts",
+                f"{self.kind} {shortened(name)} is declared again: the first one counts",
             )
         elif self.kind == "servlet" and name == FILE_SERVLET:
             told.tell(
                 Rank.BEHAVIOR,
                 element.line,
-                "servlet default is the file servlet of this program: what is declared under its name is not read",
+                "servlet default is the file servlet of this program: a declaration under its name is not read",
             )
         else:
             self._written[name] = self._name_for(element, name, told)
@@ -72,12 +72,12 @@ class Names:
         why = (
             f"has more than {MAX_NAME_BYTES} bytes"
             if name != EVERY_SERVLET
-            else "stands for every servlet"
+            else "means every servlet"
         )
         told.tell(
             Rank.BEHAVIOR,
             element.line,
-            f"the {self.kind}'s name {shortened(name)} {why}: it stands as {written}",
+            f"the {self.kind}'s name {shortened(name)} {why}: it is imported as {written}",
         )
         return written
 
@@ -110,7 +110,7 @@ def _servlet_class(element: Element, told: Told) -> str:
         told.tell(
             Rank.BEHAVIOR,
             element.line,
-            f"servlet {shortened(name)} is not enabled: stands as {NO_SERVLET}, which answers 404",
+            f"servlet {shortened(name)} is not enabled: imported as {NO_SERVLET}, which answers 404",
         )
         return NO_SERVLET
     if page is not None and class_element is not None:
@@ -123,7 +123,7 @@ def _servlet_class(element: Element, told: Told) -> str:
         told.tell(
             Rank.BEHAVIOR,
             page.line,
-            f"jsp-file {page.text} is not run by this program: stands as {ANY_SERVLET}",
+            f"jsp-file {page.text} is not run by this program: imported as {ANY_SERVLET}",
         )
         return ANY_SERVLET
     return _class_of(element, "servlet", SERVLET_CLASSES, ANY_SERVLET, told)
@@ -133,14 +133,16 @@ def _class_of(element: Element, kind: str, known: frozenset[str], stand_in: str,
     """The class of a component, or what stands for one that this program does not have."""
     class_element = element.first(f"{kind}-class")
     if class_element is None or not class_element.text:
-        told.tell(Rank.BEHAVIOR, element.line, f"a {kind} without a class stands as {stand_in}")
+        told.tell(
+            Rank.BEHAVIOR, element.line, f"a {kind} without a class is imported as {stand_in}"
+        )
         return stand_in
     if class_element.text in known:
         return class_element.text
     told.tell(
         Rank.BEHAVIOR,
         class_element.line,
-        f"class {class_element.text} is not in this program: stands as {stand_in}",
+        f"class {class_element.text} is not in this program: imported as {stand_in}",
     )
     return stand_in
 
@@ -174,7 +176,7 @@ def _tell_async(element: Element, told: Told) -> None:
         told.tell(
             Rank.BEHAVIOR,
             supported.line,
-            "async-supported: no request goes on behind the call of its servlet",
+            "async-supported: a request ends when its servlet returns",
         )
 
 
@@ -228,7 +230,7 @@ def _is_free(pattern: Element, name: str, owners: dict[str, str], told: Told) ->
         told.tell(
             Rank.BEHAVIOR,
             pattern.line,
-            f"url-pattern {shortened(pattern.text)} stands for servlet {shortened(owner)} already: the first mapping counts",
+            f"url-pattern {shortened(pattern.text)} is mapped to servlet {shortened(owner)} already: the first mapping counts",
         )
         return False
     owners[pattern.text] = name
@@ -331,7 +333,7 @@ def _dispatchers(element: Element, told: Told) -> list[str] | None:
     if found or element.first("dispatcher") is None:
         return found
     told.tell(
-        Rank.BEHAVIOR, element.line, "a filter mapping for no dispatch that there is, is not read"
+        Rank.BEHAVIOR, element.line, "a filter mapping for no dispatch that exists is not read"
     )
     return None
 

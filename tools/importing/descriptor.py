@@ -78,7 +78,7 @@ def _check_root(document: Document, told: Told) -> None:
         told.tell(
             Rank.BEHAVIOR,
             document.doctype_line,
-            "the DOCTYPE is none of Servlet 2.2 and 2.3: what it declares is not read",
+            "the DOCTYPE is none of Servlet 2.2 and 2.3: its declarations are not read",
         )
 
 
@@ -109,7 +109,7 @@ def _top(root: Element, told: Told) -> Table:
         told.tell(
             Rank.SECURITY,
             root.line,
-            "metadata-complete is not true: what annotations of classes and web-fragment.xml files would add is not read",
+            "metadata-complete is not true: annotations of classes and web-fragment.xml files are not read",
         )
     return {**top, **words(root)}
 

@@ -55,7 +55,7 @@ CONTENT: dict[str, Content] = {
         "deny-uncovered-http-methods": ONE,
         "request-character-encoding": ONE,
         "response-character-encoding": Says(
-            "components of this program say themselves what type their answer has"
+            "components of this program set the type of their responses"
         ),
         "distributable": Says("sessions stay in the memory of one process"),
         "context-param": Says(
@@ -66,7 +66,7 @@ CONTENT: dict[str, Content] = {
         "mime-mapping": Says(
             "a file has the type that this program gives to its extension", "extension"
         ),
-        "default-context-path": Says("the context stands at the path that --context gives"),
+        "default-context-path": Says("the path of the context is that of --context"),
         "absolute-ordering": Says(
             "no fragment is read, so none is put in order", rank=Rank.IGNORED
         ),
@@ -107,7 +107,7 @@ CONTENT: dict[str, Content] = {
         "enabled": ONE,
         "async-supported": ONE,
         "run-as": Says(
-            "what a servlet calls has no caller of its own here", "role-name", Rank.SECURITY
+            "servlets do not run under a role of their own here", "role-name", Rank.SECURITY
         ),
         "security-role-ref": Says(
             "no component of this program asks for roles by another name",
@@ -168,7 +168,7 @@ CONTENT: dict[str, Content] = {
     "login-config": {
         "auth-method": ONE,
         "realm-name": Says(
-            "the name of a realm is shown by BASIC and DIGEST alone, and callers log in by a form here",
+            "only BASIC and DIGEST show the name of a realm, and callers log in by a form here",
             rank=Rank.IGNORED,
         ),
         "form-login-config": ONE,
@@ -234,7 +234,7 @@ def tell_what_is_not_taken(element: Element, told: Told) -> None:
             told.tell(
                 _rank(element, child),
                 child.line,
-                f"{child.name} stands here once more: the first one counts",
+                f"{child.name} is repeated: the first one counts",
             )
         else:
             tell_what_is_not_taken(child, told)

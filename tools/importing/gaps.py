@@ -48,7 +48,7 @@ def tell_readings(root: Element, constraints: list[Table], told: Told) -> None:
         told.tell(
             Rank.SECURITY,
             lines["/"],
-            'url-pattern "/" of a constraint stands behind all others for the path /, too; Tomcat takes it for an exact one there',
+            'url-pattern "/" of a constraint is matched last for the path / too; Tomcat matches that path exactly',
         )
     if "*." in uncovered:
         told.tell(

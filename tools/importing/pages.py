@@ -44,7 +44,7 @@ def session_config(root: Element, told: Told) -> Table | None:
             told.tell(
                 Rank.BEHAVIOR,
                 mode.line,
-                f"tracking-mode {shortened(mode.text)}: sessions are found by their cookie alone",
+                f"tracking-mode {shortened(mode.text)}: sessions are found only by their cookie",
             )
     timeout = element.first("session-timeout")
     table = {} if timeout is None else _timeout(timeout, told)
@@ -59,7 +59,7 @@ def _timeout(element: Element, told: Told) -> Table:
         told.tell(
             Rank.BEHAVIOR,
             element.line,
-            f"session-timeout {minutes} is more than a year: it stands as {MAX_SESSION_TIMEOUT}",
+            f"session-timeout {minutes} is more than a year: it is imported as {MAX_SESSION_TIMEOUT}",
         )
     return {"session-timeout": min(minutes, MAX_SESSION_TIMEOUT)}
 
@@ -77,7 +77,7 @@ def _cookie_config(cookie: Element, told: Told) -> Table:
         told.tell(
             Rank.SECURITY,
             secure.line,
-            "secure: the cookie of a session has no attribute Secure; what gives TLS in front of this program may add it",
+            "secure: the cookie of a session has no attribute Secure; a proxy that provides TLS may add it",
         )
     return {**settings, **_cookie_age(cookie.first("max-age"), told)}
 
@@ -122,7 +122,7 @@ def _cookie_age(age: Element | None, told: Told) -> Table:
         told.tell(
             Rank.BEHAVIOR,
             age.line,
-            f"max-age {seconds} is more than {MAX_COOKIE_AGE}, and stands so",
+            f"max-age {seconds} is more than {MAX_COOKIE_AGE}, and is reduced to that",
         )
     return {} if seconds is None or seconds < 0 else {"max-age": min(seconds, MAX_COOKIE_AGE)}
 
@@ -146,7 +146,7 @@ def welcome_files(root: Element, told: Told) -> Table | None:
                 told.tell(
                     Rank.BEHAVIOR,
                     child.line,
-                    f"welcome-file {shortened(child.text)} may not begin or end with a slash: it stands as {name}",
+                    f"welcome-file {shortened(child.text)} may not begin or end with a slash: it is imported as {name}",
                 )
             names.append(name)
     return {"welcome-file": list(names)}
@@ -165,7 +165,7 @@ def error_pages(root: Element, told: Told) -> list[Table]:
                 told.tell(
                     Rank.BEHAVIOR,
                     element.line,
-                    "an error page for the same errors stands above: the first one counts; in Tomcat the last one does",
+                    "an earlier error page is for the same errors: the first one counts; in Tomcat the last one does",
                 )
             seen.add(kind)
             tables.append({**errors, "location": location})
@@ -229,6 +229,6 @@ def _errors(element: Element, told: Told) -> Table | None:
     told.tell(
         Rank.BEHAVIOR,
         kind.line,
-        f"exception-type {kind.text} is compared with the name of a fault alone: there are no classes below it",
+        f"exception-type {kind.text} is compared only with the name of a fault: there are no classes below it",
     )
     return {"exception-type": kind.text}

@@ -39,7 +39,7 @@ def constraints(root: Element, told: Told) -> list[Table]:
             told.tell(
                 Rank.SECURITY,
                 element.line,
-                f"constraint {number} has no pattern that could be read: it stands as one that no request matches",
+                f"constraint {number} has no pattern that could be read: it is imported as one that no request matches",
             )
             parts = [[{"url-pattern": [NO_PATH]}]]
         tables.append({"web-resource-collection": list(parts[0]), **rest})
@@ -51,7 +51,7 @@ def constraints(root: Element, told: Told) -> list[Table]:
         told.tell(
             Rank.SECURITY,
             element.line,
-            f"constraint {number} has more than {MAX_PATTERNS_OF_CONSTRAINT} patterns: those that are too many stand as constraint {len(tables)}",
+            f"constraint {number} has more than {MAX_PATTERNS_OF_CONSTRAINT} patterns: the others are imported as constraint {len(tables)}",
         )
     tell_readings(root, tables, told)
     return tables
@@ -105,7 +105,7 @@ def _methods(element: Element, told: Told) -> Table:
         told.tell(
             Rank.SECURITY,
             element.line,
-            f"no method of this web-resource-collection can be written: it stands with the method {NO_METHOD}, so its patterns stay",
+            f"no method of this web-resource-collection can be written: it is imported with the method {NO_METHOD}, so its patterns stay",
         )
         methods = [NO_METHOD]
     return {key: list(dict.fromkeys(methods))} if methods else {}
@@ -188,7 +188,7 @@ def _transport(element: Element, told: Told) -> Table:
         told.tell(
             Rank.SECURITY,
             guarantee.line,
-            f"transport-guarantee {asked}: what it covers is denied with 403, also behind a proxy that gives TLS; Tomcat redirects to a secure port",
+            f"transport-guarantee {asked}: requests that it covers are denied with 403, also behind a proxy that provides TLS; Tomcat redirects to a secure port",
         )
     return {"user-data-constraint": {"transport-guarantee": asked, **words(constraint)}}
 
@@ -212,7 +212,7 @@ def roles(root: Element, told: Told) -> list[Table]:
                 f"security-role {shortened(name)} is no name of 1 to {MAX_NAME_BYTES} bytes, and is not declared",
             )
         elif name in seen:
-            told.tell(Rank.IGNORED, element.line, f"security-role {name} is declared once more")
+            told.tell(Rank.IGNORED, element.line, f"security-role {name} is declared again")
         else:
             seen.add(name)
             tables.append({"role-name": name, **words(element)})
@@ -229,7 +229,7 @@ def login_config(root: Element, told: Told) -> Table | None:
         told.tell(
             Rank.SECURITY,
             element.line,
-            "login-config has no method: callers cannot log in, and `login` stands for a denial with 403",
+            "login-config has no method: callers cannot log in, and `login` means a denial with 403",
         )
         return None
     pages = {"form-login-page": LOGIN_PAGE, "form-error-page": ERROR_PAGE}
@@ -240,13 +240,13 @@ def login_config(root: Element, told: Told) -> Table | None:
         told.tell(
             Rank.SECURITY,
             element.line,
-            f"{method} login is told as FORM for policy: what it would ask for by 401 is `login`, with the page {LOGIN_PAGE}",
+            f"{method} login is imported as FORM with the page {LOGIN_PAGE}: policy prints `login` for a request that would be answered with 401",
         )
         if form is not None:
             told.tell(
                 Rank.IGNORED,
                 form.line,
-                f"form-login-config is for FORM alone, and not for {method}",
+                f"form-login-config is only for FORM, and not for {method}",
             )
     return {"auth-method": "FORM", "form-login-config": dict(pages)}
 
@@ -254,7 +254,9 @@ def login_config(root: Element, told: Told) -> Table | None:
 def _page(login: Element, form: Element | None, key: str, default: str, told: Told) -> str:
     page = None if form is None else form.first(key)
     if page is None:
-        told.tell(Rank.SECURITY, login.line, f"FORM login without a {key}: it stands as {default}")
+        told.tell(
+            Rank.SECURITY, login.line, f"FORM login without a {key}: it is imported as {default}"
+        )
         return default
     if is_location(page.text):
         return page.text
@@ -266,6 +268,6 @@ def _page(login: Element, form: Element | None, key: str, default: str, told: To
     told.tell(
         Rank.SECURITY,
         page.line,
-        f"{key} {shortened(page.text)} is no path within the context: it stands as {default}",
+        f"{key} {shortened(page.text)} is no path within the context: it is imported as {default}",
     )
     return default

@@ -71,7 +71,7 @@ class _Builder:
         line = self.parser.CurrentLineNumber
         element = Element(local, namespace, line, attributes)
         if len(self.open) >= DEEPEST:
-            raise self.told.fault(line, f"more than {DEEPEST} elements stand within one another")
+            raise self.told.fault(line, f"more than {DEEPEST} elements are nested")
         if self.open:
             self.open[-1].children.append(element)
         else:

@@ -68,7 +68,7 @@ def read(text: bytes, told: Told) -> list[User]:
             told.tell(
                 Rank.SECURITY,
                 element.line,
-                f"user {shortened(user.name)} stands here once more: the first one counts",
+                f"user {shortened(user.name)} is repeated: the first one counts",
             )
         elif user is not None:
             users[user.name] = user
@@ -139,7 +139,7 @@ def _user(element: Element, groups: dict[str, list[str]], told: Told) -> User | 
             told.tell(
                 Rank.SECURITY,
                 element.line,
-                f"user {shortened(name)} is in the group {shortened(group)}, which there is not",
+                f"user {shortened(name)} is in the group {shortened(group)}, which does not exist",
             )
         names += groups.get(group, [])
     roles = [role for role in dict.fromkeys(names) if _is_role_told(element, name, role, told)]
@@ -172,7 +172,7 @@ def _credentials(element: Element, name: str, told: Told) -> tuple[str, str]:
     told.tell(
         Rank.SECURITY,
         element.line,
-        f"user {shortened(name)} has {why}: nobody logs in by this name until tools/new-user makes the entry anew",
+        f"user {shortened(name)} has {why}: nobody logs in by this name until tools/new-user makes a new entry",
     )
     return "", NO_DIGEST
 

@@ -65,7 +65,7 @@ def init_params(element: Element, told: Told) -> Table:
             told.tell(
                 Rank.BEHAVIOR,
                 param.line,
-                f"the parameter {name} stands here once more: the first one counts",
+                f"the parameter {name} is repeated: the first one counts",
             )
         else:
             params[name] = param.text_of("param-value")
