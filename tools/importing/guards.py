@@ -67,7 +67,7 @@ def tell_guards(root: Element, told: Told) -> None:
     declared = {element.text_of("filter-name") for element in root.all("filter")}
     for mapping in root.all("filter-mapping"):
         name = mapping.text_of("filter-name")
-        covered = areas.constrained_in(list(_patterns_of(mapping, root)))
+        covered = areas.constrained_in(set(_patterns_of(mapping, root)))
         if covered and name in declared:
             told.tell(
                 Rank.SECURITY,
@@ -100,30 +100,31 @@ def _patterns_of(mapping: Element, root: Element) -> Iterator[str]:
 
 
 class _Areas:
-    """The patterns of constraints: those of one that requires something, and those of constraints that require nothing."""
+    """The patterns of constraints that require something, and the patterns of constraints that require nothing."""
 
     def __init__(self, root: Element) -> None:
-        self.constrained: dict[str, None] = {}
-        self.open: dict[str, None] = {}
+        # Dictionaries keep the order of the file.
+        constrained: dict[str, None] = {}
+        opened: dict[str, None] = {}
         for constraint in root.all("security-constraint"):
-            patterns = self.constrained if _requires(constraint) else self.open
+            patterns = constrained if _requires(constraint) else opened
             for collection in constraint.all("web-resource-collection"):
                 patterns |= dict.fromkeys(filter(can_match, collection.texts("url-pattern")))
+        self._constrained = list(constrained)
+        self._open = [it for it in opened if it not in constrained]
 
-    def constrained_in(self, patterns: list[str]) -> list[str]:
-        """The patterns of constraints by which a path may be constrained that one of these patterns matches."""
+    def constrained_in(self, patterns: set[str]) -> list[str]:
+        """The patterns of constraints that may decide on a path that one of these patterns matches."""
+        best_open = {it: self._best_open(it) for it in patterns}
         return [
             area
-            for area in self.constrained
-            if any(meet(area, it) and not self._is_open(it, area) for it in patterns)
+            for area in self._constrained
+            if any(meet(area, it) and precedence(area) >= best_open[it] for it in patterns)
         ]
 
-    def _is_open(self, pattern: str, area: str) -> bool:
-        """Whether each path of a pattern is left open by a better pattern than that of an area."""
-        return any(
-            covers(it, pattern) and precedence(it) > precedence(area)
-            for it in self.open.keys() - self.constrained.keys()
-        )
+    def _best_open(self, pattern: str) -> tuple[int, int]:
+        """The greatest precedence of an open pattern that matches each path of a pattern."""
+        return max((precedence(it) for it in self._open if covers(it, pattern)), default=(0, 0))
 
 
 def _requires(constraint: Element) -> bool:
