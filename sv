@@ -50,6 +50,7 @@ prove() {
 # Proves and builds the crates $@ in a copy that holds nothing else, and brings the work back.
 build() {
     local crate copy log
+    need_toolchain
     copy=$(mktemp -d)
     log=$copy/log
     trap "rm -rf '$copy'" EXIT

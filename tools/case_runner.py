@@ -4,6 +4,7 @@ import contextlib
 import os
 import re
 import resource
+import shutil
 import socket
 import subprocess
 import tempfile
@@ -14,6 +15,7 @@ from case_steps import run_steps
 from case_tables import filled, rows_of
 
 SECONDS = 60
+EXAMPLES = os.fsencode(os.path.dirname(os.path.dirname(os.path.realpath(__file__)))) + b"/examples"
 # How each limit is set in a shell.
 LIMITS = {"memory": "ulimit -v", "descriptors": "ulimit -n"}
 # How each line of `entries` is made.
@@ -22,6 +24,7 @@ ENTRIES = {
     "folder": os.mkdir,
     "link": lambda path: os.symlink(b"nowhere", path),
     "pipe": os.mkfifo,
+    "example": lambda path: shutil.copytree(os.path.join(EXAMPLES, os.path.basename(path)), path),
 }
 
 

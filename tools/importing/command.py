@@ -13,7 +13,8 @@ def parser_of(documentation: Optional[str]) -> argparse.ArgumentParser:
     usage, _, description = (documentation or "").partition("\n\n")
     form = argparse.RawDescriptionHelpFormatter
     parser = argparse.ArgumentParser(usage=usage, description=description, formatter_class=form)
-    parser.add_argument("--strict", action="store_true", help="whatever is told is a failure")
+    parser.add_argument("--strict", action="store_true", help="every line is a failure")
+    parser.add_argument("--force", action="store_true", help="replaces a file that exists")
     return parser
 
 

@@ -6,13 +6,11 @@ from .limits import (
     FILTER_CLASSES,
     LISTENER_CLASSES,
     MAX_NAME_BYTES,
-    MAX_PATTERN_BYTES,
     SERVLET_CLASSES,
     is_name,
-    is_pattern,
-    size,
 )
-from .told import Told
+from .patterns import is_pattern_told
+from .told import Rank, Told
 from .tree import Element
 from .words import Table, init_params, truth, whole, words
 
@@ -39,17 +37,22 @@ class Names:
     def declare(self, element: Element, told: Told) -> str | None:
         """The name for a component that is declared, `None` where it cannot be declared."""
         name = element.text_of(f"{self.kind}-name")
-        if not name:
-            told.tell(element.line, f"a {self.kind} without a name is not read")
+        named = element.first(f"{self.kind}-name")
+        if named is None:
+            told.tell(Rank.BEHAVIOR, element.line, f"a {self.kind} without a name is not read")
+        elif not name:
+            told.tell(Rank.ERROR, named.line, f"{named.name} is empty")
         elif name in self._written:
             told.tell(
+                Rank.BEHAVIOR,
                 element.line,
-                f"{self.kind} {shortened(name)} is declared once more: the first one counts",
+                f"{self.kind} {shortened(name)} is declared again: the first one counts",
             )
         elif self.kind == "servlet" and name == FILE_SERVLET:
             told.tell(
+                Rank.BEHAVIOR,
                 element.line,
-                "servlet default is the file servlet of this program: what is declared under its name is not read",
+                "servlet default is the file servlet of this program: a declaration under its name is not read",
             )
         else:
             self._written[name] = self._name_for(element, name, told)
@@ -69,10 +72,12 @@ class Names:
         why = (
             f"has more than {MAX_NAME_BYTES} bytes"
             if name != EVERY_SERVLET
-            else "stands for every servlet"
+            else "means every servlet"
         )
         told.tell(
-            element.line, f"the {self.kind}'s name {shortened(name)} {why}: it stands as {written}"
+            Rank.BEHAVIOR,
+            element.line,
+            f"the {self.kind}'s name {shortened(name)} {why}: it is imported as {written}",
         )
         return written
 
@@ -103,18 +108,22 @@ def _servlet_class(element: Element, told: Told) -> str:
     page, class_element = element.first("jsp-file"), element.first("servlet-class")
     if not truth(element, "enabled", True, told):
         told.tell(
+            Rank.BEHAVIOR,
             element.line,
-            f"servlet {shortened(name)} is not enabled: stands as {NO_SERVLET}, which answers 404",
+            f"servlet {shortened(name)} is not enabled: imported as {NO_SERVLET}, which answers 404",
         )
         return NO_SERVLET
     if page is not None and class_element is not None:
         told.tell(
+            Rank.BEHAVIOR,
             page.line,
             f"servlet {shortened(name)} has a class, too: jsp-file {page.text} is not read",
         )
     elif page is not None:
         told.tell(
-            page.line, f"jsp-file {page.text} is not run by this program: stands as {ANY_SERVLET}"
+            Rank.BEHAVIOR,
+            page.line,
+            f"jsp-file {page.text} is not run by this program: imported as {ANY_SERVLET}",
         )
         return ANY_SERVLET
     return _class_of(element, "servlet", SERVLET_CLASSES, ANY_SERVLET, told)
@@ -124,13 +133,16 @@ def _class_of(element: Element, kind: str, known: frozenset[str], stand_in: str,
     """The class of a component, or what stands for one that this program does not have."""
     class_element = element.first(f"{kind}-class")
     if class_element is None or not class_element.text:
-        told.tell(element.line, f"a {kind} without a class stands as {stand_in}")
+        told.tell(
+            Rank.BEHAVIOR, element.line, f"a {kind} without a class is imported as {stand_in}"
+        )
         return stand_in
     if class_element.text in known:
         return class_element.text
     told.tell(
+        Rank.BEHAVIOR,
         class_element.line,
-        f"class {class_element.text} is not in this program: stands as {stand_in}",
+        f"class {class_element.text} is not in this program: imported as {stand_in}",
     )
     return stand_in
 
@@ -139,18 +151,21 @@ def _load_on_startup(element: Element, told: Told) -> Table:
     order = element.first("load-on-startup")
     if order is None:
         return {}
-    number = whole(order)
-    if number is not None and -(2**31) <= number < 2**31:
-        return {"load-on-startup": number}
-    if order.text:
+    if not order.text:
         told.tell(
-            order.line,
-            f"load-on-startup {shortened(order.text)} is no number of 32 bits: the servlet asks for no place in the order of starts",
-        )
-    else:
-        told.tell(
+            Rank.BEHAVIOR,
             order.line,
             "load-on-startup is empty: the servlet asks for no place in the order of starts",
+        )
+        return {}
+    number = whole(order, told)
+    if number is not None and -(2**31) <= number < 2**31:
+        return {"load-on-startup": number}
+    if number is not None:
+        told.tell(
+            Rank.BEHAVIOR,
+            order.line,
+            f"load-on-startup {number} is no number of 32 bits: the servlet asks for no place in the order of starts",
         )
     return {}
 
@@ -159,7 +174,9 @@ def _tell_async(element: Element, told: Told) -> None:
     supported = element.first("async-supported")
     if supported is not None and truth(element, "async-supported", False, told):
         told.tell(
-            supported.line, "async-supported: no request goes on behind the call of its servlet"
+            Rank.BEHAVIOR,
+            supported.line,
+            "async-supported: a request ends when its servlet returns",
         )
 
 
@@ -174,7 +191,9 @@ def servlet_mappings(root: Element, names: Names, told: Told) -> list[Table]:
             _tell_patterns_of_files(element, told)
         elif written is None:
             told.tell(
-                element.line, f"no servlet {shortened(name)} is declared: its mapping is not read"
+                Rank.BEHAVIOR,
+                element.line,
+                f"no servlet {shortened(name)} is declared: its mapping is not read",
             )
         else:
             patterns = [
@@ -184,6 +203,7 @@ def servlet_mappings(root: Element, names: Names, told: Told) -> list[Table]:
                 tables.append({"servlet-name": written, "url-pattern": list(patterns)})
             elif element.first("url-pattern") is None:
                 told.tell(
+                    Rank.BEHAVIOR,
                     element.line,
                     f"a mapping of servlet {shortened(name)} without a pattern is not read",
                 )
@@ -195,6 +215,7 @@ def _tell_patterns_of_files(element: Element, told: Told) -> None:
     for pattern in element.all("url-pattern"):
         if pattern.text != "/":
             told.tell(
+                Rank.BEHAVIOR,
                 pattern.line,
                 f"the file servlet takes no pattern: {shortened(pattern.text)} goes to the servlet whose pattern is the next best",
             )
@@ -202,38 +223,17 @@ def _tell_patterns_of_files(element: Element, told: Told) -> None:
 
 def _is_free(pattern: Element, name: str, owners: dict[str, str], told: Told) -> bool:
     """Whether a pattern can be given to a servlet; then it is its."""
-    if not is_pattern_told(pattern, told):
+    if not is_pattern_told(pattern, Rank.BEHAVIOR, told):
         return False
     owner = owners.setdefault(pattern.text, "")
     if owner:
         told.tell(
+            Rank.BEHAVIOR,
             pattern.line,
-            f"url-pattern {shortened(pattern.text)} stands for servlet {shortened(owner)} already: the first mapping counts",
+            f"url-pattern {shortened(pattern.text)} is mapped to servlet {shortened(owner)} already: the first mapping counts",
         )
         return False
     owners[pattern.text] = name
-    return True
-
-
-def is_pattern_told(pattern: Element, told: Told) -> bool:
-    """Whether an element's text is a pattern; tells those that are none, and those that Tomcat reads otherwise."""
-    if size(pattern.text) > MAX_PATTERN_BYTES:
-        told.tell(
-            pattern.line,
-            f"url-pattern {shortened(pattern.text)} has more than {MAX_PATTERN_BYTES} bytes, and is not read",
-        )
-        return False
-    if not is_pattern(pattern.text):
-        told.tell(
-            pattern.line,
-            f"url-pattern {shortened(pattern.text)} is no pattern, and is not read; Tomcat does not start such an application",
-        )
-        return False
-    if "%" in pattern.text:
-        told.tell(
-            pattern.line,
-            f"url-pattern {shortened(pattern.text)} is compared as it is written; Tomcat decodes it first",
-        )
     return True
 
 
@@ -266,14 +266,22 @@ def filter_mappings(
         written = filter_names.find(name)
         if written is None:
             told.tell(
-                element.line, f"no filter {shortened(name)} is declared: its mapping is not read"
+                Rank.BEHAVIOR,
+                element.line,
+                f"no filter {shortened(name)} is declared: its mapping is not read",
             )
             continue
-        patterns = [it.text for it in element.all("url-pattern") if is_pattern_told(it, told)]
+        patterns = [
+            it.text for it in element.all("url-pattern") if is_pattern_told(it, Rank.BEHAVIOR, told)
+        ]
         servlet_list = _servlets_of(element, servlet_names, told)
         dispatchers = _dispatchers(element, told)
         if not patterns and not servlet_list:
-            told.tell(element.line, f"a mapping of filter {shortened(name)} to nothing is not read")
+            told.tell(
+                Rank.BEHAVIOR,
+                element.line,
+                f"a mapping of filter {shortened(name)} to nothing is not read",
+            )
         elif dispatchers is not None:
             lists = {
                 "url-pattern": patterns,
@@ -297,6 +305,7 @@ def _servlets_of(element: Element, names: Names, told: Told) -> list[str]:
         )
         if written is None:
             told.tell(
+                Rank.BEHAVIOR,
                 child.line,
                 f"no servlet {shortened(child.text)} is declared: the filter is not mapped to it",
             )
@@ -312,12 +321,20 @@ def _dispatchers(element: Element, told: Told) -> list[str] | None:
         if child.text in _DISPATCHERS:
             found += [child.text] if child.text not in found else []
         elif child.text == "ASYNC":
-            told.tell(child.line, "dispatcher ASYNC: there are no asynchronous dispatches")
+            told.tell(
+                Rank.BEHAVIOR, child.line, "dispatcher ASYNC: there are no asynchronous dispatches"
+            )
         else:
-            told.tell(child.line, f"dispatcher {shortened(child.text)} is none, and is not read")
+            told.tell(
+                Rank.ERROR,
+                child.line,
+                f"dispatcher {shortened(child.text)} is none of REQUEST, FORWARD, INCLUDE, ERROR and ASYNC",
+            )
     if found or element.first("dispatcher") is None:
         return found
-    told.tell(element.line, "a filter mapping for no dispatch that there is, is not read")
+    told.tell(
+        Rank.BEHAVIOR, element.line, "a filter mapping for no dispatch that exists is not read"
+    )
     return None
 
 

@@ -2,14 +2,12 @@
 from __future__ import annotations
 
 import dataclasses
-import zipfile
-from pathlib import Path
 
-from . import components, pages, security, toml, tree
+from . import components, guards, pages, security, toml, tree
 from .elements import shortened, taken, tell_what_is_not_taken
 from .limits import MAX_LIST_ITEMS
 from .toml import Value
-from .told import Told
+from .told import Rank, Told
 from .tree import Document, Element
 from .words import Table, words
 
@@ -27,7 +25,6 @@ _PUBLIC_IDS = (
     "-//Sun Microsystems, Inc.//DTD Web Application 2.2//EN",
     "-//Sun Microsystems, Inc.//DTD Web Application 2.3//EN",
 )
-_FRAGMENT = "META-INF/web-fragment.xml"
 
 
 @dataclasses.dataclass
@@ -51,8 +48,10 @@ def read(text: bytes, told: Told) -> Descriptor:
     _check_root(document, told)
     tell_what_is_not_taken(document.root, told)
     root = taken(document.root)
+    _check_completeness(root, told)
     _tell_encoding(root, told)
     top, tables = _top(root, told), _tables(root, told)
+    guards.tell_guards(root, told)
     descriptor = Descriptor({**_version(tables), **top}, tables, _is_complete(root))
     _check_lists(descriptor, told)
     return descriptor
@@ -64,19 +63,22 @@ def _check_root(document: Document, told: Told) -> None:
         raise told.fault(root.line, f"{root.name} is no web-app")
     if root.namespace not in _NAMESPACES:
         told.tell(
+            Rank.BEHAVIOR,
             root.line,
             f"the namespace {root.namespace} is none of web.xml: its elements are read as if it were",
         )
     version = root.attributes.get("version", "")
     if version and version not in _VERSIONS:
         told.tell(
+            Rank.BEHAVIOR,
             root.line,
             f"version {shortened(version)} is none from 2.4 to 6.1: it is read as if it were 6.1",
         )
     if document.doctype_line and document.public_id not in _PUBLIC_IDS:
         told.tell(
+            Rank.BEHAVIOR,
             document.doctype_line,
-            "the DOCTYPE is none of Servlet 2.2 and 2.3: what it declares is not read",
+            "the DOCTYPE is none of Servlet 2.2 and 2.3: its declarations are not read",
         )
 
 
@@ -84,18 +86,30 @@ def _is_complete(root: Element) -> bool:
     return root.attributes.get("metadata-complete", "").strip() in ("true", "1")
 
 
+def _check_completeness(root: Element, told: Told) -> None:
+    text = root.attributes.get("metadata-complete", "false").strip()
+    if text not in ("true", "false", "1", "0"):
+        told.tell(
+            Rank.ERROR,
+            root.line,
+            f"metadata-complete {shortened(text)} is none of true, false, 1 and 0",
+        )
+
+
 def _top(root: Element, told: Told) -> Table:
     deny = root.first("deny-uncovered-http-methods")
     top: Table = {} if deny is None else {"deny-uncovered-http-methods": True}
     if deny is not None and deny.text:
         told.tell(
+            Rank.ERROR,
             deny.line,
-            f"deny-uncovered-http-methods holds no value: {shortened(deny.text)} changes nothing, it is set",
+            f"deny-uncovered-http-methods is not empty: {shortened(deny.text)} does not turn it off",
         )
     if not _is_complete(root):
         told.tell(
+            Rank.SECURITY,
             root.line,
-            "metadata-complete is not true: what annotations of classes and web-fragment.xml files would add is not read",
+            "metadata-complete is not true: annotations of classes and web-fragment.xml files are not read",
         )
     return {**top, **words(root)}
 
@@ -109,6 +123,7 @@ def _tell_encoding(root: Element, told: Told) -> None:
     encoding = root.first("request-character-encoding")
     if encoding is not None and encoding.text.upper() != "UTF-8":
         told.tell(
+            Rank.BEHAVIOR,
             encoding.line,
             f"request-character-encoding {shortened(encoding.text)}: parameters are read as UTF-8",
         )
@@ -169,21 +184,6 @@ def _check_length(key: str, length: int, told: Told) -> None:
         raise told.fault(
             1, f"{length} of {key} are more than {MAX_LIST_ITEMS}, which a descriptor may have"
         )
-
-
-def tell_fragments(web_xml: Path, told: Told) -> None:
-    """Tells of the libraries beside a web.xml those that have a fragment, and those that cannot be read."""
-    for path in sorted(web_xml.parent.glob("lib/*.jar")):
-        try:
-            with zipfile.ZipFile(path) as library:
-                has_fragment = _FRAGMENT in library.namelist()
-        except (OSError, zipfile.BadZipFile):
-            told.tell(
-                1, f"lib/{path.name} cannot be read: whether it has a web-fragment.xml is not known"
-            )
-        else:
-            if has_fragment:
-                told.tell(1, f"lib/{path.name} has a web-fragment.xml, which is not read")
 
 
 def server_text(seed: str, context: str, users: str) -> str:

@@ -5,7 +5,7 @@ import dataclasses
 import enum
 from typing import Union
 
-from .told import Told
+from .told import Rank, Told
 from .tree import Element
 
 
@@ -18,16 +18,21 @@ class Taken(enum.Enum):
 
 @dataclasses.dataclass(frozen=True)
 class Says:
-    """An element that has no place here: what that means, and which of its children has its name."""
+    """An element that has no place here: the meaning and the rank of that, and which of its children has its name."""
 
     meaning: str
     named_by: str = ""
+    rank: Rank = Rank.BEHAVIOR
 
 
 Content = dict[str, Union[Taken, Says]]
 ONE, MANY = Taken.ONE, Taken.MANY
 
-_WORDS: Content = {"description": MANY, "display-name": MANY, "icon": Says("no icon is shown")}
+_WORDS: Content = {
+    "description": MANY,
+    "display-name": MANY,
+    "icon": Says("no icon is shown", rank=Rank.IGNORED),
+}
 _NO_JSP = "JSP is not run by this program"
 _NO_NAMES = "nothing is looked up by name here"
 _NO_CALLBACKS = "no such method is called here"
@@ -50,43 +55,47 @@ CONTENT: dict[str, Content] = {
         "deny-uncovered-http-methods": ONE,
         "request-character-encoding": ONE,
         "response-character-encoding": Says(
-            "components of this program say themselves what type their answer has"
+            "components of this program set the type of their responses"
         ),
         "distributable": Says("sessions stay in the memory of one process"),
         "context-param": Says(
-            "no component of this program reads the parameters of a context", "param-name"
+            "no component of this program reads the parameters of a context",
+            "param-name",
+            Rank.IGNORED,
         ),
         "mime-mapping": Says(
             "a file has the type that this program gives to its extension", "extension"
         ),
-        "default-context-path": Says("the context stands at the path that --context gives"),
-        "absolute-ordering": Says("no fragment is read, so none is put in order"),
-        "module-name": Says("an application has no name here"),
+        "default-context-path": Says("the path of the context is that of --context"),
+        "absolute-ordering": Says(
+            "no fragment is read, so none is put in order", rank=Rank.IGNORED
+        ),
+        "module-name": Says("an application has no name here", rank=Rank.IGNORED),
         "locale-encoding-mapping-list": Says("no locale chooses the encoding of an answer"),
         "jsp-config": Says(_NO_JSP),
         "taglib": Says(_NO_JSP, "taglib-uri"),
-        "env-entry": Says(_NO_NAMES, "env-entry-name"),
-        "ejb-ref": Says(_NO_NAMES, "ejb-ref-name"),
-        "ejb-local-ref": Says(_NO_NAMES, "ejb-ref-name"),
-        "service-ref": Says(_NO_NAMES, "service-ref-name"),
-        "resource-ref": Says(_NO_NAMES, "res-ref-name"),
-        "resource-env-ref": Says(_NO_NAMES, "resource-env-ref-name"),
-        "message-destination-ref": Says(_NO_NAMES, "message-destination-ref-name"),
-        "message-destination": Says(_NO_NAMES, "message-destination-name"),
-        "persistence-context-ref": Says(_NO_NAMES, "persistence-context-ref-name"),
-        "persistence-unit-ref": Says(_NO_NAMES, "persistence-unit-ref-name"),
-        "data-source": Says(_NO_NAMES, "name"),
-        "jms-connection-factory": Says(_NO_NAMES, "name"),
-        "jms-destination": Says(_NO_NAMES, "name"),
-        "mail-session": Says(_NO_NAMES, "name"),
-        "connection-factory": Says(_NO_NAMES, "name"),
-        "administered-object": Says(_NO_NAMES, "name"),
-        "context-service": Says(_NO_NAMES, "name"),
-        "managed-executor": Says(_NO_NAMES, "name"),
-        "managed-scheduled-executor": Says(_NO_NAMES, "name"),
-        "managed-thread-factory": Says(_NO_NAMES, "name"),
-        "post-construct": Says(_NO_CALLBACKS, "lifecycle-callback-method"),
-        "pre-destroy": Says(_NO_CALLBACKS, "lifecycle-callback-method"),
+        "env-entry": Says(_NO_NAMES, "env-entry-name", Rank.IGNORED),
+        "ejb-ref": Says(_NO_NAMES, "ejb-ref-name", Rank.IGNORED),
+        "ejb-local-ref": Says(_NO_NAMES, "ejb-ref-name", Rank.IGNORED),
+        "service-ref": Says(_NO_NAMES, "service-ref-name", Rank.IGNORED),
+        "resource-ref": Says(_NO_NAMES, "res-ref-name", Rank.IGNORED),
+        "resource-env-ref": Says(_NO_NAMES, "resource-env-ref-name", Rank.IGNORED),
+        "message-destination-ref": Says(_NO_NAMES, "message-destination-ref-name", Rank.IGNORED),
+        "message-destination": Says(_NO_NAMES, "message-destination-name", Rank.IGNORED),
+        "persistence-context-ref": Says(_NO_NAMES, "persistence-context-ref-name", Rank.IGNORED),
+        "persistence-unit-ref": Says(_NO_NAMES, "persistence-unit-ref-name", Rank.IGNORED),
+        "data-source": Says(_NO_NAMES, "name", Rank.IGNORED),
+        "jms-connection-factory": Says(_NO_NAMES, "name", Rank.IGNORED),
+        "jms-destination": Says(_NO_NAMES, "name", Rank.IGNORED),
+        "mail-session": Says(_NO_NAMES, "name", Rank.IGNORED),
+        "connection-factory": Says(_NO_NAMES, "name", Rank.IGNORED),
+        "administered-object": Says(_NO_NAMES, "name", Rank.IGNORED),
+        "context-service": Says(_NO_NAMES, "name", Rank.IGNORED),
+        "managed-executor": Says(_NO_NAMES, "name", Rank.IGNORED),
+        "managed-scheduled-executor": Says(_NO_NAMES, "name", Rank.IGNORED),
+        "managed-thread-factory": Says(_NO_NAMES, "name", Rank.IGNORED),
+        "post-construct": Says(_NO_CALLBACKS, "lifecycle-callback-method", Rank.IGNORED),
+        "pre-destroy": Says(_NO_CALLBACKS, "lifecycle-callback-method", Rank.IGNORED),
     },
     "servlet": {
         **_WORDS,
@@ -97,9 +106,13 @@ CONTENT: dict[str, Content] = {
         "load-on-startup": ONE,
         "enabled": ONE,
         "async-supported": ONE,
-        "run-as": Says("what a servlet calls has no caller of its own here", "role-name"),
+        "run-as": Says(
+            "servlets do not run under a role of their own here", "role-name", Rank.SECURITY
+        ),
         "security-role-ref": Says(
-            "no component of this program asks for roles by another name", "role-name"
+            "no component of this program asks for roles by another name",
+            "role-name",
+            Rank.SECURITY,
         ),
         "multipart-config": Says(
             "a body of several parts comes to the servlet as it is, within the limits of this program"
@@ -126,11 +139,13 @@ CONTENT: dict[str, Content] = {
         "name": ONE,
         "domain": Says("the cookie of a session names no domain"),
         "path": ONE,
-        "comment": Says("the cookie of a session has no comment"),
+        "comment": Says("the cookie of a session has no comment", rank=Rank.IGNORED),
         "http-only": ONE,
         "secure": ONE,
         "max-age": ONE,
-        "attribute": Says("the cookie of a session has no further attribute", "attribute-name"),
+        "attribute": Says(
+            "the cookie of a session has no further attribute", "attribute-name", Rank.SECURITY
+        ),
     },
     "welcome-file-list": {"welcome-file": MANY},
     "error-page": {"error-code": ONE, "exception-type": ONE, "location": ONE},
@@ -153,7 +168,8 @@ CONTENT: dict[str, Content] = {
     "login-config": {
         "auth-method": ONE,
         "realm-name": Says(
-            "the name of a realm is shown by BASIC and DIGEST alone, and callers log in by a form here"
+            "only BASIC and DIGEST show the name of a realm, and callers log in by a form here",
+            rank=Rank.IGNORED,
         ),
         "form-login-config": ONE,
     },
@@ -172,35 +188,65 @@ _IDLE_ATTRIBUTES = frozenset(
 )
 ROOT_ATTRIBUTES = frozenset(["version", "metadata-complete"])
 
+# The elements that decide access, with all that is in them.
+_DECIDING = frozenset(
+    [
+        "security-constraint",
+        "web-resource-collection",
+        "auth-constraint",
+        "user-data-constraint",
+        "security-role",
+        "login-config",
+        "form-login-config",
+        "deny-uncovered-http-methods",
+    ]
+)
+
 
 def tell_what_is_not_taken(element: Element, told: Told) -> None:
-    """Tells everything in an element that no reader takes: elements, attributes and texts."""
+    """Reports everything in an element that no reader takes: elements, attributes and texts."""
     _tell_attributes(element, told)
     content = CONTENT.get(element.name, {})
     if content and element.text:
         told.tell(
-            element.line, f"the text {shortened(element.text)} within {element.name} means nothing"
+            _rank(element),
+            element.line,
+            f"the text {shortened(element.text)} within {element.name} means nothing",
         )
     seen: set[str] = set()
     for child in element.children:
         place = content.get(child.name)
         if child.namespace != element.namespace:
             told.tell(
+                _rank(element, child),
                 child.line,
                 f"{child.name} within {element.name} is of another namespace, and is not read",
             )
         elif place is None:
             told.tell(
+                _rank(element, child),
                 child.line,
                 f"{child.name} within {element.name} is no element of web.xml, and is not read",
             )
         elif isinstance(place, Says):
-            told.tell(child.line, f"{_named(child, place.named_by)}: {place.meaning}")
+            told.tell(place.rank, child.line, f"{_named(child, place.named_by)}: {place.meaning}")
         elif place is ONE and child.name in seen:
-            told.tell(child.line, f"{child.name} stands here once more: the first one counts")
+            told.tell(
+                _rank(element, child),
+                child.line,
+                f"{child.name} is repeated: the first one counts",
+            )
         else:
             tell_what_is_not_taken(child, told)
         seen.add(child.name)
+
+
+def _rank(element: Element, child: Element | None = None) -> Rank:
+    """How much it matters that a child, or the text, of an element is not read. A child of an unknown name is judged by the elements in it."""
+    below = [] if child is None else [child, *child.children]
+    if any(it.name in _DECIDING for it in [element, *below]):
+        return Rank.SECURITY
+    return Rank.IGNORED if child is None else Rank.BEHAVIOR
 
 
 def taken(element: Element) -> Element:
@@ -231,6 +277,7 @@ def _tell_attributes(element: Element, told: Told) -> None:
         is_of_root = element.name == "web-app" and attribute in ROOT_ATTRIBUTES
         if attribute not in _IDLE_ATTRIBUTES and not is_of_root:
             told.tell(
+                Rank.IGNORED,
                 element.line,
                 f"the attribute {attribute.rpartition(' ')[2]} of {element.name} is none of web.xml",
             )

@@ -6,7 +6,7 @@ import re
 from typing import Iterator, NamedTuple
 
 from .elements import shortened
-from .told import Told
+from .told import Rank, Told
 from .tree import Element
 from .words import Table
 
@@ -46,11 +46,13 @@ def tell_readings(root: Element, constraints: list[Table], told: Told) -> None:
     uncovered = _uncovered(constraints)
     if "/" in uncovered and ("/*" in uncovered or "" in uncovered):
         told.tell(
+            Rank.SECURITY,
             lines["/"],
-            'url-pattern "/" of a constraint stands behind all others for the path /, too; Tomcat takes it for an exact one there',
+            'url-pattern "/" of a constraint is matched last for the path / too; Tomcat matches that path exactly',
         )
     if "*." in uncovered:
         told.tell(
+            Rank.SECURITY,
             lines["*."],
             'url-pattern "*." of a constraint is for paths that end in a dot; Tomcat matches nothing by it',
         )
@@ -63,6 +65,7 @@ def tell_readings(root: Element, constraints: list[Table], told: Told) -> None:
             and root.first("deny-uncovered-http-methods") is None
         ):
             told.tell(
+                Rank.SECURITY,
                 lines[pattern],
                 f"url-pattern {shortened(pattern)}: its constraints leave {methods} uncovered, and so open; Tomcat goes on to {', '.join(map(shortened, lesser))}",
             )

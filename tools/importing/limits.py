@@ -1,4 +1,4 @@
-"""What a descriptor of this program can hold (README, "Ask what a configuration does")."""
+"""What a descriptor of this program can hold (docs/COMMANDS.md, "The files, key by key")."""
 from __future__ import annotations
 
 import re
@@ -32,19 +32,14 @@ def is_name(text: str) -> bool:
     return is_utf8 and 1 <= size(text) <= MAX_NAME_BYTES
 
 
-def is_method(text: str) -> bool:
-    """Whether a text is a method: a token of RFC 9110, section 5.6.2, that is not too long."""
-    return _TOKEN.fullmatch(text) is not None and size(text) <= MAX_METHOD_BYTES
+def is_token(text: str) -> bool:
+    """Whether a text is a token (RFC 9110, section 5.6.2), as a method and the name of a cookie are."""
+    return _TOKEN.fullmatch(text) is not None
 
 
-def is_cookie_name(text: str) -> bool:
-    """Whether a text is the name of a cookie: a token that is not too long."""
-    return _TOKEN.fullmatch(text) is not None and size(text) <= MAX_NAME_BYTES
-
-
-def is_cookie_path(text: str) -> bool:
-    """Whether a text is the path of a cookie (RFC 6265, section 4.1.1): printable, without a semicolon, from a slash on."""
-    return re.fullmatch(r"/[ -:<-~]*", text) is not None and size(text) <= MAX_COOKIE_PATH_BYTES
+def is_path_value(text: str) -> bool:
+    """Whether a text is the path of a cookie (RFC 6265, section 4.1.1): printable, without a semicolon, and not empty."""
+    return re.fullmatch(r"[ -:<-~]+", text) is not None
 
 
 def is_pattern(text: str) -> bool:

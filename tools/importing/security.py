@@ -1,7 +1,6 @@
 """Security constraints, roles, login."""
 from __future__ import annotations
 
-from .components import is_pattern_told
 from .elements import shortened
 from .gaps import tell_readings
 from .limits import (
@@ -9,10 +8,12 @@ from .limits import (
     MAX_NAME_BYTES,
     MAX_PATTERNS_OF_CONSTRAINT,
     is_location,
-    is_method,
     is_name,
+    is_token,
+    size,
 )
-from .told import Told
+from .patterns import is_pattern_told
+from .told import Rank, Told
 from .tree import Element
 from .words import Table, words
 
@@ -36,8 +37,9 @@ def constraints(root: Element, told: Told) -> list[Table]:
         parts = _parts(_collections(element, told))
         if not parts:
             told.tell(
+                Rank.SECURITY,
                 element.line,
-                f"constraint {number} has no pattern that could be read: it stands as one that no request matches",
+                f"constraint {number} has no pattern that could be read: it is imported as one that no request matches",
             )
             parts = [[{"url-pattern": [NO_PATH]}]]
         tables.append({"web-resource-collection": list(parts[0]), **rest})
@@ -47,8 +49,9 @@ def constraints(root: Element, told: Told) -> list[Table]:
     for element, number, table in behind:
         tables.append(table)
         told.tell(
+            Rank.SECURITY,
             element.line,
-            f"constraint {number} has more than {MAX_PATTERNS_OF_CONSTRAINT} patterns: those that are too many stand as constraint {len(tables)}",
+            f"constraint {number} has more than {MAX_PATTERNS_OF_CONSTRAINT} patterns: the others are imported as constraint {len(tables)}",
         )
     tell_readings(root, tables, told)
     return tables
@@ -57,6 +60,7 @@ def constraints(root: Element, told: Told) -> list[Table]:
 def _collections(element: Element, told: Told) -> list[Table]:
     if element.first("web-resource-collection") is None:
         told.tell(
+            Rank.SECURITY,
             element.line,
             "a security-constraint without a web-resource-collection constrains nothing",
         )
@@ -66,11 +70,19 @@ def _collections(element: Element, told: Told) -> list[Table]:
 
 def _collection(element: Element, told: Told) -> Table | None:
     """The table of a collection, `None` where it has no pattern."""
-    texts = [child.text for child in element.all("url-pattern") if is_pattern_told(child, told)]
+    texts = [
+        child.text
+        for child in element.all("url-pattern")
+        if is_pattern_told(child, Rank.SECURITY, told)
+    ]
     patterns = list(dict.fromkeys(texts))
     methods = _methods(element, told)
     if element.first("url-pattern") is None:
-        told.tell(element.line, "a web-resource-collection without a url-pattern covers nothing")
+        told.tell(
+            Rank.SECURITY,
+            element.line,
+            "a web-resource-collection without a url-pattern covers nothing",
+        )
     if not patterns:
         return None
     name = element.text_of("web-resource-name")
@@ -83,6 +95,7 @@ def _methods(element: Element, told: Told) -> Table:
     listed, omitted = list(element.all("http-method")), list(element.all("http-method-omission"))
     if listed and omitted:
         told.tell(
+            Rank.SECURITY,
             omitted[0].line,
             "a collection has one list of methods: http-method-omission is not read; Tomcat does not start such an application",
         )
@@ -90,22 +103,29 @@ def _methods(element: Element, told: Told) -> Table:
     methods = [child.text for child in listed or omitted if _is_method_told(child, told)]
     if listed and not methods:
         told.tell(
+            Rank.SECURITY,
             element.line,
-            f"no method of this web-resource-collection can be written: it stands with the method {NO_METHOD}, so its patterns stay",
+            f"no method of this web-resource-collection can be written: it is imported with the method {NO_METHOD}, so its patterns stay",
         )
         methods = [NO_METHOD]
     return {key: list(dict.fromkeys(methods))} if methods else {}
 
 
 def _is_method_told(element: Element, told: Told) -> bool:
-    if is_method(element.text):
-        return True
-    effect = "not covered" if element.name == "http-method" else "covered"
-    told.tell(
-        element.line,
-        f"{element.name} {shortened(element.text)} is no token of 1 to {MAX_METHOD_BYTES} bytes, and is not read: requests with it are {effect}",
-    )
-    return False
+    if not is_token(element.text):
+        told.tell(
+            Rank.ERROR, element.line, f"{element.name} {shortened(element.text)} is no method"
+        )
+        return False
+    if size(element.text) > MAX_METHOD_BYTES:
+        effect = "not covered" if element.name == "http-method" else "covered"
+        told.tell(
+            Rank.SECURITY,
+            element.line,
+            f"{element.name} {shortened(element.text)} has more than {MAX_METHOD_BYTES} bytes, and is not read: requests with it are {effect}",
+        )
+        return False
+    return True
 
 
 def _parts(collections: list[Table]) -> list[list[Table]]:
@@ -135,6 +155,7 @@ def _authorization(element: Element, told: Told) -> Table:
             roles.append(child.text)
         else:
             told.tell(
+                Rank.SECURITY,
                 child.line,
                 f"role-name {shortened(child.text)} is no name of 1 to {MAX_NAME_BYTES} bytes: nobody has this role",
             )
@@ -150,20 +171,24 @@ def _transport(element: Element, told: Told) -> Table:
     guarantee = constraint.first("transport-guarantee")
     if guarantee is None:
         told.tell(
-            constraint.line, "a user-data-constraint without a transport-guarantee asks for nothing"
+            Rank.SECURITY,
+            constraint.line,
+            "a user-data-constraint without a transport-guarantee asks for nothing",
         )
         return {}
     asked = guarantee.text
     if asked not in _GUARANTEES:
         told.tell(
+            Rank.ERROR,
             guarantee.line,
-            f"transport-guarantee {shortened(asked)} is none of NONE, INTEGRAL and CONFIDENTIAL: it stands as CONFIDENTIAL, as in Tomcat",
+            f"transport-guarantee {shortened(asked)} is none of NONE, INTEGRAL and CONFIDENTIAL; Tomcat reads it as CONFIDENTIAL",
         )
-        asked = "CONFIDENTIAL"
+        return {}
     if asked != "NONE":
         told.tell(
+            Rank.SECURITY,
             guarantee.line,
-            f"transport-guarantee {asked}: what it covers is denied with 403, also behind a proxy that gives TLS; Tomcat redirects to a secure port",
+            f"transport-guarantee {asked}: requests that it covers are denied with 403, also behind a proxy that provides TLS; Tomcat redirects to a secure port",
         )
     return {"user-data-constraint": {"transport-guarantee": asked, **words(constraint)}}
 
@@ -176,16 +201,18 @@ def roles(root: Element, told: Told) -> list[Table]:
         name = element.text_of("role-name")
         if name in RESERVED_ROLES:
             told.tell(
+                Rank.SECURITY,
                 element.line,
                 f"security-role {name} has a meaning of its own in a constraint, and cannot be declared",
             )
         elif not is_name(name):
             told.tell(
+                Rank.SECURITY,
                 element.line,
                 f"security-role {shortened(name)} is no name of 1 to {MAX_NAME_BYTES} bytes, and is not declared",
             )
         elif name in seen:
-            told.tell(element.line, f"security-role {name} is declared once more")
+            told.tell(Rank.IGNORED, element.line, f"security-role {name} is declared again")
         else:
             seen.add(name)
             tables.append({"role-name": name, **words(element)})
@@ -200,8 +227,9 @@ def login_config(root: Element, told: Told) -> Table | None:
     method = element.text_of("auth-method")
     if method in ("", "NONE"):
         told.tell(
+            Rank.SECURITY,
             element.line,
-            "login-config has no method: callers cannot log in, and `login` stands for a denial with 403",
+            "login-config has no method: callers cannot log in, and `login` means a denial with 403",
         )
         return None
     pages = {"form-login-page": LOGIN_PAGE, "form-error-page": ERROR_PAGE}
@@ -210,23 +238,36 @@ def login_config(root: Element, told: Told) -> Table | None:
         pages = {key: _page(element, form, key, page, told) for key, page in pages.items()}
     else:
         told.tell(
+            Rank.SECURITY,
             element.line,
-            f"{method} login is told as FORM for policy: what it would ask for by 401 is `login`, with the page {LOGIN_PAGE}",
+            f"{method} login is imported as FORM with the page {LOGIN_PAGE}: policy prints `login` for a request that would be answered with 401",
         )
         if form is not None:
-            told.tell(form.line, f"form-login-config is for FORM alone, and not for {method}")
+            told.tell(
+                Rank.IGNORED,
+                form.line,
+                f"form-login-config is only for FORM, and not for {method}",
+            )
     return {"auth-method": "FORM", "form-login-config": dict(pages)}
 
 
 def _page(login: Element, form: Element | None, key: str, default: str, told: Told) -> str:
     page = None if form is None else form.first(key)
     if page is None:
-        told.tell(login.line, f"FORM login without a {key}: it stands as {default}")
+        told.tell(
+            Rank.SECURITY, login.line, f"FORM login without a {key}: it is imported as {default}"
+        )
         return default
     if is_location(page.text):
         return page.text
+    if not page.text.startswith("/"):
+        told.tell(
+            Rank.ERROR, page.line, f"{key} {shortened(page.text)} does not begin with a slash"
+        )
+        return default
     told.tell(
+        Rank.SECURITY,
         page.line,
-        f"{key} {shortened(page.text)} is no path within the context: it stands as {default}",
+        f"{key} {shortened(page.text)} is no path within the context: it is imported as {default}",
     )
     return default

@@ -1,5 +1,7 @@
-"""What is told of a file that is read: a line for each thing that has no place here, and the fault that ends a reading."""
+"""The lines that an importer prints about a file, ranked, and the fault that ends a reading."""
 from __future__ import annotations
+
+import enum
 
 
 def on_one_line(text: str) -> str:
@@ -8,31 +10,51 @@ def on_one_line(text: str) -> str:
     return "".join(letter if letter.isprintable() else f"\\u{ord(letter):04X}" for letter in words)
 
 
+class Rank(enum.IntEnum):
+    """How much a line matters. The lines of a file are printed in this order."""
+
+    # The policy may differ from the access that the application grants.
+    SECURITY = enum.auto()
+    # Responses may differ from those of the application.
+    BEHAVIOR = enum.auto()
+    # No response depends on it.
+    IGNORED = enum.auto()
+    # A value is wrong by the schemas or the specification. Nothing is written.
+    ERROR = enum.auto()
+
+    def __str__(self) -> str:
+        return self.name.lower()
+
+
 class Fault(Exception):
-    """The file cannot be taken over at all; `str` of it is the line that says why."""
+    """The file cannot be imported at all; `str` of it is the line that says why."""
 
     def __init__(self, file: str, line: int, why: str) -> None:
-        super().__init__(f"{file}:{line}: {why}")
+        super().__init__(f"{file}:{line}: {Rank.ERROR}: {why}")
 
 
 class Told:
-    """The lines that are told of one file, in the order of the file's lines."""
+    """The lines that are printed about one file."""
 
     def __init__(self, file: str) -> None:
         self.file = file
-        self._told: list[tuple[int, str]] = []
+        self._told: list[tuple[Rank, int, str]] = []
 
-    def tell(self, line: int, sentence: str) -> None:
-        """Adds a sentence on what stands at a line."""
-        self._told.append((line, on_one_line(sentence)))
+    def tell(self, rank: Rank, line: int, sentence: str) -> None:
+        """Adds a sentence about a line of the file."""
+        self._told.append((rank, line, on_one_line(sentence)))
 
     def fault(self, line: int, why: str) -> Fault:
         """What ends the reading at a line."""
         return Fault(self.file, line, on_one_line(why))
 
+    def has_errors(self) -> bool:
+        """Whether the file has a wrong value."""
+        return any(rank is Rank.ERROR for rank, _, _ in self._told)
+
     def lines(self) -> list[str]:
-        """What is told, sorted by line; sentences of one line stand in the order in which they were told."""
+        """Returns the lines by rank, and within a rank by the line of the file. Sentences of one line keep their order."""
         return [
-            f"{self.file}:{line}: {sentence}"
-            for line, sentence in sorted(self._told, key=lambda it: it[0])
+            f"{self.file}:{line}: {rank}: {sentence}"
+            for rank, line, sentence in sorted(self._told, key=lambda it: it[:2])
         ]

@@ -5,7 +5,7 @@ import dataclasses
 from typing import Iterator
 from xml.parsers import expat
 
-from .told import Told
+from .told import Rank, Told
 
 # The most elements that may stand within one another: descriptors have six levels.
 DEEPEST = 64
@@ -71,7 +71,7 @@ class _Builder:
         line = self.parser.CurrentLineNumber
         element = Element(local, namespace, line, attributes)
         if len(self.open) >= DEEPEST:
-            raise self.told.fault(line, f"more than {DEEPEST} elements stand within one another")
+            raise self.told.fault(line, f"more than {DEEPEST} elements are nested")
         if self.open:
             self.open[-1].children.append(element)
         else:
@@ -102,7 +102,9 @@ class _Builder:
 
     def instruction(self, target: str, _text: str) -> None:
         self.told.tell(
-            self.parser.CurrentLineNumber, f"the processing instruction {target} means nothing here"
+            Rank.IGNORED,
+            self.parser.CurrentLineNumber,
+            f"the processing instruction {target} means nothing here",
         )
 
 

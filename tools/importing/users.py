@@ -8,7 +8,7 @@ import re
 from . import toml, tree
 from .elements import shortened
 from .limits import MAX_LIST_ITEMS, MAX_NAME_BYTES, is_name
-from .told import Told
+from .told import Rank, Told
 from .tree import Element
 
 # No password is known to have this digest, so nobody logs in by it.
@@ -66,8 +66,9 @@ def read(text: bytes, told: Told) -> list[User]:
         user = _user(element, groups, told)
         if user is not None and user.name in users:
             told.tell(
+                Rank.SECURITY,
                 element.line,
-                f"user {shortened(user.name)} stands here once more: the first one counts",
+                f"user {shortened(user.name)} is repeated: the first one counts",
             )
         elif user is not None:
             users[user.name] = user
@@ -87,22 +88,27 @@ def _tell_what_is_not_taken(root: Element, told: Told) -> None:
         )
         if known is None or element.namespace != root.namespace:
             told.tell(
-                element.line, f"{element.name} is no element of tomcat-users.xml, and is not read"
+                Rank.IGNORED,
+                element.line,
+                f"{element.name} is no element of tomcat-users.xml, and is not read",
             )
             continue
         for attribute in element.attributes:
             if attribute not in known and not attribute.startswith(_XSI):
                 told.tell(
+                    Rank.IGNORED,
                     element.line,
                     f"the attribute {attribute.rpartition(' ')[2]} of {element.name} is none of tomcat-users.xml",
                 )
         if element.text:
             told.tell(
+                Rank.IGNORED,
                 element.line,
                 f"the text {shortened(element.text)} within {element.name} means nothing",
             )
         for child in element.children if element is not root else []:
             told.tell(
+                Rank.IGNORED,
                 child.line,
                 f"{child.name} within {element.name} is no element of tomcat-users.xml, and is not read",
             )
@@ -122,6 +128,7 @@ def _user(element: Element, groups: dict[str, list[str]], told: Told) -> User | 
     name = _name_of(element, "username")
     if not is_name(name):
         told.tell(
+            Rank.SECURITY,
             element.line,
             f"user {shortened(name)} has no name of 1 to {MAX_NAME_BYTES} bytes, and is not read",
         )
@@ -130,8 +137,9 @@ def _user(element: Element, groups: dict[str, list[str]], told: Told) -> User | 
     for group in _listed(element, "groups"):
         if group not in groups:
             told.tell(
+                Rank.SECURITY,
                 element.line,
-                f"user {shortened(name)} is in the group {shortened(group)}, which there is not",
+                f"user {shortened(name)} is in the group {shortened(group)}, which does not exist",
             )
         names += groups.get(group, [])
     roles = [role for role in dict.fromkeys(names) if _is_role_told(element, name, role, told)]
@@ -142,6 +150,7 @@ def _user(element: Element, groups: dict[str, list[str]], told: Told) -> User | 
 def _is_role_told(element: Element, name: str, role: str, told: Told) -> bool:
     if not is_name(role):
         told.tell(
+            Rank.SECURITY,
             element.line,
             f"user {shortened(name)} has the role {shortened(role)}, which is no name of 1 to {MAX_NAME_BYTES} bytes: it is not read",
         )
@@ -161,8 +170,9 @@ def _credentials(element: Element, name: str, told: Told) -> tuple[str, str]:
         if not why:
             return salt.lower(), digest.lower()
     told.tell(
+        Rank.SECURITY,
         element.line,
-        f"user {shortened(name)} has {why}: nobody logs in by this name until tools/new-user makes the entry anew",
+        f"user {shortened(name)} has {why}: nobody logs in by this name until tools/new-user makes a new entry",
     )
     return "", NO_DIGEST
 

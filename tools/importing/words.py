@@ -1,12 +1,17 @@
 """What several elements have in common: words for people, truth values, parameters."""
 from __future__ import annotations
 
+import re
+
 from .elements import shortened
 from .toml import Value
-from .told import Told, on_one_line
+from .told import Rank, Told, on_one_line
 from .tree import Element
 
 Table = dict[str, Value]
+# More digits fit into no number of the program.
+MAX_DIGITS = 18
+_WHOLE = re.compile(rf"[-+]?[0-9]{{1,{MAX_DIGITS}}}")
 
 
 def words(element: Element) -> Table:
@@ -25,30 +30,28 @@ def words(element: Element) -> Table:
 
 
 def truth(element: Element, name: str, default: bool, told: Told) -> bool:
-    """The truth value of a child."""
+    """The truth value of a child, a true-falseType of the schemas."""
     child = element.first(name)
     if child is None:
         return default
-    if child.text.lower() in ("true", "1"):
-        return True
-    if child.text.lower() not in ("false", "0"):
+    if child.text not in ("true", "false"):
         told.tell(
-            child.line,
-            f"{name} {shortened(child.text)} is neither true nor false: it counts as false",
+            Rank.ERROR, child.line, f"{name} {shortened(child.text)} is neither true nor false"
         )
-    return False
+        return default
+    return child.text == "true"
 
 
-def whole(element: Element) -> int | None:
-    """The number that an element's text says."""
-    digits = element.text.removeprefix("-").removeprefix("+")
-    is_number = (
-        digits.isascii()
-        and digits.isdigit()
-        and len(element.text) - len(digits) <= 1
-        and len(digits) <= 18
+def whole(element: Element, told: Told) -> int | None:
+    """The number in an element, an integer of the schemas. Reports what is none."""
+    if _WHOLE.fullmatch(element.text):
+        return int(element.text)
+    told.tell(
+        Rank.ERROR,
+        element.line,
+        f"{element.name} {shortened(element.text)} is no whole number of at most {MAX_DIGITS} digits",
     )
-    return int(element.text) if is_number else None
+    return None
 
 
 def init_params(element: Element, told: Told) -> Table:
@@ -57,10 +60,12 @@ def init_params(element: Element, told: Told) -> Table:
     for param in element.all("init-param"):
         name = param.text_of("param-name")
         if not name:
-            told.tell(param.line, "a parameter without a name is not read")
+            told.tell(Rank.BEHAVIOR, param.line, "a parameter without a name is not read")
         elif name in params:
             told.tell(
-                param.line, f"the parameter {name} stands here once more: the first one counts"
+                Rank.BEHAVIOR,
+                param.line,
+                f"the parameter {name} is repeated: the first one counts",
             )
         else:
             params[name] = param.text_of("param-value")

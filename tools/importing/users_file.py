@@ -1,0 +1,65 @@
+"""Adds users to a users file."""
+from __future__ import annotations
+
+import errno
+import os
+import tomllib
+from pathlib import Path
+
+from .files import PRIVATE, NewFile, open_regular, write_files
+from .limits import MAX_LIST_ITEMS
+from .told import on_one_line
+from .users import User
+
+
+def check_new(path: Path, name: str) -> None:
+    """Checks that a user of a name can be added to a file. A file that cannot be used, or has the name, is an `OSError`."""
+    _read(path, name)
+
+
+def append(path: Path, user: User) -> None:
+    """Appends a user to a users file, which keeps its mode and owner. Creates the file, readable by its owner only, if there is none."""
+    text, status = _read(path, user.name)
+    gap = "\n" if text.strip() else ""
+    end = "\n" if text and not text.endswith("\n") else ""
+    new = text + end + gap + user.text()
+    _users(path, new)
+    write_files(
+        path.parent, [NewFile(path.name, new, PRIVATE, may_replace=status is not None, like=status)]
+    )
+
+
+def _read(path: Path, name: str) -> tuple[str, os.stat_result | None]:
+    """The text and the status of a users file to which a user of a name can be added. A file that does not exist has an empty text."""
+    if not os.path.lexists(path):
+        return "", None
+    if path.is_symlink():
+        raise _refusal(path, "is a link, which is not followed")
+    with open_regular(path, os.O_NOFOLLOW) as file:
+        status = os.fstat(file.fileno())
+        try:
+            text = file.read().decode()
+        except UnicodeDecodeError as error:
+            raise _refusal(path, "is not UTF-8") from error
+    names = _users(path, text)
+    if name in names:
+        raise _refusal(path, f"has a user {name} already")
+    if len(names) >= MAX_LIST_ITEMS:
+        raise _refusal(path, f"has {len(names)} users, and may have {MAX_LIST_ITEMS}")
+    return text, status
+
+
+def _users(path: Path, text: str) -> list[str]:
+    """The names in the text of a users file."""
+    try:
+        return [user["name"] for user in tomllib.loads(text).get("user", [])]
+    except tomllib.TOMLDecodeError as error:
+        # The error ends in its place: "(at line 1, column 5)".
+        place = str(error).rpartition("(")[2].rstrip(")")
+        raise _refusal(path, f"is no users file: no TOML {place}") from error
+    except (KeyError, TypeError) as error:
+        raise _refusal(path, "is no users file: a user has no name") from error
+
+
+def _refusal(path: Path, why: str) -> OSError:
+    return OSError(errno.EINVAL, on_one_line(why), str(path))
