@@ -16,8 +16,8 @@ use Rattle.sv_session.specs.Store.{Store}
 use Rattle.sv_tree.specs.SiteOfDescriptor.{Content}
 
 -- The findings about a message.
-abbrev pub found_of : Content → Standing → List User → Asked → Store → Findings
-found_of content standing users asked store =
+abbrev pub message_findings : Content → Standing → List User → Asked → Store → Findings
+message_findings content standing users asked store =
     findings content.app standing users asked (session_held content.app asked store) (store_accessed content standing users asked store)
 
 -- The journal entry of a message says that it entered exactly if its path is not hidden, it is no login post, and the
@@ -25,7 +25,7 @@ found_of content standing users asked store =
 abbrev pub EntersExactlyByAnOpenVerdict : Type 0
 EntersExactlyByAnOpenVerdict = (content : Content) (standing : Standing) (users : List User) (asked : Asked) (store : Store)
     → ((admission content standing users asked store).entry ≡ entries.Entered content.context_path asked.canon.path)
-    ↔ (IsOrdinary (found_of content standing users asked store) × ((why : OwnedWhy) × ((found_of content standing users asked store).verdict ≡ decisions.Open why)))
+    ↔ (IsOrdinary (message_findings content standing users asked store) × ((why : OwnedWhy) × ((message_findings content standing users asked store).verdict ≡ decisions.Open why)))
 
 -- If no session has expired at the time of a message, it leaves none that has.
 abbrev pub LeavesNoneExpired : Type 0

@@ -2,7 +2,7 @@
 use Rattle.std.specs.Prelude.{List, None, Some}
 use Rattle.sv_exchange.specs.Asked.{Asked, asked_by}
 use Rattle.sv_admission.specs.Judged.{post_in}
-use Rattle.sv_admission.specs.Laws.{found_of}
+use Rattle.sv_admission.specs.Laws.{message_findings}
 use Rattle.sv_component.specs.Runs.{IsRun, Record}
 use Rattle.sv_component.specs.Steps.{ComponentSteps}
 use Rattle.sv_journal.specs.Journal.{JournalState, broken, new_journal}
@@ -38,7 +38,7 @@ module _ {S F L : Type 0} (moving : ComponentSteps S F L) where
   conduct = record {
     sessions_of = λ context. context.store;
     policy_of = λ context. context.policy;
-    found = λ context request. found_of context.content context.policy context.users (asked_of context request) context.store;
+    findings = λ context request. message_findings context.content context.policy context.users (asked_of context request) context.store;
     caller_sent = λ context request. user_sent context.users (post_in (asked_of context request));
     Handles = λ handling. handled.HandlesMessage moving
         (asked_of handling.context handling.request) handling.context new_journal (Some handling.response) handling.after (effect.whole handling.entries);

@@ -98,12 +98,12 @@ module _ {Context Words : Type 0} (theory : Theory Context Words) where
     allowed : (handling : Handling Context) → EntersWhereAllowed theory (Handled 0 handling)
     allowed handling = (
       λ same.
-          let open_by = (by_verdict (theory.conduct.found handling.context handling.request)).0
+          let open_by = (by_verdict (theory.conduct.findings handling.context handling.request)).0
           (says_so (theory.path_of handling.context) (path_within (theory.path_of handling.context) handling.request.canon.path) (outcome_of theory handling) same) in
           record { ordinary = open_by.0; why = open_by.1.0; verdict = open_by.1.1 },
       λ allows.
           ap (outcome_entry (theory.path_of handling.context) (path_within (theory.path_of handling.context) handling.request.canon.path))
-          ((by_verdict (theory.conduct.found handling.context handling.request)).1 (allows.ordinary, (allows.why, allows.verdict))),
+          ((by_verdict (theory.conduct.findings handling.context handling.request)).1 (allows.ordinary, (allows.why, allows.verdict))),
     )
 
     handled_tells : (place : ℕ) (handling : Handling Context) → theory.conduct.Handles handling → Tells handling.entries (Handled place handling ∷ [])

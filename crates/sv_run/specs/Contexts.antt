@@ -34,7 +34,7 @@ pub record Conduct (Context : Type 0) : Type 1 where
   -- its current constraints
   pub policy_of : Context → Standing
   -- the findings about a request, which decide its outcome
-  pub found : Context → Request → Findings
+  pub findings : Context → Request → Findings
   -- the caller whose name and password a request sends as a login does, if they fit one
   pub caller_sent : Context → Request → Option ℕ
   -- the handling of a request

@@ -57,7 +57,7 @@ module _ {Context Words : Type 0} (theory : Theory Context Words) where
 
   -- the outcome of a request
   abbrev pub outcome_of : Handling Context → Outcome
-  outcome_of handling = outcome (theory.conduct.found handling.context handling.request)
+  outcome_of handling = outcome (theory.conduct.findings handling.context handling.request)
 
   -- the entry of its outcome
   abbrev pub entry_of : Handling Context → Entry

@@ -184,9 +184,9 @@ module _ {Context Words : Type 0} (theory : Theory Context Words) where
 
   -- the combined constraints allow the request, which is neither to a protected path nor a login
   pub record IsAllowed (handling : Handling Context) : Type 0 where
-    pub ordinary : IsOrdinary (theory.conduct.found handling.context handling.request)
+    pub ordinary : IsOrdinary (theory.conduct.findings handling.context handling.request)
     pub why : OwnedWhy
-    pub verdict : (theory.conduct.found handling.context handling.request).verdict ≡ decisions.Open why
+    pub verdict : (theory.conduct.findings handling.context handling.request).verdict ≡ decisions.Open why
 
   -- a request enters exactly if it is allowed; a message that the container answers itself never enters
   abbrev pub EntersWhereAllowed : Deed Context → Type 0
