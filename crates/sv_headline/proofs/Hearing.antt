@@ -20,7 +20,8 @@ use Rattle.sv_context.specs.Theory.{theory}
 use Rattle.sv_headline.proofs.Leading.{GoesOn, after_set, some_is, through_all, through_on}
 use Rattle.sv_headline.proofs.Listening.{all_heard, all_joined, answered_in_order, destroys_unheard, ends_joined, in_order_heard, inits_unheard, one_told, told_heard}
 use Rattle.sv_headline.specs.Events.{AreTransitionsOf, IsAnsweredBy}
-use Rattle.sv_headline.specs.Listeners.{NotifiesOfMessage, NotifiesInOrder, ListenersHearExactly, NoSessionEventAfterRunningOutOfMemory, calls_of_life, calls_of_stop, events_at, events_in, events_of_life, notifications, outcome_in, own_events}
+use Rattle.sv_headline.specs.Ends.{calls_of_stop}
+use Rattle.sv_headline.specs.Listeners.{NotifiesOfMessage, NotifiesInOrder, ListenersHearExactly, NoSessionEventAfterRunningOutOfMemory, calls_of_life, events_at, events_in, events_of_life, notifications, outcome_in, own_events}
 use Rattle.sv_headline.specs.Message.{IsDoneBy, IsLawfulMessage, exchange_for, findings_in, settled_for}
 use Rattle.sv_headline.specs.Refused.{is_dispatched}
 use Rattle.sv_headline.specs.Transitions.{Closing, ContextAnswer, Continuation, EditAnswer, Expiries, Expiry, IsExpiry, Leads, LeadsThrough, OwnAnswer, Refusal, Transition, calls_at, edits_at, told_of, under}
@@ -267,7 +268,7 @@ module _ {S F L : Type 0} (moving : ComponentSteps S F L) (one_case : JustOneCas
   record Undeployed (noted : JournalState) (last : ContextState S F L) (back : List (Deployment S F L)) (place : ℕ) (noted_stop : JournalState) : Type 0 where
     pub stopped : Deployment S F L
     pub there : slice_get back place ≡ Some stopped
-    pub stops : Runs moving (world_of last noted) (calls_of_stop last) (world stopped.path stopped.parts noted_stop)
+    pub stops : Runs moving (world_of last noted) (calls_of_stop last last.store.sessions) (world stopped.path stopped.parts noted_stop)
 
   undeployed_at : (contexts : List (ContextState S F L)) (back : List (Deployment S F L)) (noted noted_after : JournalState)
       (undeploys : UndeploysAll moving contexts noted back noted_after) (place : ℕ) (last : ContextState S F L) → slice_get contexts place ≡ Some last
@@ -319,8 +320,8 @@ module _ {S F L : Type 0} (moving : ComponentSteps S F L) (one_case : JustOneCas
       let goes = flat_map (calls_at place) transitions in
       let own = flat_map (events_at place) transitions in
       let ends = flat_map (λ session. end_events (ended session)) (by_number last.store.sessions) in
-      notified_both (begins ++ goes) (calls_of_stop last)
-      ∙ ap (λ front. front ++ notifications (calls_of_stop last)) (notified_both begins goes)
+      notified_both (begins ++ goes) (calls_of_stop last last.store.sessions)
+      ∙ ap (λ front. front ++ notifications (calls_of_stop last last.store.sessions)) (notified_both begins goes)
       ∙ (λ i. ((start_heard deployment started.begun ∙ ap (told ContextInitialized) (sym started.listeners ∙ is)) i ++ heard.0 i)
       ++ (stop_heard (length last.listeners) (in_service last) last.store.sessions
       ∙ ap (λ its. all_told its ends ++ told ContextDestroyed its) heard.1.0) i)
@@ -401,7 +402,7 @@ module _ {S F L : Type 0} (moving : ComponentSteps S F L) (one_case : JustOneCas
               );
         }
 
-    -- ---- behind want of memory
+    -- ---- after memory has run out
 
     silent_stops : (contexts : List (ContextState S F L))
         → AllByRecursion

@@ -10,8 +10,9 @@ use Rattle.sv_container.specs.Starting.{Starts}
 use Rattle.sv_container.specs.Stopping.{AllStopQuietly, ShutsDown}
 use Rattle.sv_container.specs.declared.container.Container.{Container}
 use Rattle.sv_context.specs.Conduct.{unnoted}
-use Rattle.sv_context.specs.State.{ContextState, in_service, world_of}
+use Rattle.sv_context.specs.State.{ContextState, world_of}
 use Rattle.sv_context.specs.Theory.{theory}
+use Rattle.sv_headline.specs.Ends.{calls_of_stop}
 use Rattle.sv_headline.specs.Message.{findings_in, settled_for}
 use Rattle.sv_headline.specs.Record.{IsLawfulRun}
 use Rattle.sv_headline.specs.Refused.{is_dispatched}
@@ -20,7 +21,6 @@ use Rattle.sv_journal.specs.Journal.{JournalState, broken, new_journal}
 use Rattle.sv_lifecycle.specs.Calls.{Answered, start_calls}
 use Rattle.sv_lifecycle.specs.declared.deployment.Deployment.{Deployment}
 use Rattle.sv_listeners.specs.Telling.{told}
-use Rattle.sv_live.specs.Calls.{stop_calls}
 use Rattle.sv_live.specs.SessionEnds.{by_number, end_events}
 use Rattle.sv_live.specs.World.{world}
 use Rattle.sv_live.specs.declared.live.Parts.{Parts}
@@ -105,12 +105,9 @@ module _ {S F L : Type 0} where
       ++ ContextDestroyed ∷ []
 
   -- the calls of a context's whole life
-  abbrev pub calls_of_stop : ContextState S F L → List Record
-  calls_of_stop last = stop_calls (length last.listeners) (in_service last) last.store.sessions
-
   abbrev pub calls_of_life : Deployment S F L → List Answered → ℕ → List (Transition S F L) → ContextState S F L → List Record
   calls_of_life deployment begun place transitions last =
-      start_calls deployment.descriptor begun ++ flat_map (calls_at place) transitions ++ calls_of_stop last
+      start_calls deployment.descriptor begun ++ flat_map (calls_at place) transitions ++ calls_of_stop last last.store.sessions
 
 module _ {S F L : Type 0} (moving : ComponentSteps S F L) where
   -- the context at a place is started with the deployment, lives through the transitions and stops; these are all the calls of
@@ -123,7 +120,7 @@ module _ {S F L : Type 0} (moving : ComponentSteps S F L) where
         (world deployment.path deployment.parts (started_with place)) (start_calls deployment.descriptor begun) (world_of first (started_with (suc place)))
     pub lives : IsRun moving (world_of first unnoted) (flat_map (calls_at place) transitions) (world_of last unnoted)
     pub stops : Runs moving
-        (world_of last (stopped_with place)) (calls_of_stop last) (world stopped.path stopped.parts (stopped_with (suc place)))
+        (world_of last (stopped_with place)) (calls_of_stop last last.store.sessions) (world stopped.path stopped.parts (stopped_with (suc place)))
     pub told : notifications (calls_of_life deployment begun place transitions last)
         ≡ all_told (length first.listeners) (events_of_life place transitions last)
 
@@ -168,7 +165,7 @@ module _ {S F L : Type 0} (moving : ComponentSteps S F L) where
       pub stops : AllStopQuietly moving contexts (broken new_journal) parts journal
       pub told : AllByRecursion
           (λ (context : ContextState S F L).
-          notifications (stop_calls (length context.listeners) (in_service context) []) ≡ told ContextDestroyed (length context.listeners))
+          notifications (calls_of_stop context []) ≡ told ContextDestroyed (length context.listeners))
           contexts
 
     abbrev pub NoSessionEventAfterRunningOutOfMemory : Type 0
