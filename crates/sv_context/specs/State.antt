@@ -7,7 +7,7 @@ use Rattle.sv_component.specs.declared.components.Named.{Named}
 use Rattle.sv_component.specs.declared.standing.Standing.{Standing}
 use Rattle.sv_journal.specs.Journal.{JournalState}
 use Rattle.sv_live.specs.Standing.{LiveState, is_in_service}
-use Rattle.sv_live.specs.declared.live.Place.{Place}
+use Rattle.sv_journal.specs.declared.calls.Place.{Place}
 use Rattle.sv_policy.specs.Compiled as policies
 use Rattle.sv_realm.specs.declared.account.User.{User}
 use Rattle.sv_session.specs.Store.{Store}

@@ -27,7 +27,7 @@ use Rattle.sv_journal.specs.Journal.{JournalState}
 use Rattle.sv_live.specs.Calling.{CallsOnce, Enters, Leaves, Serves, StandsAsBefore}
 use Rattle.sv_live.specs.Standing.{LiveState, live_world, standing_at}
 use Rattle.sv_live.specs.World.{HasSameCounts}
-use Rattle.sv_live.specs.declared.live.Place.{Place}
+use Rattle.sv_journal.specs.declared.calls.Place.{Place}
 use Rattle.sv_text.specs.declared.no_memory.NoMemory.{NoMemory}
 use Rattle.sv_tree.specs.Does as does
 use Rattle.sv_tree.specs.Asking.{asks, without_events}

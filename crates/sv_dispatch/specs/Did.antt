@@ -3,7 +3,7 @@ use Rattle.std.specs.Prelude.{◌≡◌, ℕ, Bool, false, List, ◌++◌, Optio
 use Rattle.std.specs.Borrow.{GName}
 use Rattle.sv_component.specs.Runs.{Record}
 use Rattle.sv_dispatch.specs.declared.filters.Passed.{Passed}
-use Rattle.sv_live.specs.declared.live.Place.{Place}
+use Rattle.sv_journal.specs.declared.calls.Place.{Place}
 use Rattle.sv_tree.specs.Does.{Does}
 use Rattle.sv_tree.specs.Filters.{Reached}
 use Rattle.sv_tree.specs.State.{State}

@@ -1,4 +1,4 @@
--- The names and the response statuses of faults.
+-- The names, the response statuses and the numbers of faults.
 use Rattle.std.specs.Prelude.{ℕ, List, codes}
 use Rattle.sv_exchange.specs.declared.exchange_fault.ExchangeFault.{ExchangeFault}
 use Rattle.sv_exchange.specs.declared.exchange_fault.ExchangeFault.TheVariants.{Committed, TooManySessions, SerialSpent, NoSession, NoMemory, BadHeader, TooLarge}
@@ -22,3 +22,12 @@ fault_status NoSession = 500
 fault_status NoMemory = 503
 fault_status BadHeader = 500
 fault_status TooLarge = 500
+
+abbrev pub fault_number : ExchangeFault → ℕ
+fault_number Committed = 1
+fault_number TooManySessions = 2
+fault_number SerialSpent = 3
+fault_number NoSession = 4
+fault_number NoMemory = 5
+fault_number BadHeader = 6
+fault_number TooLarge = 7

@@ -2,7 +2,7 @@
 
 ghost use Rattle.std.specs.Prelude.{◌≡◌, Some};
 ghost use Rattle.sv_exchange.specs.declared.exchange_fault.ExchangeFault.TheVariants as faults;
-ghost use Rattle.sv_exchange.specs.Fault.{fault_name, fault_status};
+ghost use Rattle.sv_exchange.specs.Fault.{fault_name, fault_number, fault_status};
 ghost use Rattle.sv_exchange.specs.Sessions.{fault_of};
 
 use std::alloc::{AllocError, AllocFailed};
@@ -34,6 +34,13 @@ pub enum ExchangeFault {
 }
 
 impl ExchangeFault {
+    /// Returns the number of the fault, from 1 to 7.
+    pub fn number(self) -> u8
+        ensures { result ≡ fault_number self }
+    {
+        self as u8
+    }
+
     /// Returns the status with which a component can respond to the request after the fault (RFC 9110, section 15.6).
     /// It is 503 for `TooManySessions` and `NoMemory`, when the server is full for now, and 500 for all other faults.
     pub fn status(self) -> u16

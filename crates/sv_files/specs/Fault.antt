@@ -39,3 +39,10 @@ fault_text Duplicate = codes "Duplicate"
 fault_text TooMany = codes "TooMany"
 fault_text TooLarge = codes "TooLarge"
 fault_text NoMemory = codes "no memory"
+
+abbrev pub fault_number : FilesFault → ℕ
+fault_number BadPath = 1
+fault_number Duplicate = 2
+fault_number TooMany = 3
+fault_number TooLarge = 4
+fault_number NoMemory = 5

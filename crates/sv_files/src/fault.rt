@@ -1,7 +1,7 @@
 //! Faults of a list of files.
 
-ghost use Rattle.std.specs.Prelude.{Some};
-ghost use Rattle.sv_files.specs.Fault.{fault_text};
+ghost use Rattle.std.specs.Prelude.{◌≡◌, Some};
+ghost use Rattle.sv_files.specs.Fault.{fault_number, fault_text};
 
 use std::error::Error;
 use std::fmt;
@@ -22,6 +22,15 @@ pub enum FilesFault {
     TooLarge = 4,
     /// Memory ran out. The same call may succeed later.
     NoMemory = 5,
+}
+
+impl FilesFault {
+    /// Returns the number of the fault, from 1 to 5.
+    pub fn number(self) -> u8
+        ensures { result ≡ fault_number self }
+    {
+        self as u8
+    }
 }
 
 impl fmt::Display for FilesFault {

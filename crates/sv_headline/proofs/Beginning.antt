@@ -23,8 +23,8 @@ use Rattle.sv_lifecycle.specs.Order.{init_order}
 use Rattle.sv_live.specs.Standing.{LiveState}
 use Rattle.sv_lifecycle.specs.Standing.{is_out}
 use Rattle.sv_lifecycle.specs.Starting.{Inits, Stands}
-use Rattle.sv_live.specs.declared.live.Place.{Place}
-use Rattle.sv_live.specs.declared.live.Place.TheVariants.{Filter, Servlet}
+use Rattle.sv_journal.specs.declared.calls.Place.{Place}
+use Rattle.sv_journal.specs.declared.calls.Place.TheVariants.{Filter, Servlet}
 use Rattle.sv_headline.specs.Ends.{is_at}
 use Rattle.sv_headline.proofs.Ending.{IsOnce, flips, left_false, none_more, once_more, right_false}
 

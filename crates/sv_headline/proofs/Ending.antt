@@ -15,8 +15,8 @@ use Rattle.sv_session.specs.declared.event.Event.TheVariants.{ContextDestroyed}
 use Rattle.sv_live.specs.Calls.{destroyed, stop_calls}
 use Rattle.sv_live.specs.SessionEnds.{all_told, by_number, end_events, ends_told}
 use Rattle.sv_live.specs.Standing.{is_in_service}
-use Rattle.sv_live.specs.declared.live.Place.{Place}
-use Rattle.sv_live.specs.declared.live.Place.TheVariants.{Filter, Servlet}
+use Rattle.sv_journal.specs.declared.calls.Place.{Place}
+use Rattle.sv_journal.specs.declared.calls.Place.TheVariants.{Filter, Servlet}
 use Rattle.sv_listeners.specs.Telling.{hearing_order, told}
 use Rattle.sv_headline.specs.Ends.{EndsOnce, component_calls, is_at}
 use Rattle.sv_session.specs.Calls.{ended}

@@ -35,7 +35,7 @@ use Rattle.sv_live.specs.Calls.{destroyed, stop_calls}
 use Rattle.sv_live.specs.SessionEnds.{by_number, end_events, ends_told}
 use Rattle.sv_live.specs.Standing.{LiveState}
 use Rattle.sv_live.specs.World.{world}
-use Rattle.sv_live.specs.declared.live.Place.{Place}
+use Rattle.sv_journal.specs.declared.calls.Place.{Place}
 use Rattle.sv_login.specs.OutcomeLaws.{JustOneCaseHolds}
 use Rattle.sv_login.specs.declared.outcome.Outcome.TheVariants as outcomes
 use Rattle.sv_run.specs.Contexts.{Handling}

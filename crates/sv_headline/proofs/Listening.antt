@@ -18,8 +18,8 @@ use Rattle.sv_lifecycle.specs.Calls.{Answered as Initialized, inited}
 use Rattle.sv_listeners.specs.Telling.{hearing_order, told}
 use Rattle.sv_live.specs.Calls.{destroyed}
 use Rattle.sv_live.specs.SessionEnds as ends
-use Rattle.sv_live.specs.declared.live.Place.{Place}
-use Rattle.sv_live.specs.declared.live.Place.TheVariants.{Filter, Servlet}
+use Rattle.sv_journal.specs.declared.calls.Place.{Place}
+use Rattle.sv_journal.specs.declared.calls.Place.TheVariants.{Filter, Servlet}
 use Rattle.sv_descriptor.specs.declared.web_app.WebApp.{WebApp}
 use Rattle.sv_mapping.specs.declared.kind.Kind.{Kind}
 use Rattle.sv_mapping.specs.declared.kind.Kind.TheVariants as kinds

@@ -19,8 +19,8 @@ use Rattle.sv_live.specs.Calls.{stop_calls}
 use Rattle.sv_live.specs.Standing.{LiveState, is_in_service}
 use Rattle.sv_lifecycle.specs.Starting.{IsResultOf, Outcome, Started, Undone, Untouched}
 use Rattle.sv_live.specs.World.{world}
-use Rattle.sv_live.specs.declared.live.Place.{Place}
-use Rattle.sv_live.specs.declared.live.Place.TheVariants.{Filter, Servlet}
+use Rattle.sv_journal.specs.declared.calls.Place.{Place}
+use Rattle.sv_journal.specs.declared.calls.Place.TheVariants.{Filter, Servlet}
 use Rattle.sv_live.specs.declared.live.Parts.{Parts}
 use Rattle.sv_lifecycle.specs.declared.start_fault.StartFault.{StartFault}
 use Rattle.sv_headline.specs.Ends.{AllLiveToTheirStops, EachIsDestroyedOnce, EndsOnce, HasComponent, LivesToItsStop, calls_of_stop, component_calls, was_initialised}

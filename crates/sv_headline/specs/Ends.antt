@@ -17,8 +17,8 @@ use Rattle.sv_lifecycle.specs.declared.deployment.Deployment.{Deployment}
 use Rattle.sv_journal.specs.Journal.{JournalState}
 use Rattle.sv_live.specs.Calls.{stop_calls}
 use Rattle.sv_live.specs.World.{world}
-use Rattle.sv_live.specs.declared.live.Place.{Place}
-use Rattle.sv_live.specs.declared.live.Place.TheVariants.{Filter, Servlet}
+use Rattle.sv_journal.specs.declared.calls.Place.{Place}
+use Rattle.sv_journal.specs.declared.calls.Place.TheVariants.{Filter, Servlet}
 use Rattle.sv_live.specs.declared.live.Parts.{Parts}
 use Rattle.sv_headline.specs.Lives.{AltersInTurn, Lives}
 use Rattle.sv_session.specs.Store.{Session}

@@ -2,3 +2,4 @@ pub mod Called
 pub mod Entry
 pub mod Journal
 pub mod RefusalCause
+pub mod StartCode

@@ -13,6 +13,13 @@ pub enum Component {
     Filter(Text),
 }
 
+/// A filter or a servlet, by its index in the descriptor, from 0.
+#[derive(Clone, Copy, Debug)]
+pub enum Place {
+    Filter(usize),
+    Servlet(usize),
+}
+
 /// A call of a component. Printed as the name of the method.
 #[derive(Clone, Copy, Debug, PartialEq, Eq)]
 pub enum CallName {

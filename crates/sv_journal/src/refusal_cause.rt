@@ -1,7 +1,7 @@
 //! Why the container itself answers a message.
 
 ghost use Rattle.std.specs.Prelude.{◌≡◌, Some};
-ghost use Rattle.sv_journal.specs.RefusalCause.{cause_number, cause_text, path_number, wire_number};
+ghost use Rattle.sv_journal.specs.RefusalCause.{cause_number, cause_text};
 
 use std::fmt;
 use sv_constraints::OwnedWhy;
@@ -41,8 +41,8 @@ impl RefusalCause {
         ensures { result ≡ cause_number self.now }
     {
         match self {
-            RefusalCause::Wire(fault) => wire_number(*fault),
-            RefusalCause::Path(fault) => path_number(*fault),
+            RefusalCause::Wire(fault) => fault.number(),
+            RefusalCause::Path(fault) => 10 + fault.number(),
             RefusalCause::Star => 21,
             RefusalCause::NoContext => 22,
             RefusalCause::Protected => 23,
@@ -52,38 +52,6 @@ impl RefusalCause {
             RefusalCause::Denied(_) => 27,
             RefusalCause::NoLogin(_) => 28,
         }
-    }
-}
-
-fn wire_number(fault: WireFault) -> u8
-    ensures { result ≡ wire_number fault }
-{
-    match fault {
-        WireFault::BadHead => 1,
-        WireFault::BadHost => 2,
-        WireFault::BadFraming => 3,
-        WireFault::UnknownCoding => 4,
-        WireFault::HeadTooLarge => 5,
-        WireFault::BodyTooLarge => 6,
-        WireFault::BadExpect => 7,
-        WireFault::BadTarget => 8,
-    }
-}
-
-fn path_number(fault: PathFault) -> u8
-    ensures { result ≡ path_number fault }
-{
-    match fault {
-        PathFault::Fragment => 11,
-        PathFault::NoSlash => 12,
-        PathFault::BadEscape => 13,
-        PathFault::EncodedSlash => 14,
-        PathFault::Backslash => 15,
-        PathFault::Control => 16,
-        PathFault::NotUtf8 => 17,
-        PathFault::DotSegment => 18,
-        PathFault::EmptyParameter => 19,
-        PathFault::Climbs => 20,
     }
 }
 

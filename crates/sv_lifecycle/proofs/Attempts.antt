@@ -27,8 +27,8 @@ use Rattle.sv_lifecycle.specs.Plan.{IsPlan}
 use Rattle.sv_lifecycle.specs.Starting.{GoesInOrder, Inits, RefusesUndone, RefusesUntouched, Started, Starts, Undone, Untouched, code_of, is_no_memory}
 use Rattle.sv_live.specs.World.{HasSameCounts, IsPlaceIn, world}
 use Rattle.sv_lifecycle.specs.declared.begin.Begun.{Begun}
-use Rattle.sv_live.specs.declared.live.Place.{Place}
-use Rattle.sv_live.specs.declared.live.Place.TheVariants as places
+use Rattle.sv_journal.specs.declared.calls.Place.{Place}
+use Rattle.sv_journal.specs.declared.calls.Place.TheVariants as places
 use Rattle.sv_live.specs.declared.live.Parts.{Parts}
 use Rattle.sv_lifecycle.specs.declared.plan.Plan.{Plan}
 use Rattle.sv_component.specs.declared.standing.Standing.TheVariants.{Serving}

@@ -28,8 +28,8 @@ use Rattle.sv_lifecycle.specs.Order.{init_order}
 use Rattle.sv_live.specs.Standing.{LiveState, in_service, is_in_service}
 use Rattle.sv_lifecycle.specs.Standing.{is_out}
 use Rattle.sv_lifecycle.specs.Starting.{Inits, Stands, Started, Undone, called, calls_of}
-use Rattle.sv_live.specs.declared.live.Place.{Place}
-use Rattle.sv_live.specs.declared.live.Place.TheVariants.{Filter, Servlet}
+use Rattle.sv_journal.specs.declared.calls.Place.{Place}
+use Rattle.sv_journal.specs.declared.calls.Place.TheVariants.{Filter, Servlet}
 use Rattle.sv_lifecycle.proofs.Attempts.{all_below}
 use Rattle.sv_lifecycle.proofs.Places.{not_both}
 

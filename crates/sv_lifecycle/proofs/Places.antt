@@ -10,8 +10,8 @@ use Rattle.sv_lifecycle.specs.Begins.{HasStanding, with_answer}
 use Rattle.sv_live.specs.Calls.{destroyed}
 use Rattle.sv_live.specs.Standing.{standing_at}
 use Rattle.sv_live.specs.World.{HasSameCounts, IsPlaceIn}
-use Rattle.sv_live.specs.declared.live.Place.{Place}
-use Rattle.sv_live.specs.declared.live.Place.TheVariants.{Filter, Servlet}
+use Rattle.sv_journal.specs.declared.calls.Place.{Place}
+use Rattle.sv_journal.specs.declared.calls.Place.TheVariants.{Filter, Servlet}
 use Rattle.sv_live.specs.declared.live.Parts.{Parts}
 use Rattle.sv_component.specs.declared.standing.Standing.{Standing}
 use Rattle.sv_component.specs.declared.standing.Standing.TheVariants.{Serving, Gone}

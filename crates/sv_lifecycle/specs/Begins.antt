@@ -12,8 +12,8 @@ use Rattle.sv_live.specs.Standing.{standing_at}
 use Rattle.sv_lifecycle.specs.Standing.{standing_after}
 use Rattle.sv_live.specs.World.{world}
 use Rattle.sv_lifecycle.specs.declared.begin.Begun.{Begun}
-use Rattle.sv_live.specs.declared.live.Place.{Place}
-use Rattle.sv_live.specs.declared.live.Place.TheVariants.{Filter, Servlet}
+use Rattle.sv_journal.specs.declared.calls.Place.{Place}
+use Rattle.sv_journal.specs.declared.calls.Place.TheVariants.{Filter, Servlet}
 use Rattle.sv_live.specs.declared.live.Parts.{Parts}
 use Rattle.sv_lifecycle.specs.declared.plan.Plan.{Plan}
 use Rattle.sv_component.specs.declared.standing.Standing.{Standing}

@@ -14,8 +14,8 @@ use Rattle.sv_descriptor.specs.declared.web_app.WebApp.{WebApp}
 use Rattle.sv_session.specs.declared.event.Event.TheVariants.{ContextInitialized}
 use Rattle.sv_listeners.specs.Telling.{told}
 use Rattle.sv_live.specs.Calls.{init_record, stop_calls}
-use Rattle.sv_live.specs.declared.live.Place.{Place}
-use Rattle.sv_live.specs.declared.live.Place.TheVariants.{Filter, Servlet}
+use Rattle.sv_journal.specs.declared.calls.Place.{Place}
+use Rattle.sv_journal.specs.declared.calls.Place.TheVariants.{Filter, Servlet}
 
 abbrev pub params_of : List InitParam → List Param
 params_of params = map (λ param. record { name = param.name; value = param.value }) params

@@ -7,8 +7,8 @@ use Rattle.sv_component.specs.declared.answers.Init.TheVariants.{Ready, Unavaila
 use Rattle.sv_component.specs.declared.standing.Standing.{Standing}
 use Rattle.sv_component.specs.declared.standing.Standing.TheVariants.{Serving, Gone}
 use Rattle.sv_lifecycle.specs.Calls.{Answered}
-use Rattle.sv_live.specs.declared.live.Place.{Place}
-use Rattle.sv_live.specs.declared.live.Place.TheVariants.{Filter, Servlet}
+use Rattle.sv_journal.specs.declared.calls.Place.{Place}
+use Rattle.sv_journal.specs.declared.calls.Place.TheVariants.{Filter, Servlet}
 
 -- Whether a result takes the servlet at an index out of service.
 abbrev pub is_out : ℕ → Place → Init → Bool

@@ -14,7 +14,7 @@ use Rattle.sv_lifecycle.specs.Order.{IsLoadOrder, init_order}
 use Rattle.sv_live.specs.Standing.{LiveState, standing_at}
 use Rattle.sv_lifecycle.specs.Standing.{standing_after}
 use Rattle.sv_live.specs.World.{world}
-use Rattle.sv_live.specs.declared.live.Place.{Place}
+use Rattle.sv_journal.specs.declared.calls.Place.{Place}
 use Rattle.sv_live.specs.declared.live.Parts.{Parts}
 use Rattle.sv_lifecycle.specs.declared.start_fault.StartCode.{StartCode}
 use Rattle.sv_lifecycle.specs.declared.start_fault.StartCode.TheVariants.{PartsMismatch, InitFailed, NoMemory}

@@ -3,7 +3,7 @@
 ghost use Rattle.std.specs.Prelude.{◌≡◌, ◌++◌, IfOk, map};
 ghost use Rattle.std.specs.List.{range_with_len};
 ghost use Rattle.sv_lifecycle.specs.Order.{IsLoadOrder, init_order, rank_at, rank_of};
-ghost use Rattle.sv_live.specs.declared.live.Place.TheVariants as places;
+ghost use Rattle.sv_journal.specs.declared.calls.Place.TheVariants as places;
 
 use std::alloc::Global;
 use sv_descriptor::{ServletEntry, WebApp};

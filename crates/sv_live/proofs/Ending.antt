@@ -7,7 +7,7 @@ use Rattle.sv_session.specs.Store.{Session}
 use Rattle.sv_live.specs.Calls.{stop_calls}
 use Rattle.sv_live.specs.Standing.{LiveState, in_service, live_world}
 use Rattle.sv_live.specs.World.{world}
-use Rattle.sv_live.specs.declared.live.Place.{Place}
+use Rattle.sv_journal.specs.declared.calls.Place.{Place}
 use Rattle.sv_live.specs.declared.live.Parts.{Parts}
 
 module _ {S F L : Type 0} (moving : ComponentSteps S F L) where

@@ -9,8 +9,8 @@ use Rattle.sv_session.specs.declared.event.Event.TheVariants.{ContextDestroyed}
 use Rattle.sv_listeners.specs.Telling.{told}
 use Rattle.sv_session.specs.Store.{Session}
 use Rattle.sv_live.specs.SessionEnds.{ends_told}
-use Rattle.sv_live.specs.declared.live.Place.{Place}
-use Rattle.sv_live.specs.declared.live.Place.TheVariants.{Filter, Servlet}
+use Rattle.sv_journal.specs.declared.calls.Place.{Place}
+use Rattle.sv_journal.specs.declared.calls.Place.TheVariants.{Filter, Servlet}
 
 -- The record of an `init`.
 abbrev pub init_record : Place → Config → Init → Record

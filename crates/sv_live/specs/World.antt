@@ -2,8 +2,8 @@
 use Rattle.std.specs.Prelude.{◌≡◌, ℕ, ◌<◌, List, length}
 use Rattle.sv_component.specs.World.{World}
 use Rattle.sv_journal.specs.Journal.{JournalState}
-use Rattle.sv_live.specs.declared.live.Place.{Place}
-use Rattle.sv_live.specs.declared.live.Place.TheVariants.{Filter, Servlet}
+use Rattle.sv_journal.specs.declared.calls.Place.{Place}
+use Rattle.sv_journal.specs.declared.calls.Place.TheVariants.{Filter, Servlet}
 use Rattle.sv_live.specs.declared.live.Parts.{Parts}
 
 abbrev pub world : {S F L : Type 0} → List ℕ → Parts S F L → JournalState → World S F L

@@ -7,6 +7,7 @@ mod live;
 mod session_ends;
 mod stop;
 
-pub use live::{Live, Parts, Place};
+pub use live::{Live, Parts};
 pub use stop::end_all;
 pub use sv_component::{Named, Standing};
+pub use sv_journal::Place;

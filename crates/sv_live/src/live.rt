@@ -2,6 +2,7 @@
 
 use std::marker::Model;
 use sv_component::{Named, Standing};
+use sv_journal::Place;
 use sv_text::Text;
 
 /// A started context: its components, called by their index in the descriptor, from 0, and the availability of its
@@ -57,11 +58,4 @@ pub struct Parts<S, F, L> {
     pub filters: Vec<Named<F>>,
     /// The listeners.
     pub listeners: Vec<L>,
-}
-
-/// A filter or a servlet, by its index in the descriptor, from 0.
-#[derive(Clone, Copy)]
-pub enum Place {
-    Filter(usize),
-    Servlet(usize),
 }

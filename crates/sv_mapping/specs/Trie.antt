@@ -26,7 +26,8 @@ reached child at (segment ∷ segments) = option_and_then (λ next. reached chil
 abbrev pub kept : (ℕ → List ℕ → Option ℕ) → (ℕ → Option ℕ) → List (List ℕ) → Option ℕ
 kept child places segments = option_and_then places (reached child 0 segments)
 
--- Each node except the root is the child of one node by one segment. `paths` gives the segments that lead to each node.
+-- An edge leads to a node whose path is one segment longer, so no path leads to two nodes and no node has two paths.
+-- `paths` gives the segments that lead to each node.
 pub record IsTree (child : ℕ → List ℕ → Option ℕ) (count : ℕ) (paths : ℕ → List (List ℕ)) : Type 0 where
   pub some : 0 < count
   pub root : paths 0 ≡ []

@@ -13,3 +13,8 @@ abbrev pub fault_name : ExplainFault → List ℕ
 fault_name BadMethod = codes "BadMethod"
 fault_name NoSuchUser = codes "NoSuchUser"
 fault_name NoMemory = codes "NoMemory"
+
+abbrev pub fault_number : ExplainFault → ℕ
+fault_number BadMethod = 1
+fault_number NoSuchUser = 2
+fault_number NoMemory = 3

@@ -32,7 +32,8 @@ is_all methods.All = true
 is_all (methods.Only listed) = false
 is_all (methods.Except listed) = false
 
--- The patterns of the gaps are strictly ascending, and so are the names in each gap. No gap has all methods.
+-- The patterns of the gaps are strictly ascending, and so are the names in each gap. No gap is
+-- written as all methods: a gap without exceptions has an empty list of them.
 abbrev pub GapsRise : Type 0
 GapsRise = (constraints : List Constraint) →
     IsRising (map (λ gap. gap.pattern) (gaps constraints))

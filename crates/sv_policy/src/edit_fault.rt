@@ -1,7 +1,7 @@
 //! Reasons why an edit is refused.
 
-ghost use Rattle.std.specs.Prelude.{Some};
-ghost use Rattle.sv_policy.specs.EditFault.{edit_fault_text};
+ghost use Rattle.std.specs.Prelude.{◌≡◌, Some};
+ghost use Rattle.sv_policy.specs.EditFault.{edit_fault_number, edit_fault_text};
 
 use std::error::Error;
 use std::fmt;
@@ -19,6 +19,15 @@ pub enum EditFault {
     NumberSpent = 3,
     /// Memory ran out; the same call may succeed later.
     NoMemory = 4,
+}
+
+impl EditFault {
+    /// Returns the number of the fault, from 1 to 4.
+    pub fn number(self) -> u8
+        ensures { result ≡ edit_fault_number self }
+    {
+        self as u8
+    }
 }
 
 impl fmt::Display for EditFault {

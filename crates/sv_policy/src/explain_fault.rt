@@ -1,7 +1,7 @@
 //! Reasons for a missing explanation.
 
 ghost use Rattle.std.specs.Prelude.{◌≡◌, Some};
-ghost use Rattle.sv_policy.specs.Fault.{fault_name};
+ghost use Rattle.sv_policy.specs.Fault.{fault_name, fault_number};
 ghost use Rattle.sv_policy.specs.declared.explain_fault.ExplainFault.TheVariants as fault;
 
 use std::error::Error;
@@ -17,6 +17,15 @@ pub enum ExplainFault {
     NoSuchUser = 2,
     /// Memory ran out. The request is not explained.
     NoMemory = 3,
+}
+
+impl ExplainFault {
+    /// Returns the number of the fault, from 1 to 3.
+    pub fn number(self) -> u8
+        ensures { result ≡ fault_number self }
+    {
+        self as u8
+    }
 }
 
 impl fmt::Display for ExplainFault {

@@ -23,8 +23,8 @@ pub fn gaps_are_exact()
     uncovered_methods_are_exact();
 }
 
-/// The patterns of the gaps are strictly ascending by bytes, and so are the method names in each gap. No gap has all
-/// methods.
+/// The patterns of the gaps are strictly ascending by bytes, and so are the method names in each gap. No gap is written
+/// as all methods: a gap without exceptions has an empty list of them.
 pub fn gaps_rise()
     ensures { GapsRise }
 {

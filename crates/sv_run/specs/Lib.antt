@@ -15,6 +15,7 @@ pub mod Laws
 pub mod Messages
 pub mod Orders
 pub mod Reacting
+pub mod RunFault
 pub mod Runs
 pub mod Seeded
 pub mod Seen

@@ -17,6 +17,7 @@ mod laws;
 mod limits;
 mod messages;
 mod output;
+mod run_fault;
 mod seeded_words;
 mod spare;
 mod step_fault;
@@ -37,5 +38,6 @@ pub use laws::{
 };
 pub use limits::{LAST_MOMENT, MAX_CONNECTIONS};
 pub use output::Output;
+pub use run_fault::RunFault;
 pub use seeded_words::SeededWords;
 pub use step_fault::StepFault;

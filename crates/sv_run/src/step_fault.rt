@@ -1,7 +1,7 @@
 //! Reasons to refuse an event.
 
 ghost use Rattle.std.specs.Prelude.{◌≡◌, Some};
-ghost use Rattle.sv_run.specs.StepFault.{fault_name};
+ghost use Rattle.sv_run.specs.StepFault.{fault_name, fault_number};
 ghost use Rattle.sv_run.specs.declared.step_fault.StepFault.TheVariants as fault;
 
 use std::error::Error;
@@ -22,6 +22,15 @@ pub enum StepFault {
     /// is lost. The expired sessions have ended, the event itself broke off, and the calls made so far have changed the
     /// components of the contexts.
     NoMemory = 4,
+}
+
+impl StepFault {
+    /// Returns the number of the fault, from 1 to 4.
+    pub fn number(self) -> u8
+        ensures { result ≡ fault_number self }
+    {
+        self as u8
+    }
 }
 
 impl fmt::Display for StepFault {

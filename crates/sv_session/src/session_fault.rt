@@ -1,7 +1,7 @@
 //! Faults of the calls on the sessions of a context.
 
 ghost use Rattle.std.specs.Prelude.{◌≡◌, Some};
-ghost use Rattle.sv_session.specs.Fault.{fault_name};
+ghost use Rattle.sv_session.specs.Fault.{fault_name, fault_number};
 ghost use Rattle.sv_session.specs.declared.session_fault.SessionFault.TheVariants as fault;
 
 use std::error::Error;
@@ -23,6 +23,15 @@ pub enum SessionFault {
     NoMemory = 4,
     /// The name or the value is too long, or the session has the maximum number of attributes but none of this name.
     TooLarge = 5,
+}
+
+impl SessionFault {
+    /// Returns the number of the fault, from 1 to 5.
+    pub fn number(self) -> u8
+        ensures { result ≡ fault_number self }
+    {
+        self as u8
+    }
 }
 
 impl fmt::Display for SessionFault {

@@ -27,3 +27,15 @@ fault_name Climbs = codes "Climbs"
 abbrev pub refusal_text : CanonFault → List ℕ
 refusal_text (Path fault) = fault_name fault
 refusal_text NoMemory = codes "no memory"
+
+abbrev pub fault_number : PathFault → ℕ
+fault_number Fragment = 1
+fault_number NoSlash = 2
+fault_number BadEscape = 3
+fault_number EncodedSlash = 4
+fault_number Backslash = 5
+fault_number Control = 6
+fault_number NotUtf8 = 7
+fault_number DotSegment = 8
+fault_number EmptyParameter = 9
+fault_number Climbs = 10

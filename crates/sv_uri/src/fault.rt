@@ -33,6 +33,18 @@ pub enum PathFault {
     Climbs = 10,
 }
 
+impl PathFault {
+    ghost use Rattle.std.specs.Prelude.{◌≡◌};
+    ghost use Rattle.sv_uri.specs.Fault.{fault_number};
+
+    /// Returns the number of the fault, from 1 to 10.
+    pub fn number(self) -> u8
+        ensures { result ≡ fault_number self }
+    {
+        self as u8
+    }
+}
+
 impl fmt::Display for PathFault {
     ghost use Rattle.std.specs.Prelude.{Some};
     ghost use Rattle.sv_uri.specs.Fault.{fault_name};

@@ -1,4 +1,4 @@
--- The names of the faults, and the statuses of their responses (RFC 9110, section 15, and RFC 6585, section 5).
+-- The names and numbers of the faults, and the statuses of their responses (RFC 9110, section 15, and RFC 6585, section 5).
 use Rattle.std.specs.Prelude.{ℕ, List, codes}
 use Rattle.sv_wire.specs.declared.body_fault.BodyFault.{BodyFault}
 use Rattle.sv_wire.specs.declared.body_fault.BodyFault.TheVariants.{BadChunk, TooLarge, TrailerTooLarge}
@@ -32,3 +32,13 @@ abbrev pub fault_of : BodyFault → WireFault
 fault_of BadChunk = BadFraming
 fault_of TooLarge = BodyTooLarge
 fault_of TrailerTooLarge = HeadTooLarge
+
+abbrev pub fault_number : WireFault → ℕ
+fault_number BadHead = 1
+fault_number BadHost = 2
+fault_number BadFraming = 3
+fault_number UnknownCoding = 4
+fault_number HeadTooLarge = 5
+fault_number BodyTooLarge = 6
+fault_number BadExpect = 7
+fault_number BadTarget = 8

@@ -1,7 +1,7 @@
 //! Why a message is refused.
 
 ghost use Rattle.std.specs.Prelude.{◌≡◌, Some};
-ghost use Rattle.sv_wire.specs.WireFault.{fault_name, fault_of, fault_status};
+ghost use Rattle.sv_wire.specs.WireFault.{fault_name, fault_number, fault_of, fault_status};
 
 use crate::body_fault::BodyFault;
 use std::error::Error;
@@ -29,6 +29,13 @@ pub enum WireFault {
 }
 
 impl WireFault {
+    /// Returns the number of the fault, from 1 to 8.
+    pub fn number(self) -> u8
+        ensures { result ≡ fault_number self }
+    {
+        self as u8
+    }
+
     /// Returns the fault of a message whose body has this fault.
     pub fn of_body(fault: BodyFault) -> WireFault
         ensures { result ≡ fault_of fault }

@@ -1,5 +1,5 @@
 use Rattle.std.proofs.Common.{◌≡◌, ◌++◌, map, take}
-use Rattle.sv_live.specs.declared.live.Place.TheVariants as places
+use Rattle.sv_journal.specs.declared.calls.Place.TheVariants as places
 use Rattle.sv_lifecycle.proofs.order.add_servlets.Given as goal
 
 abbrev pub invariant-loop-place : goal.invariant-loop-place

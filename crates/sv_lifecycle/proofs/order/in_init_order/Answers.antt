@@ -1,6 +1,6 @@
 use Rattle.std.proofs.Common.{[], ◌∷◌, ◌++◌, sym, ◌∙◌, ap, arith}
 use Rattle.std.proofs.lemmas.List.FromFn.{map-range_with_len_more}
-use Rattle.sv_live.specs.declared.live.Place.TheVariants as places
+use Rattle.sv_journal.specs.declared.calls.Place.TheVariants as places
 use Rattle.sv_lifecycle.proofs.order.in_init_order.Goals as goal
 
 pub loop-place-preserved : goal.loop-place-preserved

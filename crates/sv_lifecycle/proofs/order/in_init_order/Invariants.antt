@@ -1,6 +1,6 @@
 use Rattle.std.proofs.Common.{◌≡◌, map}
 use Rattle.std.specs.List.{range_with_len}
-use Rattle.sv_live.specs.declared.live.Place.TheVariants as places
+use Rattle.sv_journal.specs.declared.calls.Place.TheVariants as places
 use Rattle.sv_lifecycle.proofs.order.in_init_order.Given as goal
 
 abbrev pub invariant-loop-place : goal.invariant-loop-place
