@@ -7,10 +7,10 @@ ghost use Rattle.sv_listeners.specs.Telling.{told};
 ghost use Rattle.sv_live.specs.Calls.{destroyed, init_record};
 ghost use Rattle.sv_live.specs.World.{HasSameCounts, IsPlaceIn, world};
 
-use crate::live::{Parts, Place};
+use crate::live::Parts;
 use std::alloc::Global;
 use sv_component::{Config, Event, Filter, Init, Listener, Servlet, init_answer};
-use sv_journal::{CallName, Entry, Journal};
+use sv_journal::{CallName, Entry, Journal, Place};
 
 impl<S: Servlet, F: Filter, L: Listener> Parts<S, F, L> {
     /// Notifies each listener of the event.

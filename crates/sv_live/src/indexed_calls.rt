@@ -14,12 +14,12 @@ ghost use Rattle.sv_component.specs.Standing.{is_gone};
 ghost use Rattle.sv_live.specs.Standing.{live_world, standing_at};
 ghost use Rattle.sv_component.specs.declared.standing.Standing.TheVariants as standings;
 
-use crate::live::{Live, Place};
+use crate::live::Live;
 use std::alloc::Global;
 use sv_component::{
     Event, Exchange, Filter, Gate, Listener, Servlet, Standing, Step, gate_answer, step_answer,
 };
-use sv_journal::{Answer, CallName, Entry, Journal};
+use sv_journal::{Answer, CallName, Entry, Journal, Place};
 use sv_text::NoMemory;
 
 impl<S: Servlet, F: Filter, L: Listener> Live<S, F, L> {

@@ -8,11 +8,11 @@ ghost use Rattle.sv_live.specs.Calls.{destroyed, stop_calls};
 ghost use Rattle.sv_live.specs.Standing.{in_service, is_in_service, live_world, standing_at};
 ghost use Rattle.sv_live.specs.World.{HasSameCounts, IsPlaceIn, world};
 
-use crate::live::{Live, Parts, Place};
+use crate::live::{Live, Parts};
 use crate::session_ends::end_sessions;
 use std::alloc::Global;
 use sv_component::{Event, Filter, Listener, Servlet, Standing};
-use sv_journal::Journal;
+use sv_journal::{Journal, Place};
 use sv_session::Sessions;
 
 impl<S: Servlet, F: Filter, L: Listener> Live<S, F, L> {
