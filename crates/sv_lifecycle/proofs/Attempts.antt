@@ -1,9 +1,9 @@
 -- A start that succeeds, and one that is undone.
-use Rattle.std.proofs.Common.{◌≡◌, ℕ, ◌<◌, Bool, true, false, inl, inr, List, [], ◌∷◌, ◌++◌, length, get_or, map, take, Option, None, Some, Ok, Err, refl, sym, ◌∙◌, ap, subst, arith}
+use Rattle.std.proofs.Common.{◌≡◌, ℕ, ◌<◌, Bool, true, false, List, [], ◌∷◌, ◌++◌, length, get_or, map, take, Option, None, Some, Ok, Err, refl, sym, ◌∙◌, ap, subst, arith}
 use Rattle.std.specs.Prelude.{cond, is_some, not}
 use Rattle.std.specs.Prelude.{IfSome}
 use Rattle.std.specs.List.{All, filter, range_with_len}
-use Rattle.std.specs.Option.{option_map, option_to_list}
+use Rattle.std.specs.Option.{option_to_list}
 use Rattle.std.proofs.lemmas.List.{append-nil, append_assoc, get_or-map, get_or_append_left, length-append, length-map, length-replicate, map-append}
 use Rattle.std.proofs.lemmas.List.Elements.{All-append, All-filter, All-map}
 use Rattle.std.proofs.lemmas.List.FromFn.{get_or-range_with_len, length-range_with_len}
@@ -21,10 +21,11 @@ use Rattle.sv_component.proofs.Running.{runs_grown}
 use Rattle.sv_component.proofs.Growing.{grows_join, grows_none}
 use Rattle.sv_lifecycle.specs.Begins.{Begins}
 use Rattle.sv_live.specs.Calls.{stop_calls}
-use Rattle.sv_lifecycle.specs.Calls.{Answered, inited, initialised, is_ready, lets_go_on, places_of, start_calls}
+use Rattle.sv_lifecycle.specs.declared.begin.Answered.{Answered}
+use Rattle.sv_lifecycle.specs.Calls.{inited, initialised, is_ready, lets_go_on, places_of, start_calls}
 use Rattle.sv_lifecycle.specs.Fit.{Fits}
 use Rattle.sv_lifecycle.specs.Plan.{IsPlan}
-use Rattle.sv_lifecycle.specs.Starting.{GoesInOrder, Inits, RefusesUndone, RefusesUntouched, Started, Starts, Undone, Untouched, code_of, is_no_memory}
+use Rattle.sv_lifecycle.specs.Starting.{GoesInOrder, Inits, RefusesUntouched, Started, Starts, Undone, Untouched, code_of}
 use Rattle.sv_live.specs.World.{HasSameCounts, IsPlaceIn, world}
 use Rattle.sv_lifecycle.specs.declared.begin.Begun.{Begun}
 use Rattle.sv_journal.specs.declared.calls.Place.{Place}
@@ -33,7 +34,7 @@ use Rattle.sv_live.specs.declared.live.Parts.{Parts}
 use Rattle.sv_lifecycle.specs.declared.plan.Plan.{Plan}
 use Rattle.sv_component.specs.declared.standing.Standing.TheVariants.{Serving}
 use Rattle.sv_component.specs.Steps.{ComponentSteps}
-use Rattle.sv_lifecycle.specs.declared.start_fault.StartCode.{StartCode}
+use Rattle.sv_journal.specs.declared.start_code.StartCode.{StartCode}
 use Rattle.sv_lifecycle.proofs.Beginning.{initialised_push}
 use Rattle.sv_lifecycle.proofs.Fitting.{same_length}
 use Rattle.sv_live.proofs.Places.{all_kept}
@@ -74,10 +75,6 @@ initialised_there P order begun more left is there =
     (there k d.place (omega (arith, within, low, ap length front, length-append (places_of begun) (places_of more ++ left)))) in
     All-map P (λ a. a.place) (filter ready begun) (All-filter ready (λ answered. P answered.place) begun each)
 
-none_of : {A B : Type 0} (f : A → B) (found : Option A) → option_map f found ≡ None → found ≡ None
-none_of f None none = refl
-none_of f (Some a) none = absurd (cc)
-
 module _ {S F L : Type 0} (moving : ComponentSteps S F L) where
   -- No component was called.
   pub did_nothing : (its_context : List ℕ) (app : WebApp) (parts : Parts S F L) (noted : JournalState) (why : StartCode)
@@ -92,7 +89,7 @@ module _ {S F L : Type 0} (moving : ComponentSteps S F L) where
   -- The `init` calls of a plan are made in order.
   abbrev goes_in_order : (app : WebApp) (parts : Parts S F L) (plan : Plan) (noted : JournalState) (how_far : Begun) (after : Parts S F L) (plan_after : Plan) (noted_after : JournalState)
       → (is_plan : IsPlan plan.context app plan) (begins : Begins moving app parts plan noted how_far after plan_after noted_after)
-      → GoesInOrder app (record { order = is_plan.loaded; begun = begins.begun; stopper = begins.stopper })
+      → GoesInOrder app (record { order = is_plan.loaded; begun = begins.begun; stopper = how_far.stopper })
   goes_in_order app parts plan noted how_far after plan_after noted_after is_plan begins = record {
     order = is_plan.is_order;
     left = begins.left;
@@ -106,10 +103,10 @@ module _ {S F L : Type 0} (moving : ComponentSteps S F L) where
       → Fits app parts
       → Runs moving (world plan.context parts noted) (told ContextInitialized (length parts.listeners.items)) (world plan.context told_parts told_noted)
       → (begins : Begins moving app told_parts plan told_noted how_far after plan_after noted_after)
-      → Runs moving (world plan.context parts noted) (start_calls app (begins.begun ++ option_to_list begins.stopper)) (world plan.context after noted_after)
+      → Runs moving (world plan.context parts noted) (start_calls app (begins.begun ++ option_to_list how_far.stopper)) (world plan.context after noted_after)
   begin_calls app parts told_parts plan noted told_noted how_far after plan_after noted_after fits tells begins =
       grows_join moving (world plan.context parts noted) (world plan.context told_parts told_noted) (world plan.context after noted_after)
-      (told ContextInitialized (length app.listeners)) (map (inited app) (begins.begun ++ option_to_list begins.stopper))
+      (told ContextInitialized (length app.listeners)) (map (inited app) (begins.begun ++ option_to_list how_far.stopper))
       (subst (λ count. Runs moving (world plan.context parts noted) (told ContextInitialized count) (world plan.context told_parts told_noted)) fits.listeners tells)
       begins.made
 
@@ -121,19 +118,18 @@ module _ {S F L : Type 0} (moving : ComponentSteps S F L) where
       → how_far.stopper ≡ None → noted_after.whole ≡ true → kept ≡ take how_far.initialised plan_after.order.items
       → Starts moving plan.context app parts noted (Ok (record { context = plan_after.context; parts = after; initialised = kept; standings = plan_after.standings.items })) noted_after
   started app parts told_parts plan noted told_noted how_far after plan_after noted_after kept fits is_plan counts tells begins none is_whole is_kept =
-      let no_stopper : begins.stopper ≡ None = none_of (λ answered. answered.answer) begins.stopper (sym begins.answer ∙ none) in
-      let all : begins.begun ++ option_to_list begins.stopper ≡ begins.begun = ap (λ found. begins.begun ++ option_to_list found) no_stopper ∙ append-nil begins.begun in
+      let all : begins.begun ++ option_to_list how_far.stopper ≡ begins.begun = ap (λ found. begins.begun ++ option_to_list found) none ∙ append-nil begins.begun in
       let rooms : length plan.standings.items ≡ length app.servlets = ap length is_plan.standings ∙ length-replicate (length app.servlets) Serving in
       record {
-        outcome = Started (record { order = is_plan.loaded; begun = begins.begun; stopper = begins.stopper });
+        outcome = Started (record { order = is_plan.loaded; begun = begins.begun; stopper = how_far.stopper });
         made = subst (λ begun. Runs moving (world plan.context parts noted) (start_calls app begun) (world plan.context after noted_after)) all
             (begin_calls app parts told_parts plan noted told_noted how_far after plan_after noted_after fits tells begins);
         is = (
           fits,
           record {
             goes = goes_in_order app told_parts plan told_noted how_far after plan_after noted_after is_plan begins;
-            none_left = begins.whole no_stopper is_whole;
-            none_failed = no_stopper;
+            none_left = begins.whole none is_whole;
+            none_failed = none;
             journal = is_whole;
             context = begins.context;
             servlets = counts.servlets ∙ same_length (λ named. named.name) (λ servlet. servlet.servlet_name) parts.servlets.items app.servlets fits.servlets;
@@ -162,23 +158,6 @@ stays_broken : (before after : Bool) → before ≡ false → (after ≡ true �
 stays_broken before true broken was = absurd (cc (was refl))
 stays_broken before false broken was = refl
 
--- The reason for an undone start.
-module _ (inits : Inits) (after : JournalState) where
-  lacked : (whole : Bool) → after.whole ≡ whole → (answered : Answered) → inits.stopper ≡ Some answered → (answer : Init) → answered.answer ≡ answer → RefusesUndone inits (code_of (Some answer) whole) after
-  lacked whole is answered stopper init_answers.NoMemory answers = inr (answered, stopper, ap is_no_memory answers)
-  lacked true is answered stopper init_answers.Ready answers = ((answered, stopper, ap is_no_memory answers), is)
-  lacked true is answered stopper init_answers.Unavailable answers = ((answered, stopper, ap is_no_memory answers), is)
-  lacked true is answered stopper init_answers.Failed answers = ((answered, stopper, ap is_no_memory answers), is)
-  lacked false is answered stopper init_answers.Ready answers = inl is
-  lacked false is answered stopper init_answers.Unavailable answers = inl is
-  lacked false is answered stopper init_answers.Failed answers = inl is
-
-  refused : (stopper : Option Answered) → inits.stopper ≡ stopper → (whole : Bool) → after.whole ≡ whole → (stopper ≡ None → whole ≡ false)
-      → RefusesUndone inits (code_of (option_map (λ answered. answered.answer) stopper) whole) after
-  refused None found true is broken = absurd (cc (broken refl))
-  refused None found false is broken = inl is
-  refused (Some answered) found whole is broken = lacked whole is answered found answered.answer refl
-
 module _ {S F L : Type 0} (moving : ComponentSteps S F L) where
   -- If a journal is whole after a run, it was whole before.
   was_whole : (before after : World S F L) (records : List Record) → Runs moving before records after → after.journal.whole ≡ true → before.journal.whole ≡ true
@@ -194,13 +173,12 @@ module _ {S F L : Type 0} (moving : ComponentSteps S F L) where
       → (how_far.stopper ≡ None → noted_after.whole ≡ false) → why ≡ code_of how_far.stopper noted_ended.whole
       → Starts moving plan.context app parts noted (Err (record { code = why; parts = ended })) noted_ended
   undone app parts told_parts plan noted told_noted how_far after plan_after noted_after kept ended noted_ended why fits is_plan tells begins ends count is_kept broken is_why =
-      let all : List Answered = begins.begun ++ option_to_list begins.stopper in
-      let its_inits : Inits = record { order = is_plan.loaded; begun = begins.begun; stopper = begins.stopper } in
-      let places : kept ≡ initialised all = is_kept ∙ begins.kept ∙ sym (initialised_called begins.begun begins.stopper begins.stops) in
-      let stays : begins.stopper ≡ None → noted_ended.whole ≡ false = λ none.
-      stays_broken noted_after.whole noted_ended.whole (broken (begins.answer ∙ ap (option_map (λ answered. answered.answer)) none))
+      let all : List Answered = begins.begun ++ option_to_list how_far.stopper in
+      let its_inits : Inits = record { order = is_plan.loaded; begun = begins.begun; stopper = how_far.stopper } in
+      let places : kept ≡ initialised all = is_kept ∙ begins.kept ∙ sym (initialised_called begins.begun how_far.stopper begins.stops) in
+      let stays : how_far.stopper ≡ None → noted_ended.whole ≡ false = λ none.
+      stays_broken noted_after.whole noted_ended.whole (broken none)
       (was_whole (world plan.context after noted_after) (world plan.context ended noted_ended) (stop_calls (length after.listeners.items) kept []) ends) in
-      let code : why ≡ code_of (option_map (λ answered. answered.answer) begins.stopper) noted_ended.whole = is_why ∙ ap (λ stopper. code_of stopper noted_ended.whole) begins.answer in
       record {
         outcome = Undone its_inits;
         made = grows_join moving (world plan.context parts noted) (world plan.context after noted_after) (world plan.context ended noted_ended)
@@ -211,7 +189,7 @@ module _ {S F L : Type 0} (moving : ComponentSteps S F L) where
         is = (
           fits,
           goes_in_order moving app told_parts plan told_noted how_far after plan_after noted_after is_plan begins,
-          subst (λ c. RefusesUndone its_inits c noted_ended) (sym code) (refused its_inits noted_ended begins.stopper refl noted_ended.whole refl stays),
+          record { is_code = is_why; has_cause = stays },
         );
       }
 
@@ -241,7 +219,7 @@ module _ {S F L : Type 0} (moving : ComponentSteps S F L) where
       → All (IsPlaceIn after) kept × (length plan_after.standings.items ≡ length after.servlets.items)
   kept_there app parts told_parts plan noted how_far after plan_after noted_after kept fits is_plan counts begins is_kept =
       let all = plan_places plan.context app parts plan fits is_plan in
-      let begun = initialised_there (IsPlaceIn parts) plan.order.items begins.begun (option_to_list begins.stopper) begins.left begins.front all in (
+      let begun = initialised_there (IsPlaceIn parts) plan.order.items begins.begun (option_to_list how_far.stopper) begins.left begins.front all in (
         subst (All (IsPlaceIn after)) (sym (is_kept ∙ begins.kept)) (all_kept parts after counts (initialised begins.begun) begun),
         begins.rooms ∙ ap length is_plan.standings ∙ length-replicate (length app.servlets) Serving ∙ sym (plan_standings plan.context app parts after plan fits is_plan counts),
       )

@@ -17,7 +17,8 @@ use Rattle.sv_descriptor.specs.declared.web_app.WebApp.{WebApp}
 use Rattle.sv_component.proofs.Growing.{grows_more, grows_none}
 use Rattle.sv_lifecycle.specs.Begins.{Begins, HasStanding, with_answer}
 use Rattle.sv_live.specs.Calls.{init_record}
-use Rattle.sv_lifecycle.specs.Calls.{Answered, config_at, inited, initialised, is_ready, lets_go_on, places_of}
+use Rattle.sv_lifecycle.specs.declared.begin.Answered.{Answered}
+use Rattle.sv_lifecycle.specs.Calls.{config_at, inited, initialised, is_ready, lets_go_on, places_of}
 use Rattle.sv_live.specs.Standing.{standing_at}
 use Rattle.sv_lifecycle.specs.Standing.{is_out, standing_after}
 use Rattle.sv_live.specs.World.{world}
@@ -157,12 +158,10 @@ module _ {S F L : Type 0} (moving : ComponentSteps S F L) (app : WebApp) where
       let all : so_far.begun ++ [] ≡ so_far.begun = append-nil so_far.begun in
       record {
         begun = so_far.begun;
-        stopper = None;
         left = drop step plan.order.items;
         front = sym (take-append-drop step plan.order.items) ∙ ap (λ f. f ++ drop step plan.order.items) (so_far.front ∙ sym (ap places_of all));
         goes = so_far.goes;
         stops = tt;
-        answer = refl;
         whole = λ _ is_whole. drop_all step plan.order.items (ends is_whole);
         made = subst (λ begun. Runs moving (world plan.context parts noted) (map (inited app) begun) (world plan.context after noted_after)) (sym all) so_far.made;
         kept = so_far.kept;
@@ -179,18 +178,16 @@ module _ {S F L : Type 0} (moving : ComponentSteps S F L) (app : WebApp) where
       → Moves moving (world plan.context before noted_before) (init_record at config answer) (world plan.context after noted_after)
       → lets_go_on at answer ≡ false
       → length plan_before.standings.items ≡ length plan.standings.items → plan_before.context ≡ plan.context
-      → Begins moving app parts plan noted (record { initialised = count; stopper = Some answer }) after plan_before noted_after
+      → Begins moving app parts plan noted (record { initialised = count; stopper = Some (record { place = at; answer = answer }) }) after plan_before noted_after
   begins_to_stop parts plan noted step count before plan_before noted_before its_place config its_answer after noted_after so_far within is is_config moves its_stops its_rooms its_context =
       let answered : Answered = record { place = its_place; answer = its_answer } in
       record {
         begun = so_far.begun;
-        stopper = Some answered;
         left = drop (step + 1) plan.order.items;
         front = sym (take-append-drop (step + 1) plan.order.items)
             ∙ ap (λ f. f ++ drop (step + 1) plan.order.items) (front_more plan.order.items step so_far.begun its_place its_answer within is so_far.front);
         goes = so_far.goes;
         stops = its_stops;
-        answer = refl;
         whole = λ none _. some_is_none answered none;
         made = inits_more (world plan.context parts noted) (world plan.context before noted_before) (world plan.context after noted_after) so_far.begun its_place its_answer config is_config so_far.made moves;
         kept = so_far.kept;

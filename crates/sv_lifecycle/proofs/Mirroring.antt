@@ -22,7 +22,8 @@ use Rattle.sv_journal.specs.Journal.{JournalState}
 use Rattle.sv_session.specs.declared.event.Event.TheVariants.{ContextDestroyed, ContextInitialized}
 use Rattle.sv_listeners.specs.Telling.{told}
 use Rattle.sv_live.specs.Calls.{destroyed, stop_calls}
-use Rattle.sv_lifecycle.specs.Calls.{Answered, inited, initialised, places_of, start_calls}
+use Rattle.sv_lifecycle.specs.declared.begin.Answered.{Answered}
+use Rattle.sv_lifecycle.specs.Calls.{inited, initialised, places_of, start_calls}
 use Rattle.sv_lifecycle.specs.Laws.{answered_by, mirrored}
 use Rattle.sv_lifecycle.specs.Order.{init_order}
 use Rattle.sv_live.specs.Standing.{LiveState, in_service, is_in_service}

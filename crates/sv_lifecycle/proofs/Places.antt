@@ -1,15 +1,13 @@
 -- Places of components, and a list whose components are initialized or destroyed one by one.
-use Rattle.std.proofs.Common.{◌≡◌, ℕ, ◌+◌, ◌-◌, ◌<◌, ◌≤◌, Bool, true, false, List, [], ◌∷◌, ◌++◌, length, get_or, map, replicate, reverse, set, take, drop, refl, sym, ◌∙◌, ap, arith}
+use Rattle.std.proofs.Common.{◌≡◌, ℕ, ◌+◌, ◌<◌, ◌≤◌, Bool, true, false, List, length, get_or, replicate, set, drop, refl, sym, ◌∙◌, ap, arith}
 use Rattle.std.specs.Prelude.{cond}
-use Rattle.std.specs.List.{All}
-use Rattle.std.proofs.lemmas.List.{drop-drop, drop-set-lt, get_or-drop, get_or-map, get_or-replicate, get_or-reverse, length-map, length-replicate, length-reverse, length-set, take_more}
+use Rattle.std.proofs.lemmas.List.{drop-drop, drop-set-lt, get_or-drop, get_or-replicate, length-replicate, length-set}
 use Rattle.std.proofs.lemmas.Option.{unwrap_or-slice_get}
 use Rattle.sv_component.specs.declared.answers.Init.{Init}
 use Rattle.sv_component.specs.declared.answers.Init.TheVariants.{Ready, Unavailable, Failed, NoMemory}
 use Rattle.sv_lifecycle.specs.Begins.{HasStanding, with_answer}
-use Rattle.sv_live.specs.Calls.{destroyed}
 use Rattle.sv_live.specs.Standing.{standing_at}
-use Rattle.sv_live.specs.World.{HasSameCounts, IsPlaceIn}
+use Rattle.sv_live.specs.World.{IsPlaceIn}
 use Rattle.sv_journal.specs.declared.calls.Place.{Place}
 use Rattle.sv_journal.specs.declared.calls.Place.TheVariants.{Filter, Servlet}
 use Rattle.sv_live.specs.declared.live.Parts.{Parts}

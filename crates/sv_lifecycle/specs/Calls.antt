@@ -13,6 +13,7 @@ use Rattle.sv_descriptor.specs.declared.servlet.ServletEntry.{ServletEntry}
 use Rattle.sv_descriptor.specs.declared.web_app.WebApp.{WebApp}
 use Rattle.sv_session.specs.declared.event.Event.TheVariants.{ContextInitialized}
 use Rattle.sv_listeners.specs.Telling.{told}
+use Rattle.sv_lifecycle.specs.declared.begin.Answered.{Answered}
 use Rattle.sv_live.specs.Calls.{init_record, stop_calls}
 use Rattle.sv_journal.specs.declared.calls.Place.{Place}
 use Rattle.sv_journal.specs.declared.calls.Place.TheVariants.{Filter, Servlet}
@@ -37,11 +38,6 @@ servlet_config None = config_of [] []
 abbrev pub config_at : WebApp → Place → Config
 config_at app (Filter place) = filter_config (slice_get app.filters place)
 config_at app (Servlet place) = servlet_config (slice_get app.servlets place)
-
--- A component whose `init` was called, with the result.
-pub record Answered : Type 0 where
-  pub place : Place
-  pub answer : Init
 
 abbrev pub places_of : List Answered → List Place
 places_of begun = map (λ answered. answered.place) begun

@@ -5,5 +5,4 @@ pub mod Laws
 pub mod Order
 pub mod Plan
 pub mod Standing
-pub mod StartCode
 pub mod Starting

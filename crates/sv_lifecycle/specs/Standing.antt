@@ -6,7 +6,7 @@ use Rattle.sv_component.specs.declared.answers.Init.{Init}
 use Rattle.sv_component.specs.declared.answers.Init.TheVariants.{Ready, Unavailable, Failed, NoMemory}
 use Rattle.sv_component.specs.declared.standing.Standing.{Standing}
 use Rattle.sv_component.specs.declared.standing.Standing.TheVariants.{Serving, Gone}
-use Rattle.sv_lifecycle.specs.Calls.{Answered}
+use Rattle.sv_lifecycle.specs.declared.begin.Answered.{Answered}
 use Rattle.sv_journal.specs.declared.calls.Place.{Place}
 use Rattle.sv_journal.specs.declared.calls.Place.TheVariants.{Filter, Servlet}
 

@@ -1,5 +1,5 @@
 -- Starts of contexts (Jakarta Servlet 6.0, sections 2.3, 6.2.1 and 11.3): the calls made, and the result.
-use Rattle.std.specs.Prelude.{◌≡◌, ℕ, ◌<◌, ◌⊎◌, Bool, true, false, List, [], ◌++◌, length, Option, None, Some, IfSome, Result, Ok, Err}
+use Rattle.std.specs.Prelude.{◌≡◌, ℕ, ◌<◌, Bool, true, false, List, [], ◌++◌, length, Option, None, Some, IfSome, Result, Ok, Err}
 use Rattle.std.specs.List.{All}
 use Rattle.std.specs.Option.{option_to_list}
 use Rattle.sv_component.specs.Runs.{Record, Runs}
@@ -8,7 +8,7 @@ use Rattle.sv_component.specs.declared.answers.Init.TheVariants as init_answers
 use Rattle.sv_component.specs.Steps.{ComponentSteps}
 use Rattle.sv_descriptor.specs.declared.web_app.WebApp.{WebApp}
 use Rattle.sv_journal.specs.Journal.{JournalState}
-use Rattle.sv_lifecycle.specs.Calls.{Answered, initialised, lets_go_on, places_of, start_calls, undone_calls}
+use Rattle.sv_lifecycle.specs.Calls.{initialised, lets_go_on, places_of, start_calls, undone_calls}
 use Rattle.sv_lifecycle.specs.Fit.{Fits}
 use Rattle.sv_lifecycle.specs.Order.{IsLoadOrder, init_order}
 use Rattle.sv_live.specs.Standing.{LiveState, standing_at}
@@ -16,8 +16,9 @@ use Rattle.sv_lifecycle.specs.Standing.{standing_after}
 use Rattle.sv_live.specs.World.{world}
 use Rattle.sv_journal.specs.declared.calls.Place.{Place}
 use Rattle.sv_live.specs.declared.live.Parts.{Parts}
-use Rattle.sv_lifecycle.specs.declared.start_fault.StartCode.{StartCode}
-use Rattle.sv_lifecycle.specs.declared.start_fault.StartCode.TheVariants.{PartsMismatch, InitFailed, NoMemory}
+use Rattle.sv_journal.specs.declared.start_code.StartCode.{StartCode}
+use Rattle.sv_journal.specs.declared.start_code.StartCode.TheVariants.{PartsMismatch, InitFailed, NoMemory}
+use Rattle.sv_lifecycle.specs.declared.begin.Answered.{Answered}
 use Rattle.sv_lifecycle.specs.declared.start_fault.StartFault.{StartFault}
 
 -- The `init` calls of a start.
@@ -66,27 +67,26 @@ pub record Stands {S F L : Type 0} (its_context : List ℕ) (app : WebApp) (init
   pub initialised : live.initialised ≡ initialised inits.begun
   pub standings : (place : ℕ) → place < length app.servlets → standing_at live.standings place ≡ standing_after inits.begun place
 
-abbrev pub is_no_memory : Init → Bool
-is_no_memory init_answers.Ready = false
-is_no_memory init_answers.Unavailable = false
-is_no_memory init_answers.Failed = false
-is_no_memory init_answers.NoMemory = true
-
--- A component stopped the start, and the flag says whether it ran out of memory.
-abbrev pub StoppedFor : Bool → Inits → Type 0
-StoppedFor memory inits = (answered : Answered) × (inits.stopper ≡ Some answered) × (is_no_memory answered.answer ≡ memory)
-
 -- The reason why no component was called. A mismatch takes precedence.
 abbrev pub RefusesUntouched : {S F L : Type 0} → WebApp → Parts S F L → StartCode → Type 0
 RefusesUntouched app parts PartsMismatch = Fits app parts → ⊥
-RefusesUntouched app parts InitFailed = ⊥
+RefusesUntouched app parts (InitFailed place) = ⊥
 RefusesUntouched app parts NoMemory = Fits app parts
 
--- The reason why a start was undone. Running out of memory takes precedence over a failed `init`.
-abbrev pub RefusesUndone : Inits → StartCode → JournalState → Type 0
-RefusesUndone inits PartsMismatch after = ⊥
-RefusesUndone inits InitFailed after = StoppedFor false inits × (after.whole ≡ true)
-RefusesUndone inits NoMemory after = (after.whole ≡ false) ⊎ StoppedFor true inits
+-- The reason of the component at a place, whose result stopped the start: it failed, or it ran out of memory.
+abbrev pub code_at : Place → Init → StartCode
+code_at place init_answers.NoMemory = NoMemory
+code_at place answer = InitFailed place
+
+-- The reason for an undone start: that of the component that stopped it, unless the journal is broken.
+abbrev pub code_of : Option Answered → Bool → StartCode
+code_of (Some answered) true = code_at answered.place answered.answer
+code_of stopper whole = NoMemory
+
+-- A start was undone because a component stopped it or the journal broke, and the code is the reason.
+pub record RefusesUndone (inits : Inits) (code : StartCode) (after : JournalState) : Type 0 where
+  pub is_code : code ≡ code_of inits.stopper after.whole
+  pub has_cause : inits.stopper ≡ None → after.whole ≡ false
 
 -- The result of a start with this outcome.
 abbrev pub IsResultOf : {S F L : Type 0} → List ℕ → WebApp → Parts S F L → Outcome → Result (LiveState S F L) (StartFault S F L) → JournalState → Type 0
@@ -107,9 +107,3 @@ pub record Starts {S F L : Type 0} (moving : ComponentSteps S F L) (context : Li
   pub outcome : Outcome
   pub made : Runs moving (world context parts before) (calls_of app outcome) (world context (parts_in result) after)
   pub is : IsResultOf context app parts outcome result after
-
--- The reason for an undone start, given the result of the component that stopped it and whether the journal is whole.
-abbrev pub code_of : Option Init → Bool → StartCode
-code_of (Some init_answers.NoMemory) whole = NoMemory
-code_of stopper false = NoMemory
-code_of stopper true = InitFailed

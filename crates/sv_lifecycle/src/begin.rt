@@ -15,13 +15,22 @@ use sv_component::{Filter, Init, Listener, Servlet, Standing};
 use sv_journal::Journal;
 use sv_live::{Parts, Place};
 
+/// A component whose `init` was called, with the result.
+#[derive(Clone, Copy)]
+pub(crate) struct Answered {
+    /// The component.
+    pub place: Place,
+    /// The result of its `init`.
+    pub answer: Init,
+}
+
 /// The progress of a start.
 #[derive(Clone, Copy)]
 pub(crate) struct Begun {
     /// The number of initialized components, which come first in the plan's order.
     pub initialised: usize,
-    /// The result of the component that stopped the start, if any.
-    pub stopper: Option<Init>,
+    /// The component that stopped the start, if any.
+    pub stopper: Option<Answered>,
 }
 
 /// Initializes the components in the plan's order, until one stops the start or the journal breaks.
@@ -57,7 +66,7 @@ pub(crate) fn begin_all<S: Servlet, F: Filter, L: Listener>(
         if !lets_go_on(place, answer) {
             return Begun {
                 initialised,
-                stopper: Some(answer),
+                stopper: Some(Answered { place, answer }),
             };
         }
         initialised = plan.keep(initialised, place, answer);

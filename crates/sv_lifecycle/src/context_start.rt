@@ -5,17 +5,17 @@ ghost use Rattle.std.specs.Prelude.{◌≡◌};
 ghost use Rattle.sv_descriptor.specs.declared.web_app.WebApp.{WebApp as AppData};
 ghost use Rattle.sv_lifecycle.specs.Fit.{Fits};
 ghost use Rattle.sv_lifecycle.specs.Plan.{IsPlan};
-ghost use Rattle.sv_lifecycle.specs.Starting.{Starts, code_of};
+ghost use Rattle.sv_lifecycle.specs.Starting.{Starts, code_at, code_of};
 
-use crate::begin::begin_all;
+use crate::begin::{Answered, begin_all};
 use crate::fit::fits;
 use crate::plan::Plan;
-use crate::start_fault::{StartCode, StartFault};
+use crate::start_fault::StartFault;
 use std::alloc::Global;
 use sv_component::{Event, Filter, Init, Listener, Servlet};
 use sv_descriptor::Descriptor;
-use sv_journal::Journal;
-use sv_live::{Live, Parts, end_all};
+use sv_journal::{Journal, StartCode};
+use sv_live::{Live, Parts, Place, end_all};
 use sv_session::Sessions;
 
 /// Starts a context. The listeners are notified first, then the filters are initialized in descriptor order, and then
@@ -98,13 +98,25 @@ fn run<S: Servlet, F: Filter, L: Listener>(
     Err(StartFault { code, parts })
 }
 
-// Returns the reason for an undone start. A broken journal takes precedence over a failed `init`.
-fn code_of(stopper: Option<Init>, whole: bool) -> StartCode
+// Returns the reason for an undone start: that of the component that stopped it, unless the journal is broken.
+fn code_of(stopper: Option<Answered>, whole: bool) -> StartCode
     ensures { result ≡ code_of stopper whole }
 {
     match stopper {
-        Some(Init::NoMemory) => StartCode::NoMemory,
-        _ if !whole => StartCode::NoMemory,
-        _ => StartCode::InitFailed,
+        Some(Answered { place, answer }) if whole => code_at(place, answer),
+        Some(_) => StartCode::NoMemory,
+        None => StartCode::NoMemory,
+    }
+}
+
+// Returns the reason for a start that the component at a place stopped with this result.
+fn code_at(place: Place, answer: Init) -> StartCode
+    ensures { result ≡ code_at place answer }
+{
+    match answer {
+        Init::NoMemory => StartCode::NoMemory,
+        Init::Ready => StartCode::InitFailed(place),
+        Init::Unavailable => StartCode::InitFailed(place),
+        Init::Failed => StartCode::InitFailed(place),
     }
 }

@@ -15,4 +15,5 @@ pub use context_start::start;
 pub use deployment::Deployment;
 pub use fit::fits;
 pub use laws::{stops_mirror_starts, undone_starts_mirror};
-pub use start_fault::{StartCode, StartFault};
+pub use start_fault::StartFault;
+pub use sv_journal::StartCode;

@@ -1,7 +1,7 @@
 use Rattle.std.proofs.Common.{subst}
 use Rattle.sv_lifecycle.specs.Fit.{Fits}
 use Rattle.sv_lifecycle.specs.Starting.{Starts}
-use Rattle.sv_lifecycle.specs.declared.start_fault.StartCode.TheVariants as codes
+use Rattle.sv_journal.specs.declared.start_code.StartCode.TheVariants as codes
 use Rattle.sv_lifecycle.proofs.Attempts.{did_nothing, own_plan}
 use Rattle.sv_lifecycle.proofs.context_start.start.Goals as goal
 use Rattle.sv_component.specs.Steps.{steps_of}
