@@ -6,7 +6,9 @@ use Rattle.sv_streams.specs.declared.line_reader.TheConstants.{MAX_READS}
 use Rattle.sv_connection.specs.declared.over.Over.{Over}
 use Rattle.sv_run.specs.Events.{Happening, Opened}
 use Rattle.sv_run.specs.Reacting.{Reacting, Reacts}
+use Rattle.sv_run.specs.RunFault.{of_step}
 use Rattle.sv_run.specs.declared.happening.Reaction.{Reaction}
+use Rattle.sv_run.specs.declared.run_fault.RunFault.{RunFault}
 use Rattle.sv_run.specs.declared.step_fault.StepFault.{StepFault}
 use Rattle.sv_streams.specs.Calls.{AreMade, Call, Making, reads}
 
@@ -19,6 +21,11 @@ AreTold {C} tells before (moment ∷ moments) after = (between : C) × tells bef
 abbrev pub told_as : Over → Result Reaction StepFault → Result Over StepFault
 told_as over (Ok reaction) = Ok over
 told_as over (Err fault) = Err fault
+
+-- What the caller of a connection gets: how it ended, or the fault of the run.
+abbrev pub reported : Result Over StepFault → Result Over RunFault
+reported (Ok over) = Ok over
+reported (Err fault) = Err (of_step fault)
 
 -- The result is how the connection ended, or the fault of a refused event.
 abbrev pub IsResult : Ending → Result Reaction StepFault → Result Over StepFault → Type 0
@@ -59,3 +66,8 @@ module _ {R S C : Type 0} (steps : Reacting R) (makes : Making S) (tells : C →
 
     abbrev pub Connects : Type 0
     Connects = IsRefused ⊎ IsServed
+
+  -- A connection is served, and its result is reported.
+  abbrev pub RunsConnection : ℕ → R → S → C → Result Over RunFault → R → S → C → Type 0
+  RunsConnection connection before stream clock result after stream_after clock_after =
+      (ended : Result Over StepFault) × Connects connection before stream clock ended after stream_after clock_after × (result ≡ reported ended)

@@ -18,7 +18,6 @@ pub mod Pieces
 pub mod Polling
 pub mod Rounds
 pub mod Running
-pub mod ServeFault
 pub mod Serving
 pub mod Slots
 pub mod States

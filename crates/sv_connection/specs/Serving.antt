@@ -5,10 +5,10 @@ use Rattle.sv_connection.specs.declared.over.Over.{Over}
 use Rattle.sv_run.specs.Reacting.{Reacting}
 use Rattle.sv_run.specs.declared.step_fault.StepFault.{StepFault}
 use Rattle.sv_streams.specs.Calls.{Making}
-use Rattle.sv_connection.specs.ServeFault.{fault_of}
 use Rattle.sv_connection.specs.declared.acceptor.AcceptFailed.{AcceptFailed}
-use Rattle.sv_connection.specs.declared.serve_fault.ServeFault.{ServeFault}
-use Rattle.sv_connection.specs.declared.serve_fault.ServeFault.TheVariants.{Connection}
+use Rattle.sv_run.specs.RunFault.{of_step}
+use Rattle.sv_run.specs.declared.run_fault.RunFault.{RunFault}
+use Rattle.sv_run.specs.declared.run_fault.RunFault.TheVariants.{Connection}
 
 module _ {R A P C : Type 0} (steps : Reacting R) (accepts : A → Result P AcceptFailed → A → Type 0) (parts : A → P → A → Type 0) (makes : Making P)
     (tells : C → ℕ → C → Type 0) where
@@ -22,7 +22,7 @@ module _ {R A P C : Type 0} (steps : Reacting R) (accepts : A → Result P Accep
     pub connects : Connects steps makes tells number before peer clock answer after peer_after clock_after
 
   -- No connection was accepted.
-  pub record IsNotAccepted (before : R) (acceptor : A) (clock : C) (fault : ServeFault) (after : R) (acceptor_after : A) (clock_after : C) : Type 0 where
+  pub record IsNotAccepted (before : R) (acceptor : A) (clock : C) (fault : RunFault) (after : R) (acceptor_after : A) (clock_after : C) : Type 0 where
     pub failed : AcceptFailed
     pub is_failed : accepts acceptor (Err failed) acceptor_after
     pub is_fault : fault ≡ Connection
@@ -30,12 +30,12 @@ module _ {R A P C : Type 0} (steps : Reacting R) (accepts : A → Result P Accep
     pub same_clock : clock_after ≡ clock
 
   -- The connection of this number is accepted and ends, or it is not accepted, or one of its events is refused.
-  abbrev pub ServesNext : ℕ → R → A → C → Result (Unit {0}) ServeFault → R → A → C → Type 0
+  abbrev pub ServesNext : ℕ → R → A → C → Result (Unit {0}) RunFault → R → A → C → Type 0
   ServesNext number before acceptor clock (Ok done) after acceptor_after clock_after =
       (over : Over) × Courses number before acceptor clock (Ok over) after acceptor_after clock_after
   ServesNext number before acceptor clock (Err fault) after acceptor_after clock_after =
       IsNotAccepted before acceptor clock fault after acceptor_after clock_after
-      ⊎ ((refusal : StepFault) × (fault ≡ fault_of refusal) × Courses number before acceptor clock (Err refusal) after acceptor_after clock_after)
+      ⊎ ((refusal : StepFault) × (fault ≡ of_step refusal) × Courses number before acceptor clock (Err refusal) after acceptor_after clock_after)
 
   module _ (before : R) (acceptor : A) (clock : C) where
     -- This many connections were served one after another, numbered from 1.
@@ -46,12 +46,12 @@ module _ {R A P C : Type 0} (steps : Reacting R) (accepts : A → Result P Accep
         × ServesNext (served + 1) between acceptor_between clock_between (Ok tt) after acceptor_after clock_after
 
     -- All connections are served, or some are and the next one fails.
-    abbrev pub ServesUpTo : ℕ → Result (Unit {0}) ServeFault → R → A → C → Type 0
+    abbrev pub ServesUpTo : ℕ → Result (Unit {0}) RunFault → R → A → C → Type 0
     ServesUpTo count (Ok done) after acceptor_after clock_after = AreServed count after acceptor_after clock_after
     ServesUpTo count (Err fault) after acceptor_after clock_after =
         (served : ℕ) × (served < count) × (between : R) × (acceptor_between : A) × (clock_between : C)
         × AreServed served between acceptor_between clock_between
         × ServesNext (served + 1) between acceptor_between clock_between (Err fault) after acceptor_after clock_after
 
-  abbrev pub Serves : ℕ → R → A → C → Result (Unit {0}) ServeFault → R → A → C → Type 0
+  abbrev pub Serves : ℕ → R → A → C → Result (Unit {0}) RunFault → R → A → C → Type 0
   Serves count before acceptor clock result after acceptor_after clock_after = ServesUpTo before acceptor clock count result after acceptor_after clock_after

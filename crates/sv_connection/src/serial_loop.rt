@@ -4,9 +4,8 @@ ghost use Rattle.std.specs.Prelude.{◌<◌, length};
 ghost use Rattle.sv_connection.specs.Serving.{Serves, ServesNext};
 
 use crate::acceptor::Acceptor;
-use crate::connection::run_connection;
-use crate::serve_fault::{ServeFault, fault_of};
-use sv_run::EventHandler;
+use crate::connection::connect;
+use sv_run::{EventHandler, RunFault};
 use sv_streams::Clock;
 
 /// Accepts `count` connections one after another, numbered from 1. Each is served until it ends and its stream is
@@ -14,14 +13,16 @@ use sv_streams::Clock;
 /// empty.
 ///
 /// # Errors
-/// See [`ServeFault`]. No connection is accepted after a fault.
+/// [`RunFault::Connection`] if no connection could be accepted, or the handler refused an event for a reason other than
+/// memory, and [`RunFault::NoMemory`] if memory ran out. No connection is accepted after a fault, and the accepted
+/// streams are closed.
 pub fn serve_connections<R: EventHandler, A: Acceptor, C: Clock>(
     handler: &mut R,
     acceptor: &mut A,
     clock: &mut C,
     count: u64,
     buffer: &mut [u8],
-) -> Result<(), ServeFault>
+) -> Result<(), RunFault>
     requires { 0 < length buffer.old }
     ensures { Serves R.steps A.accepts A.parts A.Peer.makes C.tells count handler.old acceptor.old clock.old result handler.new acceptor.new clock.new }
 {
@@ -41,18 +42,18 @@ fn serve_next<R: EventHandler, A: Acceptor, C: Clock>(
     clock: &mut C,
     number: u64,
     buffer: &mut [u8],
-) -> Result<(), ServeFault>
+) -> Result<(), RunFault>
     requires { 0 < length buffer.old }
     ensures { ServesNext R.steps A.accepts A.parts A.Peer.makes C.tells number handler.old acceptor.old clock.old result handler.new acceptor.new clock.new }
 {
     let mut peer = match acceptor.accept() {
         Ok(peer) => peer,
-        Err(_) => return Err(ServeFault::Connection),
+        Err(_) => return Err(RunFault::Connection),
     };
-    let served = run_connection(handler, number, &mut peer, clock, buffer);
+    let served = connect(handler, number, &mut peer, clock, buffer);
     acceptor.part(peer);
     match served {
         Ok(_) => Ok(()),
-        Err(refusal) => Err(fault_of(refusal)),
+        Err(refusal) => Err(RunFault::of_step(refusal)),
     }
 }

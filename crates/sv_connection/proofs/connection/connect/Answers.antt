@@ -1,6 +1,6 @@
 use Rattle.std.proofs.Common.{refl, arith}
 use Rattle.sv_connection.proofs.CourseLemmas.{limit_met, over_then, turn_more}
-use Rattle.sv_connection.proofs.connection.run_connection.Goals as goal
+use Rattle.sv_connection.proofs.connection.connect.Goals as goal
 
 pub returns-in-Some : goal.returns-in-Some
 returns-in-Some g c =
