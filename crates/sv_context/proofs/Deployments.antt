@@ -13,8 +13,8 @@ use Rattle.sv_live.specs.Standing as standing
 use Rattle.sv_live.specs.Standing.{LiveState, live_world}
 use Rattle.sv_live.specs.World.{world}
 use Rattle.sv_live.specs.declared.live.Parts.{Parts}
-use Rattle.sv_lifecycle.specs.declared.start_fault.StartCode.{StartCode}
-use Rattle.sv_lifecycle.specs.declared.start_fault.StartCode.TheVariants.{NoMemory, PartsMismatch}
+use Rattle.sv_journal.specs.declared.start_code.StartCode.{StartCode}
+use Rattle.sv_journal.specs.declared.start_code.StartCode.TheVariants.{NoMemory, PartsMismatch}
 use Rattle.sv_lifecycle.specs.declared.start_fault.StartFault.{StartFault}
 use Rattle.sv_policy.specs.Compiled.{Standing}
 use Rattle.sv_realm.specs.declared.account.User.{User}

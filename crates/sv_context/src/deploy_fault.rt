@@ -1,6 +1,7 @@
 //! Faults of deployments.
 
-use sv_lifecycle::{Deployment, StartCode};
+use sv_journal::StartCode;
+use sv_lifecycle::Deployment;
 use sv_text::Text;
 
 /// A context that was not deployed.
