@@ -1,5 +1,5 @@
 -- Contexts that start have the policies of the deployments.
-use Rattle.std.proofs.Common.{◌≡◌, List, [], ◌∷◌, Result, Ok, Err, refl, ap, ◌∙◌}
+use Rattle.std.proofs.Common.{◌≡◌, [], ◌∷◌, Result, Ok, Err, refl, ap, ◌∙◌}
 use Rattle.sv_component.specs.Steps.{ComponentSteps}
 use Rattle.sv_container.specs.Explaining.{ExplainsWhatWasDeployed, policies_of_contexts}
 use Rattle.sv_context.specs.Deployment.{declared_policy, deployed}

@@ -1,5 +1,5 @@
 -- Contexts that stop without notifications about their sessions.
-use Rattle.std.proofs.Common.{◌≡◌, true, List, [], ◌∷◌, ◌++◌, length, map, refl, sym, ap, ◌∙◌, subst}
+use Rattle.std.proofs.Common.{true, List, [], ◌∷◌, length, map, sym, ap, subst}
 use Rattle.sv_component.proofs.Running.{runs_grown}
 use Rattle.sv_component.specs.Runs.{IsRun}
 use Rattle.sv_component.specs.Steps.{ComponentSteps}

@@ -1,8 +1,6 @@
 pub mod Container
 pub mod Explaining
-pub mod NewCode
 pub mod Paths
-pub mod RunFault
 pub mod Running
 pub mod Script
 pub mod SeededStart

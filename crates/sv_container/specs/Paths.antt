@@ -1,8 +1,9 @@
 -- The context paths of a container, which differ (Jakarta Servlet 6.0, section 12.1).
 use Rattle.std.specs.Prelude.{◌≡◌, ℕ, ◌≤◌, true, false, List, [], ◌∷◌, ◌++◌, length, slice_get, Some}
 use Rattle.sv_container.specs.declared.container.TheConstants.{MAX_CONTEXTS}
-use Rattle.sv_container.specs.declared.new_fault.NewCode.{NewCode}
-use Rattle.sv_container.specs.declared.new_fault.NewCode.TheVariants.{DuplicateContext, TooManyContexts, PartsMismatch, InitFailed, NoMemory}
+use Rattle.sv_journal.specs.declared.start_code.NewCode.{NewCode}
+use Rattle.sv_journal.specs.declared.start_code.NewCode.TheVariants.{DuplicateContext, TooManyContexts, Start}
+use Rattle.sv_journal.specs.declared.start_code.StartCode.TheVariants.{PartsMismatch, InitFailed, NoMemory}
 use Rattle.sv_descriptor.specs.Names.{repeats}
 use Rattle.sv_descriptor.specs.Table.{is_among}
 
@@ -23,6 +24,6 @@ pub record ArePermitted (paths : List (List ℕ)) : Type 0 where
 abbrev pub Forbids : NewCode → List (List ℕ) → List ℕ → Type 0
 Forbids DuplicateContext paths path = IsRepeatedFirst paths path
 Forbids TooManyContexts paths path = (repeats paths ≡ false) × (slice_get paths MAX_CONTEXTS ≡ Some path)
-Forbids NoMemory paths path = path ≡ []
-Forbids PartsMismatch paths path = ⊥
-Forbids InitFailed paths path = ⊥
+Forbids (Start NoMemory) paths path = path ≡ []
+Forbids (Start PartsMismatch) paths path = ⊥
+Forbids (Start (InitFailed place)) paths path = ⊥

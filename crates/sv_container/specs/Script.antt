@@ -3,18 +3,19 @@ use Rattle.std.specs.Prelude.{◌≡◌, ℕ, List, Result, Ok, Err}
 use Rattle.sv_component.specs.Steps.{ComponentSteps}
 use Rattle.sv_container.specs.Starting.{Starts}
 use Rattle.sv_container.specs.declared.container.Container.{Container}
-use Rattle.sv_container.specs.declared.new_fault.NewCode.{NewCode}
-use Rattle.sv_container.specs.declared.new_fault.NewCode.TheVariants as codes_of_start
 use Rattle.sv_container.specs.declared.new_fault.NewFault.{NewFault}
 use Rattle.sv_lifecycle.specs.declared.deployment.Deployment.{Deployment}
 use Rattle.sv_journal.specs.Journal.{JournalState, new_journal}
+use Rattle.sv_journal.specs.declared.start_code.NewCode.{NewCode}
+use Rattle.sv_journal.specs.declared.start_code.NewCode.TheVariants as codes
+use Rattle.sv_journal.specs.declared.start_code.StartCode.TheVariants as reasons
 use Rattle.sv_script.specs.declared.replay_fault.ReplayFault.{ReplayFault}
+use Rattle.sv_script.specs.declared.replay_fault.ReplayFault.TheVariants as replays
 use Rattle.sv_script.specs.Printed.{start_text}
 use Rattle.sv_script.specs.Whole.{PrintsOf, RunsWhole}
-use Rattle.sv_container.specs.RunFault.{ended_by, fault_of}
 use Rattle.sv_container.specs.Running.{StepsOf, StopsOf}
-use Rattle.sv_container.specs.declared.run_fault.RunFault.{RunFault}
-use Rattle.sv_container.specs.declared.run_fault.RunFault.TheVariants.{Start, NoMemory}
+use Rattle.sv_run.specs.declared.run_fault.RunFault.{RunFault}
+use Rattle.sv_run.specs.declared.run_fault.RunFault.TheVariants.{Script, Start, Output, NoMemory}
 use Rattle.sv_streams.specs.Calls.{Making}
 use Rattle.sv_run.specs.Counted.{DrawsCount}
 use Rattle.sv_run.specs.declared.counted_words.CountedWords.{CountedWords}
@@ -27,6 +28,16 @@ draws before pair after = DrawsCount before.drawn pair after.drawn
 abbrev pub AreFresh : CountedWords → Type 0
 AreFresh words = words.drawn ≡ 0
 
+-- the fault of a run from the fault of the replay of its script
+abbrev pub fault_of : ReplayFault → RunFault
+fault_of (replays.Script line) = Script line
+fault_of replays.Output = Output
+fault_of replays.NoMemory = NoMemory
+
+abbrev pub ended_by : Result (Unit {0}) ReplayFault → Result (Unit {0}) RunFault
+ended_by (Ok done) = Ok done
+ended_by (Err fault) = Err (fault_of fault)
+
 -- a start was refused: its entries are the whole output
 abbrev pub refused_by : NewCode → List ℕ → Result (Unit {0}) ReplayFault → Result (Unit {0}) RunFault
 refused_by code context (Ok done) = Err (Start code context)
@@ -38,15 +49,8 @@ PrintsRefused takes code context started output result after =
 
 -- if memory ran out, nothing is written
 abbrev pub EndsUnstarted : {O : Type 0} → Making O → NewCode → List ℕ → JournalState → O → Result (Unit {0}) RunFault → O → Type 0
-EndsUnstarted takes codes_of_start.NoMemory context started output result after = (result ≡ Err NoMemory) × (after ≡ output)
-EndsUnstarted takes codes_of_start.DuplicateContext context started output result after =
-    PrintsRefused takes codes_of_start.DuplicateContext context started output result after
-EndsUnstarted takes codes_of_start.TooManyContexts context started output result after =
-    PrintsRefused takes codes_of_start.TooManyContexts context started output result after
-EndsUnstarted takes codes_of_start.PartsMismatch context started output result after =
-    PrintsRefused takes codes_of_start.PartsMismatch context started output result after
-EndsUnstarted takes codes_of_start.InitFailed context started output result after =
-    PrintsRefused takes codes_of_start.InitFailed context started output result after
+EndsUnstarted takes (codes.Start reasons.NoMemory) context started output result after = (result ≡ Err NoMemory) × (after ≡ output)
+EndsUnstarted takes code context started output result after = PrintsRefused takes code context started output result after
 
 module _ {S F L I O : Type 0} (moving : ComponentSteps S F L) (gives : Making I)
     (takes : Making O) where

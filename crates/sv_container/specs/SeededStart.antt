@@ -2,25 +2,23 @@
 use Rattle.std.specs.Prelude.{◌≡◌, ℕ, List, Result, Ok, Err}
 use Rattle.rand_chacha.specs.ChaCha.{of_seed}
 use Rattle.sv_component.specs.Steps.{ComponentSteps}
-use Rattle.sv_container.specs.NewCode.{code_number}
 use Rattle.sv_container.specs.Starting.{Starts}
 use Rattle.sv_container.specs.declared.container.Container.{Container}
-use Rattle.sv_container.specs.declared.new_fault.NewCode.{NewCode}
-use Rattle.sv_container.specs.declared.new_fault.NewCode.TheVariants as code
 use Rattle.sv_container.specs.declared.new_fault.NewFault.{NewFault}
 use Rattle.sv_lifecycle.specs.declared.deployment.Deployment.{Deployment}
 use Rattle.sv_journal.specs.Journal.{JournalState, new_journal}
+use Rattle.sv_journal.specs.StartCode.{new_code_number}
+use Rattle.sv_journal.specs.declared.start_code.NewCode.{NewCode}
+use Rattle.sv_journal.specs.declared.start_code.NewCode.TheVariants.{Start}
+use Rattle.sv_journal.specs.declared.start_code.StartCode.TheVariants.{NoMemory}
 use Rattle.sv_program.specs.declared.command_fault.CommandFault.{CommandFault}
 use Rattle.sv_program.specs.declared.command_fault.CommandFault.TheVariants as fault
 use Rattle.sv_run.specs.declared.seeded_words.SeededWords.{SeededWords}
 
 -- the fault of a container that did not start, from its code and the context path that goes with it
 abbrev pub start_fault : NewCode → List ℕ → CommandFault
-start_fault code.NoMemory context = fault.NoMemory
-start_fault code.DuplicateContext context = fault.Start (code_number code.DuplicateContext) context
-start_fault code.TooManyContexts context = fault.Start (code_number code.TooManyContexts) context
-start_fault code.PartsMismatch context = fault.Start (code_number code.PartsMismatch) context
-start_fault code.InitFailed context = fault.Start (code_number code.InitFailed) context
+start_fault (Start NoMemory) context = fault.NoMemory
+start_fault code context = fault.Start (new_code_number code) context
 
 -- the words of a seed, from the beginning of its key stream
 abbrev pub AreWordsOf : List ℕ → SeededWords → Type 0

@@ -1,8 +1,7 @@
 -- The start of a container (Jakarta Servlet 6.0, sections 2.3.1, 6.2.1 and 11.3.3).
-use Rattle.std.specs.Prelude.{◌≡◌, ◌⊎◌, List, Result, Ok, Err}
+use Rattle.std.specs.Prelude.{◌≡◌, ◌⊎◌, ℕ, List, [], Result, Ok, Err}
 use Rattle.sv_component.specs.Steps.{ComponentSteps}
 use Rattle.sv_container.specs.Container.{state_of}
-use Rattle.sv_container.specs.NewCode.{code_of, named_path}
 use Rattle.sv_container.specs.Paths.{ArePermitted, Forbids}
 use Rattle.sv_container.specs.declared.container.Container.{Container}
 use Rattle.sv_container.specs.declared.new_fault.NewFault.{NewFault}
@@ -12,13 +11,22 @@ use Rattle.sv_context.specs.declared.deploy_fault.DeployAllFault.{DeployAllFault
 use Rattle.sv_lifecycle.specs.declared.deployment.Deployment.{Deployment}
 use Rattle.sv_run.specs.Host.{opening}
 use Rattle.sv_journal.specs.Journal.{JournalState}
+use Rattle.sv_journal.specs.declared.start_code.NewCode.TheVariants.{Start}
+use Rattle.sv_journal.specs.declared.start_code.StartCode.{StartCode}
+use Rattle.sv_journal.specs.declared.start_code.StartCode.TheVariants.{PartsMismatch, InitFailed, NoMemory}
+
+-- the context path that goes with the code of a context: empty if memory ran out
+abbrev pub named_path : StartCode → List ℕ → List ℕ
+named_path PartsMismatch path = path
+named_path (InitFailed place) path = path
+named_path NoMemory path = []
 
 module _ {S F L : Type 0} (moving : ComponentSteps S F L) where
   -- one of the deployments does not become a context, and the contexts before it are undeployed again
   pub record Fails (deployments : List (Deployment S F L)) (before : JournalState) (fault : NewFault S F L) (after : JournalState) : Type 0 where
     pub failure : DeployAllFault S F L
     pub fails : FailsAll moving deployments before failure after
-    pub code : fault.code ≡ code_of failure.code
+    pub code : fault.code ≡ Start failure.code
     pub context : fault.context ≡ named_path failure.code failure.context
     pub back : fault.deployments.items ≡ failure.deployments.items
 

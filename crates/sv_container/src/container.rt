@@ -20,5 +20,5 @@ pub struct Container<S, F, L, W> {
     ghost room_to_stop: { HasRoomToStop (length (state_of host).world.contexts) stop },
 }
 
-/// The maximum number of contexts of a container.
+/// The maximum number of contexts of a container. A container with more deployments does not start.
 pub const MAX_CONTEXTS: usize = 64;

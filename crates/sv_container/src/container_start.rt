@@ -3,21 +3,20 @@
 ghost use Rattle.sv_component.specs.Steps.{steps_of};
 ghost use Rattle.std.specs.Prelude.{◌≡◌, IfOk, length, map};
 ghost use Rattle.sv_container.specs.Container.{state_of};
-ghost use Rattle.sv_container.specs.NewCode.{code_of, named_path};
 ghost use Rattle.sv_container.specs.Paths.{ArePermitted};
-ghost use Rattle.sv_container.specs.Starting.{Starts};
+ghost use Rattle.sv_container.specs.Starting.{Starts, named_path};
 ghost use Rattle.sv_context.specs.Room.{HasRoomToStop, IsReady};
 ghost use Rattle.sv_context.specs.Several.{paths_of};
 ghost use Rattle.sv_run.specs.Host.{opening};
 
 use crate::container::Container;
-use crate::new_fault::{NewCode, NewFault};
+use crate::new_fault::NewFault;
 use crate::refusal::{Refusal, no_path, permit};
 use std::alloc::Global;
 use sv_component::{Filter, Listener, Servlet};
 use sv_context::{Context, DeployAllFault, Room, StopRoom, deploy_all};
-use sv_journal::Journal;
-use sv_lifecycle::{Deployment, StartCode};
+use sv_journal::{Journal, NewCode, StartCode};
+use sv_lifecycle::Deployment;
 use sv_mapping::ContextIndex;
 use sv_run::Host;
 use sv_text::{NoMemory, Text};
@@ -109,7 +108,7 @@ fn container_of<S, F, L, W>(
 
 // Returns the fault of a container whose contexts did not start.
 fn fault_of<S, F, L>(alloc: Global, fault: DeployAllFault<S, F, L>) -> NewFault<S, F, L>
-    ensures code { result.code ≡ code_of fault.code }
+    ensures code { result.code ≡ NewCode.Start fault.code }
     ensures context { result.context ≡ named_path fault.code fault.context }
     ensures deployments { result.deployments.items ≡ fault.deployments.items }
 {
@@ -119,7 +118,7 @@ fn fault_of<S, F, L>(alloc: Global, fault: DeployAllFault<S, F, L>) -> NewFault<
         deployments,
     } = fault;
     NewFault {
-        code: NewCode::of_start(code),
+        code: NewCode::Start(code),
         context: named_path(alloc, code, context),
         deployments,
     }
@@ -131,7 +130,7 @@ fn named_path(alloc: Global, code: StartCode, path: Text) -> Text
 {
     match code {
         StartCode::PartsMismatch => path,
-        StartCode::InitFailed => path,
+        StartCode::InitFailed(_) => path,
         StartCode::NoMemory => no_path(alloc),
     }
 }

@@ -10,7 +10,6 @@ mod explanation;
 mod laws;
 mod new_fault;
 mod refusal;
-mod run_fault;
 mod running;
 mod script;
 mod seeded_start;
@@ -20,10 +19,11 @@ pub use container::{Container, MAX_CONTEXTS};
 pub use laws::{
     containers_explain_what_was_deployed, limits_are_as_stated, stopped_containers_stop_quietly,
 };
-pub use new_fault::{NewCode, NewFault};
-pub use run_fault::RunFault;
+pub use new_fault::NewFault;
 pub use running::Running;
 pub use script::run_script;
 pub use seeded_start::start;
 pub use sv_context::{Shutdown, let_go};
+pub use sv_journal::NewCode;
 pub use sv_policy::{ExplainFault, Explanation, HiddenCause};
+pub use sv_run::RunFault;

@@ -6,9 +6,10 @@ ghost use Rattle.sv_context.specs.Several.{paths_of};
 ghost use Rattle.sv_descriptor.specs.Names.{repeats};
 
 use crate::container::MAX_CONTEXTS;
-use crate::new_fault::{NewCode, NewFault};
+use crate::new_fault::NewFault;
 use std::alloc::Global;
 use sv_descriptor::Names;
+use sv_journal::{NewCode, StartCode};
 use sv_lifecycle::Deployment;
 use sv_text::{NoMemory, Text};
 
@@ -22,11 +23,11 @@ pub(crate) struct Refusal {
 impl Refusal {
     /// Returns the refusal for running out of memory.
     pub(crate) fn no_memory(alloc: Global) -> Refusal
-        ensures code { result.code ≡ NewCode.NoMemory }
+        ensures code { result.code ≡ NewCode.Start StartCode.NoMemory }
         ensures context { result.context ≡ [] }
     {
         Refusal {
-            code: NewCode::NoMemory,
+            code: NewCode::Start(StartCode::NoMemory),
             context: no_path(alloc),
         }
     }

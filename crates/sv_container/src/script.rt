@@ -1,18 +1,17 @@
 //! Runs a script.
 
 ghost use Rattle.sv_component.specs.Steps.{steps_of};
-ghost use Rattle.sv_container.specs.Script.{PrintsRefused, EndsUnstarted, RunsScript};
+ghost use Rattle.std.specs.Prelude.{◌≡◌};
+ghost use Rattle.sv_container.specs.Script.{EndsUnstarted, PrintsRefused, RunsScript, ended_by, fault_of};
 
 use crate::container::Container;
-use crate::new_fault::NewCode;
-use crate::run_fault::{RunFault, ended_by, fault_of};
 use crate::running::Running;
 use std::alloc::Global;
 use sv_component::{Filter, Listener, Servlet};
-use sv_journal::Journal;
+use sv_journal::{Journal, NewCode, StartCode};
 use sv_lifecycle::Deployment;
-use sv_run::CountedWords;
-use sv_script::{print_start, run_started};
+use sv_run::{CountedWords, RunFault};
+use sv_script::{ReplayFault, print_start, run_started};
 use sv_streams::{Sink, Source};
 use sv_text::Text;
 
@@ -56,11 +55,15 @@ fn refuse<O: Sink>(
     ensures { EndsUnstarted O.makes code context started.now output.old result output.new }
 {
     match code {
-        NewCode::NoMemory => Err(RunFault::NoMemory),
+        NewCode::Start(StartCode::NoMemory) => Err(RunFault::NoMemory),
+        NewCode::Start(StartCode::PartsMismatch) => {
+            print_refused(alloc, code, context, started, output)
+        }
+        NewCode::Start(StartCode::InitFailed(_)) => {
+            print_refused(alloc, code, context, started, output)
+        }
         NewCode::DuplicateContext => print_refused(alloc, code, context, started, output),
         NewCode::TooManyContexts => print_refused(alloc, code, context, started, output),
-        NewCode::PartsMismatch => print_refused(alloc, code, context, started, output),
-        NewCode::InitFailed => print_refused(alloc, code, context, started, output),
     }
 }
 
@@ -76,5 +79,26 @@ fn print_refused<O: Sink>(
     match print_start(alloc, started, output) {
         Ok(()) => Err(RunFault::Start(code, context)),
         Err(fault) => Err(fault_of(fault)),
+    }
+}
+
+// Returns the result of a run from the result of the replay of its script.
+fn ended_by(played: Result<(), ReplayFault>) -> Result<(), RunFault>
+    ensures { result ≡ ended_by played }
+{
+    match played {
+        Ok(()) => Ok(()),
+        Err(fault) => Err(fault_of(fault)),
+    }
+}
+
+// Returns the fault of a run from the fault of the replay of its script.
+fn fault_of(fault: ReplayFault) -> RunFault
+    ensures { result ≡ fault_of fault }
+{
+    match fault {
+        ReplayFault::Script(line) => RunFault::Script(line),
+        ReplayFault::Output => RunFault::Output,
+        ReplayFault::NoMemory => RunFault::NoMemory,
     }
 }

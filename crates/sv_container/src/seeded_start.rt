@@ -3,12 +3,12 @@
 ghost use Rattle.sv_component.specs.Steps.{steps_of};
 ghost use Rattle.std.specs.Prelude.{◌≡◌, length};
 ghost use Rattle.sv_container.specs.SeededStart as spec;
+ghost use Rattle.sv_journal.specs.StartCode.{new_code_number};
 
 use crate::container::Container;
-use crate::new_fault::NewCode;
 use std::alloc::Global;
 use sv_component::{Filter, Listener, Servlet};
-use sv_journal::Journal;
+use sv_journal::{Journal, NewCode, StartCode};
 use sv_lifecycle::Deployment;
 use sv_program::CommandFault;
 use sv_run::SeededWords;
@@ -47,9 +47,18 @@ pub fn start<S: Servlet, F: Filter, L: Listener>(
 fn start_fault(code: NewCode, context: Text) -> CommandFault
     ensures { result ≡ spec.start_fault code context }
 {
-    if code == NewCode::NoMemory {
-        return CommandFault::NoMemory;
+    match code {
+        NewCode::Start(StartCode::NoMemory) => CommandFault::NoMemory,
+        NewCode::Start(StartCode::PartsMismatch) => numbered(code, context),
+        NewCode::Start(StartCode::InitFailed(_)) => numbered(code, context),
+        NewCode::DuplicateContext => numbered(code, context),
+        NewCode::TooManyContexts => numbered(code, context),
     }
+}
+
+fn numbered(code: NewCode, context: Text) -> CommandFault
+    ensures { result ≡ CommandFault.Start (new_code_number code) context }
+{
     CommandFault::Start {
         code: code.number(),
         context,
