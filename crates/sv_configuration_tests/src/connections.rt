@@ -77,19 +77,19 @@ ab    | 1   | 12 | 1  | lost   | <a@0><b@1   | open1 piece1 piece1 lost1 | 12
 ab    | 1   | 13 | 1  | lost   | <a@0><b@1>  | open1 piece1 piece1 lost1 | 13
 -- also where what failed was to close
 a!    | 100 | 2 | 1   | lost   | ""          | open1 piece1 lost1       | 2
--- a refused event is the answer, and nothing follows
-ab    | 100 | 0 | 901 | Stopped            | ""     | ""                 | 0
-ab    | 100 | 0 | 902 | BadConnection      | ""     | ""                 | 0
-ab    | 100 | 0 | 903 | TooManyConnections | ""     | ""                 | 0
-ab    | 100 | 0 | 904 | no memory          | ""     | ""                 | 0
+-- a refused event ends the connection with a fault, and nothing follows
+ab    | 100 | 0 | 901 | socket    | ""     | ""                 | 0
+ab    | 100 | 0 | 902 | socket    | ""     | ""                 | 0
+ab    | 100 | 0 | 903 | socket    | ""     | ""                 | 0
+ab    | 100 | 0 | 904 | no memory | ""     | ""                 | 0
 a?4   | 1   | 0 | 1   | closed | <a@0><?@1><4@2> | open1 piece1 piece1 piece1 end1 | 19
-?4    | 100 | 0 | 1   | no memory          | ""     | open1              | 1
+?4    | 100 | 0 | 1   | no memory | ""     | open1              | 1
 ??    | 100 | 0 | 1   | closed | <??@0>          | open1 piece1 end1  | 3
-ab?1  | 2   | 0 | 1   | Stopped            | <ab@0> | open1 piece1       | 5
-ab    | 100 | 0 | 911 | Stopped            | <ab@0> | open911 piece911   | 3
-ab    | 100 | 0 | 914 | no memory          | <ab@0> | open914 piece914   | 3
-ab    | 100 | 3 | 922 | BadConnection      | <ab@0> | open922 piece922   | 3
-ab    | 100 | 3 | 924 | no memory          | <ab@0> | open924 piece924   | 3
+ab?1  | 2   | 0 | 1   | socket    | <ab@0> | open1 piece1       | 5
+ab    | 100 | 0 | 911 | socket    | <ab@0> | open911 piece911   | 3
+ab    | 100 | 0 | 914 | no memory | <ab@0> | open914 piece914   | 3
+ab    | 100 | 3 | 922 | socket    | <ab@0> | open922 piece922   | 3
+ab    | 100 | 3 | 924 | no memory | <ab@0> | open924 piece924   | 3
 "#;
 
 #[test]

@@ -5,7 +5,7 @@ use crate::deployments::TestContainer;
 use std::alloc::Global;
 use sv_connection::{AcceptFailed, Acceptor, Over, run_connection, serve_connections};
 use sv_rows::{Asks, Draft, Strays, cell, hold, unescaped};
-use sv_run::StepFault;
+use sv_run::RunFault;
 use sv_streams::{Clock, MemoryStream};
 use sv_text::NoMemory;
 
@@ -81,7 +81,7 @@ fn connect(number: u64, mut stream: MemoryStream, container: &mut TestContainer,
     tell_written(stream.written(), told);
 }
 
-fn tell_end(end: Result<Over, StepFault>, told: &mut Draft) {
+fn tell_end(end: Result<Over, RunFault>, told: &mut Draft) {
     match end {
         Ok(Over::Closed) => told.add("closed"),
         Ok(Over::Lost) => told.add("lost"),

@@ -5,7 +5,7 @@ use crate::deployments::{TestContainer, TestDeployment, TestFault, deployments};
 use crate::outcome::{Law, Outcome};
 use std::alloc::Global;
 use sv_container::{Container, NewCode};
-use sv_journal::Journal;
+use sv_journal::{Journal, StartCode};
 use sv_run::{CountedWords, Happening, Reaction, StepFault};
 use sv_text::NoMemory;
 
@@ -126,7 +126,7 @@ fn started<V: Visit>(
 fn unstarted<V: Visit>(fault: TestFault, counts: &Counts) -> Outcome {
     let returned = fault.deployments.len();
     let (code, _) = fault.into_cause();
-    if code != NewCode::NoMemory {
+    if !matches!(code, NewCode::Start(StartCode::NoMemory)) {
         Outcome::Broken(Law::Refusals)
     } else if returned != V::CONTEXTS {
         Outcome::Broken(Law::Returns)
