@@ -15,9 +15,9 @@ use sv_component::{Filter, Init, Listener, Servlet, Standing};
 use sv_journal::Journal;
 use sv_live::{Parts, Place};
 
-/// A component whose `init` was called, with the result.
+/// A component whose `init` was called, with the result. The contract of a start lists them.
 #[derive(Clone, Copy)]
-pub(crate) struct Answered {
+pub struct Answered {
     /// The component.
     pub place: Place,
     /// The result of its `init`.

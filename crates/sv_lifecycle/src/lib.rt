@@ -11,6 +11,7 @@ mod order;
 mod plan;
 mod start_fault;
 
+pub use begin::Answered;
 pub use context_start::start;
 pub use deployment::Deployment;
 pub use fit::fits;
