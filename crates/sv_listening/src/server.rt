@@ -1,6 +1,6 @@
 //! Serving all connections of an address at once.
 
-use crate::sockets::{file_fault, front_fault_of};
+use crate::sockets::{fault_of, file_fault};
 use std::alloc::Global;
 use std::cell::Cell;
 use std::io::Write;
@@ -10,7 +10,7 @@ use std::time::Clock;
 use sv_connection::{Limits, LoopEnd, Queries, WithoutQueries, run_event_loop};
 use sv_program::{CommandFault, print_line};
 use sv_readiness::{Listening, RoundClock, Sockets};
-use sv_run::EventHandler;
+use sv_run::{EventHandler, RunFault};
 
 /// The address that a server listens on, the limits of its connections and its control socket.
 #[derive(Clone, Copy)]
@@ -148,7 +148,7 @@ fn run_sockets<H: Clock, R: EventHandler + Queries>(
     let served = match result {
         Ok(()) if poller.has_failed() => Err(CommandFault::Socket),
         Ok(()) => Ok(()),
-        Err(fault) => Err(front_fault_of(fault)),
+        Err(fault) => Err(fault_of(RunFault::of_step(fault))),
     };
     (served, handler)
 }

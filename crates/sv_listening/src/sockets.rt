@@ -3,9 +3,8 @@
 use std::alloc::Global;
 use std::io;
 use std::net::{Ipv4Addr, Net, TcpListener};
-use sv_connection::ServeFault;
 use sv_program::CommandFault;
-use sv_run::StepFault;
+use sv_run::RunFault;
 use sv_text::{NoMemory, Text};
 
 /// Listens at the port, only for connections of this machine.
@@ -13,12 +12,17 @@ pub(crate) fn listen<H: Net>(host: &H, port: u16) -> io::Result<H::Listener> {
     TcpListener::bind(host, (Ipv4Addr::LOCALHOST, port))
 }
 
-/// Returns the fault of a command for a fault of its connections.
-pub(crate) fn fault_of(fault: ServeFault) -> CommandFault {
+/// Returns the fault of a command for the fault of its run.
+pub(crate) fn fault_of(fault: RunFault) -> CommandFault {
     match fault {
-        ServeFault::Connection => CommandFault::Socket,
-        ServeFault::NoMemory => CommandFault::NoMemory,
-        ServeFault::Output => CommandFault::Output,
+        RunFault::Script(line) => CommandFault::Script { line },
+        RunFault::Start(code, context) => CommandFault::Start {
+            code: code.number(),
+            context,
+        },
+        RunFault::Output => CommandFault::Output,
+        RunFault::NoMemory => CommandFault::NoMemory,
+        RunFault::Connection => CommandFault::Socket,
     }
 }
 
@@ -27,15 +31,5 @@ pub(crate) fn file_fault(alloc: Global, name: &str) -> CommandFault {
     match Text::copy_of(alloc, name) {
         Ok(name) => CommandFault::File(name),
         Err(NoMemory) => CommandFault::NoMemory,
-    }
-}
-
-/// Returns the fault of a command for a refused event.
-pub(crate) fn front_fault_of(fault: StepFault) -> CommandFault {
-    match fault {
-        StepFault::Stopped | StepFault::BadConnection | StepFault::TooManyConnections => {
-            CommandFault::Socket
-        }
-        StepFault::NoMemory => CommandFault::NoMemory,
     }
 }
