@@ -18,7 +18,8 @@ use Rattle.sv_component.specs.declared.standing.Standing.TheVariants.{Serving, G
 use Rattle.sv_context.specs.Retiring.{gone_at}
 use Rattle.sv_descriptor.specs.declared.web_app.WebApp.{WebApp}
 use Rattle.sv_journal.specs.Journal.{JournalState}
-use Rattle.sv_lifecycle.specs.Calls.{Answered, initialised, is_ready, lets_go_on, places_of}
+use Rattle.sv_lifecycle.specs.declared.begin.Answered.{Answered}
+use Rattle.sv_lifecycle.specs.Calls.{initialised, is_ready, lets_go_on, places_of}
 use Rattle.sv_lifecycle.specs.Order.{init_order}
 use Rattle.sv_live.specs.Standing.{LiveState}
 use Rattle.sv_lifecycle.specs.Standing.{is_out}

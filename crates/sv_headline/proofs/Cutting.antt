@@ -4,8 +4,9 @@ use Rattle.sv_component.specs.Steps.{ComponentSteps}
 use Rattle.sv_headline.specs.Until.{EveryRunIsLawfulUntilRefused}
 use Rattle.sv_container.specs.Starting.{Starts}
 use Rattle.sv_container.specs.declared.container.Container.{Container}
-use Rattle.sv_container.specs.declared.new_fault.NewCode.{NewCode}
-use Rattle.sv_container.specs.declared.new_fault.NewCode.TheVariants as code
+use Rattle.sv_journal.specs.declared.start_code.NewCode.{NewCode}
+use Rattle.sv_journal.specs.declared.start_code.NewCode.TheVariants as code
+use Rattle.sv_journal.specs.declared.start_code.StartCode.TheVariants as reasons
 use Rattle.sv_container.specs.declared.new_fault.NewFault.{NewFault}
 use Rattle.sv_context.specs.Theory.{theory}
 use Rattle.sv_lifecycle.specs.declared.deployment.Deployment.{Deployment}
@@ -19,10 +20,9 @@ use Rattle.sv_run.specs.Laws.{RequestsEnterExactlyWhereAllowed}
 use Rattle.sv_script.specs.Printed.{start_text}
 use Rattle.sv_script.specs.WholeLaws as runs
 use Rattle.sv_script.specs.Whole.{PrintsOf, RunsWhole}
-use Rattle.sv_container.specs.RunFault.{ended_by}
 use Rattle.sv_container.specs.Running.{StepsOf, StopsOf, run_of}
-use Rattle.sv_container.specs.Script.{AreFresh, Follows, EndsUnstarted, draws, refused_by}
-use Rattle.sv_container.specs.declared.run_fault.RunFault.TheVariants.{NoMemory}
+use Rattle.sv_container.specs.Script.{AreFresh, Follows, EndsUnstarted, draws, ended_by, refused_by}
+use Rattle.sv_run.specs.declared.run_fault.RunFault.TheVariants.{NoMemory}
 use Rattle.sv_streams.specs.Calls.{Making}
 use Rattle.sv_run.specs.declared.counted_words.CountedWords.{CountedWords}
 use Rattle.sv_headline.proofs.Printing.{like}
@@ -44,11 +44,11 @@ module _ {O : Type 0} (takes : Making O) (context : List ℕ) (started : Journal
   unprinted its_code (Err replays.NoMemory) prints same = prints
 
   unwritten : (its_code : NewCode) → EndsUnstarted takes its_code context started output (Err NoMemory) output_after → output_after ≡ output
-  unwritten code.NoMemory refused = refused.1
+  unwritten (code.Start reasons.NoMemory) refused = refused.1
   unwritten code.DuplicateContext refused = unprinted code.DuplicateContext refused.0 refused.1 refused.2
   unwritten code.TooManyContexts refused = unprinted code.TooManyContexts refused.0 refused.1 refused.2
-  unwritten code.PartsMismatch refused = unprinted code.PartsMismatch refused.0 refused.1 refused.2
-  unwritten code.InitFailed refused = unprinted code.InitFailed refused.0 refused.1 refused.2
+  unwritten (code.Start reasons.PartsMismatch) refused = unprinted (code.Start reasons.PartsMismatch) refused.0 refused.1 refused.2
+  unwritten (code.Start (reasons.InitFailed place)) refused = unprinted (code.Start (reasons.InitFailed place)) refused.0 refused.1 refused.2
 
 module _ {S F L I O : Type 0} (moving : ComponentSteps S F L) (gives : Making I)
     (takes : Making O) where

@@ -2,17 +2,17 @@
 use Rattle.std.proofs.Common.{◌≡◌, ◌⊎◌, ℕ, ◌+◌, ◌<◌, true, List, [], ◌∷◌, ◌++◌, Result, Ok, Err, refl, sym, ap, ◌∙◌, inl, inr, subst, append_assoc, length, arith}
 use Rattle.std.specs.List.{concat}
 use Rattle.sv_component.specs.Steps.{ComponentSteps}
-use Rattle.sv_container.specs.RunFault.{ended_by}
 use Rattle.sv_container.specs.Running.{StepsOf, StopsOf, run_of}
-use Rattle.sv_container.specs.Script.{AreFresh, EndsUnstarted, Follows, draws, refused_by}
+use Rattle.sv_container.specs.Script.{AreFresh, EndsUnstarted, Follows, draws, ended_by, refused_by}
 use Rattle.sv_container.specs.Starting.{Starts}
 use Rattle.sv_container.specs.declared.container.Container.{Container}
-use Rattle.sv_container.specs.declared.new_fault.NewCode.{NewCode}
-use Rattle.sv_container.specs.declared.new_fault.NewCode.TheVariants as code
+use Rattle.sv_journal.specs.declared.start_code.NewCode.{NewCode}
+use Rattle.sv_journal.specs.declared.start_code.NewCode.TheVariants as code
+use Rattle.sv_journal.specs.declared.start_code.StartCode.TheVariants as reasons
 use Rattle.sv_container.specs.declared.new_fault.NewFault.{NewFault}
-use Rattle.sv_container.specs.declared.run_fault.RunFault.{RunFault}
-use Rattle.sv_container.specs.declared.run_fault.RunFault.TheVariants.{Start, Output as FailedOutput}
-use Rattle.sv_container.specs.declared.run_fault.RunFault.TheVariants as run
+use Rattle.sv_run.specs.declared.run_fault.RunFault.{RunFault}
+use Rattle.sv_run.specs.declared.run_fault.RunFault.TheVariants.{Start, Output as FailedOutput}
+use Rattle.sv_run.specs.declared.run_fault.RunFault.TheVariants as run
 use Rattle.sv_context.specs.Theory.{theory}
 use Rattle.sv_headline.proofs.Printing.{like}
 use Rattle.sv_headline.proofs.Starting.{runs_lawfully}
@@ -220,11 +220,11 @@ module _ {O : Type 0} (takes : Making O) (context : List ℕ) (started : Journal
       × (result ≡ refused_by its_code context printed))
 
   is_printed : (its_code : NewCode) → EndsUnstarted takes its_code context started output result output_after → IsPrinted its_code
-  is_printed code.NoMemory refused = inl refused.0
+  is_printed (code.Start reasons.NoMemory) refused = inl refused.0
   is_printed code.DuplicateContext refused = inr refused
   is_printed code.TooManyContexts refused = inr refused
-  is_printed code.PartsMismatch refused = inr refused
-  is_printed code.InitFailed refused = inr refused
+  is_printed (code.Start reasons.PartsMismatch) refused = inr refused
+  is_printed (code.Start (reasons.InitFailed place)) refused = inr refused
 
 module _ {S F L I O : Type 0} (moving : ComponentSteps S F L) (gives : Making I)
     (takes : Making O) where

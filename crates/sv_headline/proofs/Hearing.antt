@@ -26,7 +26,8 @@ use Rattle.sv_headline.specs.Message.{IsDoneBy, IsLawfulMessage, exchange_for, f
 use Rattle.sv_headline.specs.Refused.{is_dispatched}
 use Rattle.sv_headline.specs.Transitions.{Closing, ContextAnswer, Continuation, EditAnswer, Expiries, Expiry, IsExpiry, Leads, LeadsThrough, OwnAnswer, Refusal, Transition, calls_at, edits_at, told_of, under}
 use Rattle.sv_journal.specs.Journal.{JournalState, broken, new_journal}
-use Rattle.sv_lifecycle.specs.Calls.{Answered as Initialized, inited, start_calls}
+use Rattle.sv_lifecycle.specs.Calls.{inited, start_calls}
+use Rattle.sv_lifecycle.specs.declared.begin.Answered.{Answered as Initialized}
 use Rattle.sv_lifecycle.specs.Starting as starting
 use Rattle.sv_lifecycle.specs.declared.deployment.Deployment.{Deployment}
 use Rattle.sv_lifecycle.specs.declared.start_fault.StartFault.{StartFault}

@@ -14,7 +14,8 @@ use Rattle.sv_exchange.specs.Changing.{SetHeader, SetStatus, Write}
 use Rattle.sv_headline.proofs.Calling.{then_of}
 use Rattle.sv_headline.specs.Listeners.{component_calls, events_within, notifications, within_request}
 use Rattle.sv_headline.specs.Refused.{is_dispatch}
-use Rattle.sv_lifecycle.specs.Calls.{Answered as Initialized, inited}
+use Rattle.sv_lifecycle.specs.Calls.{inited}
+use Rattle.sv_lifecycle.specs.declared.begin.Answered.{Answered as Initialized}
 use Rattle.sv_listeners.specs.Telling.{hearing_order, told}
 use Rattle.sv_live.specs.Calls.{destroyed}
 use Rattle.sv_live.specs.SessionEnds as ends

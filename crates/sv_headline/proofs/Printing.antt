@@ -4,8 +4,9 @@ use Rattle.sv_component.specs.Steps.{ComponentSteps}
 use Rattle.sv_headline.specs.Until.{EveryRunIsLawfulUntilRefused}
 use Rattle.sv_container.specs.Starting.{Starts}
 use Rattle.sv_container.specs.declared.container.Container.{Container}
-use Rattle.sv_container.specs.declared.new_fault.NewCode.{NewCode}
-use Rattle.sv_container.specs.declared.new_fault.NewCode.TheVariants as code
+use Rattle.sv_journal.specs.declared.start_code.NewCode.{NewCode}
+use Rattle.sv_journal.specs.declared.start_code.NewCode.TheVariants as code
+use Rattle.sv_journal.specs.declared.start_code.StartCode.TheVariants as reasons
 use Rattle.sv_container.specs.declared.new_fault.NewFault.{NewFault}
 use Rattle.sv_context.specs.Theory.{theory}
 use Rattle.sv_lifecycle.specs.declared.deployment.Deployment.{Deployment}
@@ -20,10 +21,9 @@ use Rattle.sv_run.specs.Reacting.{StepsLike}
 use Rattle.sv_script.specs.Printed.{start_text}
 use Rattle.sv_script.specs.WholeLaws as runs
 use Rattle.sv_script.specs.Whole.{PrintsOf}
-use Rattle.sv_container.specs.RunFault.{ended_by}
 use Rattle.sv_container.specs.Running.{StepsOf, StopsOf, run_of}
-use Rattle.sv_container.specs.Script.{AreFresh, Follows, PrintsRefused, EndsUnstarted, draws, refused_by}
-use Rattle.sv_container.specs.declared.run_fault.RunFault.{RunFault}
+use Rattle.sv_container.specs.Script.{AreFresh, Follows, PrintsRefused, EndsUnstarted, draws, ended_by, refused_by}
+use Rattle.sv_run.specs.declared.run_fault.RunFault.{RunFault}
 use Rattle.sv_streams.specs.Calls.{Making}
 use Rattle.sv_run.specs.declared.counted_words.CountedWords.{CountedWords}
 
@@ -49,11 +49,11 @@ module _ {O : Type 0} (takes : Making O) (context : List ℕ) (started : Journal
 
   unwritten : (its_code : NewCode) (result : Result (Unit {0}) RunFault) → EndsUnstarted takes its_code context started output result output_after
       → IsWritten result → ⊥
-  unwritten code.NoMemory result refused written = subst IsWritten refused.0 written
+  unwritten (code.Start reasons.NoMemory) result refused written = subst IsWritten refused.0 written
   unwritten code.DuplicateContext result refused written = refused_unwritten code.DuplicateContext result refused written
   unwritten code.TooManyContexts result refused written = refused_unwritten code.TooManyContexts result refused written
-  unwritten code.PartsMismatch result refused written = refused_unwritten code.PartsMismatch result refused written
-  unwritten code.InitFailed result refused written = refused_unwritten code.InitFailed result refused written
+  unwritten (code.Start reasons.PartsMismatch) result refused written = refused_unwritten (code.Start reasons.PartsMismatch) result refused written
+  unwritten (code.Start (reasons.InitFailed place)) result refused written = refused_unwritten (code.Start (reasons.InitFailed place)) result refused written
 
 module _ {S F L I O : Type 0} (moving : ComponentSteps S F L) (gives : Making I)
     (takes : Making O) where

@@ -10,10 +10,9 @@ use Rattle.sv_script.specs.Replay.{Ends}
 use Rattle.sv_script.specs.declared.replay_fault.ReplayFault.{ReplayFault}
 use Rattle.sv_script.specs.Line.{asked}
 use Rattle.sv_script.specs.Printed.{shutdown_text, start_text}
-use Rattle.sv_container.specs.RunFault.{ended_by}
 use Rattle.sv_container.specs.Running.{StepsOf, StopsOf}
-use Rattle.sv_container.specs.Script.{draws}
-use Rattle.sv_container.specs.declared.run_fault.RunFault.{RunFault}
+use Rattle.sv_container.specs.Script.{draws, ended_by}
+use Rattle.sv_run.specs.declared.run_fault.RunFault.{RunFault}
 use Rattle.sv_streams.specs.Calls.{AreMade, Call, Gave, ReadFailed, Took, WriteFailed, WritesAll, given, meets_end}
 use Rattle.sv_streams.specs.Memory.{IsMade, MemoryState}
 

@@ -11,8 +11,8 @@ use Rattle.sv_script.specs.Printed.{shutdown_text, start_text}
 use Rattle.sv_script.specs.WholeLaws.{Begins, IsCut}
 use Rattle.sv_container.specs.Running.{StepsOf, StopsOf}
 use Rattle.sv_container.specs.Script.{AreFresh, RunsScript, draws}
-use Rattle.sv_container.specs.declared.run_fault.RunFault.{RunFault}
-use Rattle.sv_container.specs.declared.run_fault.RunFault.TheVariants.{NoMemory}
+use Rattle.sv_run.specs.declared.run_fault.RunFault.{RunFault}
+use Rattle.sv_run.specs.declared.run_fault.RunFault.TheVariants.{NoMemory}
 use Rattle.sv_streams.specs.Calls.{Making}
 use Rattle.sv_run.specs.declared.counted_words.CountedWords.{CountedWords}
 

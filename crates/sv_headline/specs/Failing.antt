@@ -5,9 +5,9 @@ use Rattle.sv_container.specs.Running.{StepsOf, StopsOf}
 use Rattle.sv_container.specs.Script.{AreFresh, RunsScript, draws}
 use Rattle.sv_container.specs.Starting.{Starts}
 use Rattle.sv_container.specs.declared.container.Container.{Container}
-use Rattle.sv_container.specs.declared.new_fault.NewCode.{NewCode}
+use Rattle.sv_journal.specs.declared.start_code.NewCode.{NewCode}
 use Rattle.sv_container.specs.declared.new_fault.NewFault.{NewFault}
-use Rattle.sv_container.specs.declared.run_fault.RunFault.TheVariants.{Start, Output}
+use Rattle.sv_run.specs.declared.run_fault.RunFault.TheVariants.{Start, Output}
 use Rattle.sv_headline.specs.Headline.{RunsLawfully}
 use Rattle.sv_journal.specs.Journal.{JournalState, new_journal}
 use Rattle.sv_lifecycle.specs.declared.deployment.Deployment.{Deployment}

@@ -13,11 +13,10 @@ use Rattle.sv_script.specs.Asked.{events_of}
 use Rattle.sv_script.specs.Replay.{Played}
 use Rattle.sv_script.specs.declared.replay_fault.ReplayFault.{ReplayFault}
 use Rattle.sv_script.specs.WholeLaws.{PlaysALawfulRun, IsOneText}
-use Rattle.sv_container.specs.RunFault.{ended_by}
 use Rattle.sv_container.specs.Running.{StepsOf, StopsOf, run_of}
-use Rattle.sv_container.specs.Script.{AreFresh, RunsScript, draws}
-use Rattle.sv_container.specs.declared.run_fault.RunFault.{RunFault}
-use Rattle.sv_container.specs.declared.run_fault.RunFault.TheVariants.{Script, Start, Output, NoMemory, Connection}
+use Rattle.sv_container.specs.Script.{AreFresh, RunsScript, draws, ended_by}
+use Rattle.sv_run.specs.declared.run_fault.RunFault.{RunFault}
+use Rattle.sv_run.specs.declared.run_fault.RunFault.TheVariants.{Script, Start, Output, NoMemory, Connection}
 use Rattle.sv_container.specs.declared.running.Running.{Running}
 use Rattle.sv_streams.specs.Calls.{Making}
 use Rattle.sv_run.specs.declared.counted_words.CountedWords.{CountedWords}

@@ -18,7 +18,8 @@ use Rattle.sv_headline.specs.Record.{IsLawfulRun}
 use Rattle.sv_headline.specs.Refused.{is_dispatched}
 use Rattle.sv_headline.specs.Transitions.{Closing, ContextAnswer, Continuation, EditAnswer, Expiries, OwnAnswer, Refusal, Transition, calls_at}
 use Rattle.sv_journal.specs.Journal.{JournalState, broken, new_journal}
-use Rattle.sv_lifecycle.specs.Calls.{Answered, start_calls}
+use Rattle.sv_lifecycle.specs.Calls.{start_calls}
+use Rattle.sv_lifecycle.specs.declared.begin.Answered.{Answered}
 use Rattle.sv_lifecycle.specs.declared.deployment.Deployment.{Deployment}
 use Rattle.sv_listeners.specs.Telling.{told}
 use Rattle.sv_live.specs.SessionEnds.{by_number, end_events}
