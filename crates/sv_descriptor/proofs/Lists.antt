@@ -1,5 +1,5 @@
 -- Lists read item by item.
-use Rattle.std.proofs.Common.{◌≡◌, Bool, List, [], ◌∷◌, map, refl, ap}
+use Rattle.std.proofs.Common.{◌≡◌, ℕ, ◌+◌, suc, ◌<◌, Bool, List, [], ◌∷◌, length, map, drop, get_or, drop-cons, add-one, refl, sym, ap, ◌∙◌}
 use Rattle.std.specs.Prelude.{◌||◌}
 use Rattle.std.specs.List.{list_any}
 use Rattle.toml.specs.View.{view, items_view}
@@ -13,3 +13,7 @@ list_any-map p f (x ∷ xs) = ap (λ b. p (f x) || b) (list_any-map p f xs)
 pub items_list-items_view : (values : List Value) → items_list (items_view values) ≡ map view values
 items_list-items_view [] = refl
 items_list-items_view (v ∷ values) = ap (λ rest. view v ∷ rest) (items_list-items_view values)
+
+pub drop-here : {X : Type 0} (xs : List X) (i : ℕ) (x : X) → i < length xs → x ≡ get_or xs i x → drop i xs ≡ x ∷ drop (i + 1) xs
+drop-here xs i x below at =
+    drop-cons xs i x below ∙ ap (λ y. y ∷ drop (suc i) xs) (sym at) ∙ ap (λ k. x ∷ drop k xs) (sym (add-one i))
