@@ -1,5 +1,5 @@
 -- A descriptor that was read is well-formed.
-use Rattle.std.proofs.Common.{◌≡◌, Bool, true, false, not, codes, Ok, refl, subst}
+use Rattle.std.proofs.Common.{◌≡◌, true, false, not, codes, Ok, subst}
 use Rattle.std.specs.List.{list_all}
 use Rattle.std.proofs.lemmas.Option.{IfSome_then}
 use Rattle.std.proofs.lemmas.List.Sums.{AllPass-from_list_all}

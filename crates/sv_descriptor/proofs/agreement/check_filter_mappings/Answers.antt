@@ -1,4 +1,4 @@
-use Rattle.std.proofs.Common.{◌≡◌, ◌||◌, ℕ, List, Bool, codes, ◌∙◌, ap, subst, sym}
+use Rattle.std.proofs.Common.{◌||◌, ℕ, List, Bool, codes, ◌∙◌, ap, subst, sym}
 use Rattle.std.specs.List.{list_all}
 use Rattle.sv_text.specs.Gives.{Gives}
 use Rattle.sv_descriptor.specs.Agreement.{unknown_servlet_steps}

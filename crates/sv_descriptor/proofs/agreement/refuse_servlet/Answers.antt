@@ -1,4 +1,4 @@
-use Rattle.std.proofs.Common.{◌≡◌, ◌||◌, ◌++◌, ◌∷◌, [], not, codes, ◌∙◌, ap, subst, ℕ, List, Bool}
+use Rattle.std.proofs.Common.{◌||◌, ◌++◌, ◌∷◌, [], not, codes, ◌∙◌, ap, subst, ℕ, List, Bool}
 use Rattle.std.specs.List.{position}
 use Rattle.std.specs.Option.{unwrap_or}
 use Rattle.sv_text.specs.Gives.{Gives}
