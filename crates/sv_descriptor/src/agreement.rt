@@ -37,8 +37,8 @@ pub fn check_agreement(alloc: Global, web_app: &WebApp) -> Result<(), LocatedRea
     let Some(filters) = distinct_names(alloc, declared)? else {
         return refuse_repeat(alloc, declared, "filter", "filter-name");
     };
-    let declared = web_app.rules.declared.as_slice();
-    check_distinct(alloc, declared, "security-role", "role-name")?;
+    let roles = web_app.rules.declared.as_slice();
+    check_distinct(alloc, roles, "security-role", "role-name")?;
     check_servlet_mappings(alloc, &servlets, web_app)?;
     check_filter_mappings(alloc, &servlets, &filters, web_app)
 }
@@ -54,13 +54,8 @@ fn check_servlet_mappings(
     let mappings = web_app.servlet_mappings.as_slice();
     if !are_mapped(servlets, mappings) {
         let place = first_unmapped(servlets, mappings).unwrap_or(0);
-        return refuse_item(
-            alloc,
-            FaultCode::UnknownServlet,
-            "servlet-mapping",
-            place,
-            "servlet-name",
-        );
+        let code = FaultCode::UnknownServlet;
+        return refuse_item(alloc, code, "servlet-mapping", place, "servlet-name");
     }
     let patterns = servlet_patterns(alloc, mappings)?;
     if repeats(alloc, patterns.as_slice())? {
@@ -158,13 +153,8 @@ fn check_filter_mappings(
     let mappings = web_app.filter_mappings.as_slice();
     if !have_filters(filters, mappings) {
         let place = first_without_filter(filters, mappings).unwrap_or(0);
-        return refuse_item(
-            alloc,
-            FaultCode::UnknownFilter,
-            "filter-mapping",
-            place,
-            "filter-name",
-        );
+        let code = FaultCode::UnknownFilter;
+        return refuse_item(alloc, code, "filter-mapping", place, "filter-name");
     }
     if !have_servlets(servlets, mappings) {
         return refuse_servlet(alloc, servlets, mappings);
@@ -192,15 +182,8 @@ fn refuse_servlet(
     for (place, mapping) in mappings.iter().enumerate() {
         let names = mapping.servlet_names.as_slice();
         if !are_known(servlets, names) {
-            let unknown = first_unknown(servlets, names).unwrap_or(0);
-            return refuse_nested(
-                alloc,
-                code,
-                "filter-mapping",
-                place,
-                "servlet-name",
-                unknown,
-            );
+            let name = first_unknown(servlets, names).unwrap_or(0);
+            return refuse_nested(alloc, code, "filter-mapping", place, "servlet-name", name);
         }
     }
     refuse(alloc, code, "servlet-name")

@@ -1,9 +1,8 @@
 //! The faults of a configuration file, and their places.
 
-ghost use Rattle.std.specs.Prelude.{◌≡◌};
+ghost use Rattle.std.specs.Prelude.{◌≡◌, Err};
 ghost use Rattle.sv_text.specs.Gives.{Gives};
 ghost use Rattle.sv_descriptor.specs.Fault as spec;
-ghost use Rattle.std.specs.Prelude.{ℕ, List, Err};
 ghost use Rattle.sv_descriptor.specs.declared.fault.LocatedReadFault.TheVariants as located;
 ghost use Rattle.sv_descriptor.specs.declared.fault.ReadFault.TheVariants.{NoMemory};
 ghost use Rattle.sv_descriptor.specs.declared.fault.ValueStep.TheVariants.{Key, Item};
@@ -169,22 +168,6 @@ impl From<OutOfMemory> for ReadFault {
     }
 }
 
-impl From<AllocError> for ReadFault {
-    ghost from_gives = { λ _ fault. fault ≡ NoMemory };
-
-    fn from(_refused: AllocError) -> ReadFault {
-        ReadFault::NoMemory
-    }
-}
-
-impl<T: Drop> From<AllocFailed<T>> for ReadFault {
-    ghost from_gives = { λ _ fault. fault ≡ NoMemory };
-
-    fn from(_refused: AllocFailed<T>) -> ReadFault {
-        ReadFault::NoMemory
-    }
-}
-
 impl From<LocatedReadFault> for ReadFault {
     ghost from_gives = { λ located fault. fault ≡ spec.plain located };
 
@@ -234,10 +217,7 @@ pub fn refuse<T>(alloc: Global, code: FaultCode, key: &str) -> Result<T, Located
     }))
 }
 
-/// Returns the result of reading the value at a key of a table, seen from the table.
-///
-/// # Errors
-/// The fault of the value with one more step in front, or [`LocatedReadFault::NoMemory`].
+/// Returns the result of reading the value at a key of a table. A fault of the value gets the step to it in front.
 pub fn within_key<T: Drop>(
     alloc: Global,
     key: &str,
@@ -252,10 +232,7 @@ pub fn within_key<T: Drop>(
     }
 }
 
-/// Returns the result of reading an item of a list, seen from the list.
-///
-/// # Errors
-/// The fault of the item with one more step in front, or [`LocatedReadFault::NoMemory`].
+/// Returns the result of reading an item of a list. A fault of the item gets the step to it in front.
 pub fn within_item<T: Drop>(
     item: usize,
     read: Result<T, LocatedReadFault>,

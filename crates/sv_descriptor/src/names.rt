@@ -121,9 +121,6 @@ pub fn check_distinct<N: Named>(
 }
 
 /// Refuses a list because of the first name that repeats an earlier one. The name is at a key of an item of the list.
-///
-/// # Errors
-/// Always: [`FaultCode::DuplicateName`], or [`LocatedReadFault::NoMemory`].
 pub fn refuse_repeat<N: Named>(
     alloc: Global,
     items: &[N],

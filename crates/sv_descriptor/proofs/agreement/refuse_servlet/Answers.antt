@@ -14,7 +14,7 @@ pub returns-then-not-are_known : goal.returns-then-not-are_known
 returns-then-not-are_known c =
     let is_known : List ℕ → Bool = λ name. is_reserved_servlet name || is_among c.args.servlets.now name in
     let here = unknown-here is_known c.args.mappings.now c.loop-place.place c.index-mappings-place.result c.loop-place-test.true c.index-mappings-place.is (rw c.as_slice-names.ensures at c.if-not-are_known.ensures) in
-    let item = c.unwrap_or-unknown.ensures ∙ ap (λ r. unwrap_or r 0) c.first_unknown.ensures ∙ ap (λ names. unwrap_or (position (λ name. not (is_known name)) names) 0) c.as_slice-names.ensures in
+    let item = c.unwrap_or-name.ensures ∙ ap (λ r. unwrap_or r 0) c.first_unknown.ensures ∙ ap (λ names. unwrap_or (position (λ name. not (is_known name)) names) 0) c.as_slice-names.ensures in
     subst (λ steps. Gives located_fault c.refuse_nested.result (refuse_at UnknownServlet (codes "servlet-name") steps))
     (ap (λ n. item_key (codes "filter-mapping") c.loop-place.place (codes "servlet-name") ++ Item n ∷ []) item ∙ here ∙ c.loop-place.invariant)
     c.refuse_nested.ensures
