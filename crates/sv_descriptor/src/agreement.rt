@@ -43,6 +43,7 @@ pub fn check_agreement(alloc: Global, web_app: &WebApp) -> Result<(), LocatedRea
     check_filter_mappings(alloc, &servlets, &filters, web_app)
 }
 
+#[tactic(auto, using(crate::proofs::Lists::list_all_position))]
 fn check_servlet_mappings(
     alloc: Global,
     servlets: &Names<'_>,
@@ -52,8 +53,7 @@ fn check_servlet_mappings(
     ensures { Gives located_fault result (spec.servlet_mappings_fit web_app.now) }
 {
     let mappings = web_app.servlet_mappings.as_slice();
-    if !are_mapped(servlets, mappings) {
-        let place = first_unmapped(servlets, mappings).unwrap_or(0);
+    if let Some(place) = first_unmapped(servlets, mappings) {
         let code = FaultCode::UnknownServlet;
         return refuse_item(alloc, code, "servlet-mapping", place, "servlet-name");
     }
@@ -107,14 +107,6 @@ fn first_unmapped(servlets: &Names<'_>, mappings: &[ServletMapping]) -> Option<u
     mappings.iter().position(|mapping| !servlets.contains(mapping.servlet_name.as_str()))
 }
 
-fn are_mapped(servlets: &Names<'_>, mappings: &[ServletMapping]) -> bool
-    ensures { result ≡ list_all (λ mapping. is_among servlets.now mapping.servlet_name) mappings.now }
-{
-    mappings
-        .iter()
-        .all(|mapping| servlets.contains(mapping.servlet_name.as_str()))
-}
-
 fn servlet_patterns(alloc: Global, mappings: &[ServletMapping]) -> Result<Vec<&str>, NoMemory>
     ensures { IfOk result (λ texts. texts_of texts.items ≡ flat_map (λ mapping. mapping.url_patterns) mappings.now) }
 {
@@ -140,6 +132,7 @@ fn text_of(pattern: &Pattern) -> &str
     pattern.text()
 }
 
+#[tactic(auto, using(crate::proofs::Lists::list_all_position))]
 fn check_filter_mappings(
     alloc: Global,
     servlets: &Names<'_>,
@@ -151,8 +144,7 @@ fn check_filter_mappings(
     ensures { Gives located_fault result (spec.filter_mappings_fit web_app.now) }
 {
     let mappings = web_app.filter_mappings.as_slice();
-    if !have_filters(filters, mappings) {
-        let place = first_without_filter(filters, mappings).unwrap_or(0);
+    if let Some(place) = first_without_filter(filters, mappings) {
         let code = FaultCode::UnknownFilter;
         return refuse_item(alloc, code, "filter-mapping", place, "filter-name");
     }
@@ -195,14 +187,6 @@ fn first_unknown(servlets: &Names<'_>, names: &[Text]) -> Option<usize>
     names
         .iter()
         .position(|name| !is_known(servlets, name.as_str()))
-}
-
-fn have_filters(filters: &Names<'_>, mappings: &[FilterMapping]) -> bool
-    ensures { result ≡ list_all (λ mapping. is_among filters.now mapping.filter_name) mappings.now }
-{
-    mappings
-        .iter()
-        .all(|mapping| filters.contains(mapping.filter_name.as_str()))
 }
 
 fn have_servlets(servlets: &Names<'_>, mappings: &[FilterMapping]) -> bool

@@ -253,8 +253,8 @@ fn refuse_below_key<T>(
 ) -> Result<T, LocatedReadFault>
     ensures { Gives spec.located_fault result (spec.within (Key key.now) (Err located)) }
 {
-    let key = Text::copy_of(alloc, key)?;
-    refuse_below(ValueStep::Key(key), located)
+    let step = ValueStep::Key(Text::copy_of(alloc, key)?);
+    refuse_below(step, located)
 }
 
 /// Refuses a file because of a fault that has one more step in front.

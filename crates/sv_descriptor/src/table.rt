@@ -65,17 +65,12 @@ pub fn only_keys(
     ensures { Gives located_fault result (spec.only_keys (spec.texts known.now) (spec.texts ignored.now) (table_view table.now)) }
 {
     for key in table.keys() {
-        if !is_among(known, key.as_str()) && !is_among(ignored, key.as_str()) {
-            return refuse_key(alloc, key.as_str());
+        let key = key.as_str();
+        if !is_among(known, key) && !is_among(ignored, key) {
+            return within_key(alloc, key, refuse(alloc, FaultCode::UnknownKey, key));
         }
     }
     Ok(())
-}
-
-fn refuse_key(alloc: Global, key: &str) -> Result<(), LocatedReadFault>
-    ensures { Gives located_fault result (spec.unknown_key key.now) }
-{
-    within_key(alloc, key, refuse(alloc, FaultCode::UnknownKey, key))
 }
 
 fn is_among(texts: &[&str], text: &str) -> bool

@@ -1,9 +1,10 @@
 //! The users file.
 
-ghost use Rattle.std.specs.Prelude.{◌≡◌, IfOk};
+ghost use Rattle.std.specs.Prelude.{◌≡◌, IfOk, codes};
 ghost use Rattle.sv_text.specs.Gives.{Gives};
 ghost use Rattle.sv_descriptor.specs.Users as spec;
 ghost use Rattle.sv_descriptor.specs.Fault.{fault, located_fault};
+ghost use Rattle.sv_descriptor.specs.Names.{distinct};
 ghost use Rattle.sv_descriptor.specs.Table.{texts};
 
 use crate::document::read_document;
@@ -60,14 +61,16 @@ impl TableSchema for UsersTable {
             item: TableOf(UserTable),
         };
         let users = required(alloc, table, "user", &users)?;
-        check_distinct(
-            alloc,
-            user_names(alloc, users.as_slice())?.as_slice(),
-            "user",
-            "name",
-        )?;
+        check_names(alloc, users.as_slice())?;
         Ok(users)
     }
+}
+
+fn check_names(alloc: Global, users: &[User]) -> Result<(), LocatedReadFault>
+    ensures { Gives located_fault result (distinct (codes "user") (codes "name") (spec.user_names users.now)) }
+{
+    let names = user_names(alloc, users)?;
+    check_distinct(alloc, names.as_slice(), "user", "name")
 }
 
 fn user_names(alloc: Global, users: &[User]) -> Result<Vec<&str>, NoMemory>
