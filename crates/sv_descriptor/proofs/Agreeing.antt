@@ -1,16 +1,16 @@
 -- A descriptor that was read is well-formed.
-use Rattle.std.proofs.Common.{◌≡◌, Bool, true, false, not, codes, Ok, refl, subst}
+use Rattle.std.proofs.Common.{◌≡◌, true, false, not, codes, Ok, subst}
 use Rattle.std.specs.List.{list_all}
 use Rattle.std.proofs.lemmas.Option.{IfSome_then}
 use Rattle.std.proofs.lemmas.List.Sums.{AllPass-from_list_all}
 use Rattle.toml.specs.Data.{Members}
-use Rattle.sv_descriptor.specs.Fault.{check}
-use Rattle.sv_descriptor.specs.Names.{repeats}
+use Rattle.sv_descriptor.specs.Fault.{check_at, item_key}
+use Rattle.sv_descriptor.specs.Names.{distinct, first_repeat, repeats}
 use Rattle.sv_descriptor.specs.Table.{is_among}
-use Rattle.sv_descriptor.specs.declared.fault.FaultCode.TheVariants.{DuplicatePattern, UnknownServlet, UnknownFilter, DuplicateName}
+use Rattle.sv_descriptor.specs.declared.fault.FaultCode.TheVariants.{DuplicatePattern, UnknownServlet, UnknownFilter}
 use Rattle.sv_descriptor.proofs.Differing.{Differ-repeats, Contains-is_among}
-use Rattle.sv_descriptor.proofs.Yields.{bind-Ok, check-Ok}
-use Rattle.sv_descriptor.specs.Agreement.{elements_agree, names_differ, servlet_mappings_fit, servlet_names, filter_names, servlet_patterns, is_known_servlet}
+use Rattle.sv_descriptor.proofs.Yields.{bind-Ok, check_at-Ok, distinct-Ok, not-true}
+use Rattle.sv_descriptor.specs.Agreement.{first_place, pattern_steps, unknown_servlet_steps, elements_agree, names_differ, servlet_mappings_fit, servlet_names, filter_names, servlet_patterns, is_known_servlet}
 use Rattle.sv_descriptor.specs.Descriptor.{descriptor}
 use Rattle.sv_descriptor.specs.WebApp.{web_app}
 use Rattle.sv_descriptor.specs.WellFormed.{IsWellFormed}
@@ -27,26 +27,26 @@ record Agrees (app : WebApp) : Type 0 where
   filters_declared : list_all (λ mapping. is_among (filter_names app) mapping.filter_name) app.filter_mappings ≡ true
   servlets_known : list_all (λ mapping. list_all (is_known_servlet app) mapping.servlet_names) app.filter_mappings ≡ true
 
-not-true : (b : Bool) → not b ≡ true → b ≡ false
-not-true true h = cc
-not-true false h = refl
-
 elements_agree-Ok : (app : WebApp) (u : Unit {0}) → elements_agree app ≡ Ok u → Agrees app
 elements_agree-Ok app u e =
     bind-Ok (names_differ app) _ _ e (λ u1 names e1.
     bind-Ok (servlet_mappings_fit app) _ _ e1 (λ u2 servlets filters.
-    bind-Ok (check (not (repeats (servlet_names app))) DuplicateName (codes "servlet-name")) _ _ names (λ v1 c1 f1.
-    bind-Ok (check (not (repeats (filter_names app))) DuplicateName (codes "filter-name")) _ _ f1 (λ v2 c2 c3.
-    bind-Ok (check (list_all (λ mapping. is_among (servlet_names app) mapping.servlet_name) app.servlet_mappings) UnknownServlet (codes "servlet-name")) _ _ servlets (λ v4 c4 c5.
-    bind-Ok (check (list_all (λ mapping. is_among (filter_names app) mapping.filter_name) app.filter_mappings) UnknownFilter (codes "filter-name")) _ _ filters (λ v6 c6 c7.
+    let mapped = list_all (λ mapping. is_among (servlet_names app) mapping.servlet_name) app.servlet_mappings in
+    let mapped_steps = item_key (codes "servlet-mapping") (first_place (λ mapping. not (is_among (servlet_names app) mapping.servlet_name)) app.servlet_mappings) (codes "servlet-name") in
+    let filtered = list_all (λ mapping. is_among (filter_names app) mapping.filter_name) app.filter_mappings in
+    let filtered_steps = item_key (codes "filter-mapping") (first_place (λ mapping. not (is_among (filter_names app) mapping.filter_name)) app.filter_mappings) (codes "filter-name") in
+    bind-Ok (distinct (codes "servlet") (codes "servlet-name") (servlet_names app)) _ _ names (λ v1 c1 f1.
+    bind-Ok (distinct (codes "filter") (codes "filter-name") (filter_names app)) _ _ f1 (λ v2 c2 c3.
+    bind-Ok (check_at mapped UnknownServlet (codes "servlet-name") mapped_steps) _ _ servlets (λ v4 c4 c5.
+    bind-Ok (check_at filtered UnknownFilter (codes "filter-name") filtered_steps) _ _ filters (λ v6 c6 c7.
     record {
-      servlets_differ = not-true _ (check-Ok _ DuplicateName (codes "servlet-name") v1 c1);
-      filters_differ = not-true _ (check-Ok _ DuplicateName (codes "filter-name") v2 c2);
-      roles_differ = not-true _ (check-Ok _ DuplicateName (codes "role-name") u1 c3);
-      servlets_declared = check-Ok _ UnknownServlet (codes "servlet-name") v4 c4;
-      patterns_differ = not-true _ (check-Ok _ DuplicatePattern (codes "url-pattern") u2 c5);
-      filters_declared = check-Ok _ UnknownFilter (codes "filter-name") v6 c6;
-      servlets_known = check-Ok _ UnknownServlet (codes "servlet-name") u c7;
+      servlets_differ = distinct-Ok (codes "servlet") (codes "servlet-name") (servlet_names app) v1 c1;
+      filters_differ = distinct-Ok (codes "filter") (codes "filter-name") (filter_names app) v2 c2;
+      roles_differ = distinct-Ok (codes "security-role") (codes "role-name") app.rules.declared u1 c3;
+      servlets_declared = check_at-Ok mapped UnknownServlet (codes "servlet-name") mapped_steps v4 c4;
+      patterns_differ = not-true _ (check_at-Ok (not (repeats (servlet_patterns app))) DuplicatePattern (codes "url-pattern") (pattern_steps 0 app.servlet_mappings (first_repeat (servlet_patterns app))) u2 c5);
+      filters_declared = check_at-Ok filtered UnknownFilter (codes "filter-name") filtered_steps v6 c6;
+      servlets_known = check_at-Ok (list_all (λ mapping. list_all (is_known_servlet app) mapping.servlet_names) app.filter_mappings) UnknownServlet (codes "servlet-name") (unknown_servlet_steps (is_known_servlet app) 0 app.filter_mappings) u c7;
     }))))))
 
 well_formed : (app : WebApp) → HasElements app → Agrees app → IsWellFormed app

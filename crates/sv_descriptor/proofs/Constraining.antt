@@ -16,8 +16,11 @@ use Rattle.sv_descriptor.specs.Table.{optional, optional_or, required}
 use Rattle.sv_descriptor.specs.Value.{is_table, is_text, name, table_of, text_of}
 use Rattle.sv_descriptor.specs.declared.fault.FaultCode.TheVariants.{BothMethodLists}
 use Rattle.sv_descriptor.specs.declared.limits.TheConstants.{MAX_LIST_ITEMS}
-use Rattle.sv_descriptor.proofs.Yields.{Yields, bind-Ok, holds-Ok, list_of-short, table_of-yields, list_of-yields, list_items-Ok, required-Ok, optional-Ok, optional_or-Ok}
-use Rattle.sv_descriptor.specs.Collection.{collection, collection_table, collections, collections_within, covered_methods, method, methods, omitted_methods}
+use Rattle.sv_descriptor.specs.Fault.{within}
+use Rattle.sv_descriptor.specs.declared.fault.ValueStep.TheVariants.{Item}
+use Rattle.sv_descriptor.proofs.Yields.{Yields, bind-Ok, within-Ok, holds-Ok, list_of-short, table_of-yields, list_of-yields, list_items-Ok, required-Ok, optional-Ok, optional_or-Ok}
+use Rattle.sv_descriptor.specs.Collection.{collection, collection_table, collections, collections_within, covered_methods, method, methods, methods_of, omitted_methods}
+use Rattle.sv_constraints.specs.declared.constraint.Methods.{Methods}
 use Rattle.sv_descriptor.specs.Constraint.{auth_constraint, constraint, constraints, numbered, user_data_constraint}
 use Rattle.sv_descriptor.specs.Ignored.{element_keys, ignored_text}
 use Rattle.sv_descriptor.specs.Pattern.{pattern, patterns}
@@ -48,19 +51,24 @@ record IsCollection (room : ℕ) (c : Collection) : Type 0 where
   patterns : length c.patterns ≤ room
   methods : FewMethods c
 
+methods_of-Ok : (members : Members) (m : Methods) → methods_of members ≡ Ok m → length (named_methods m) ≤ MAX_LIST_ITEMS
+methods_of-Ok members m e =
+    bind-Ok (optional methods (codes "http-method") members) _ _ e (λ listed listed_read e1.
+    bind-Ok (optional (omitted_methods (is_some listed)) (codes "http-method-omission") members) _ _ e1 (λ omitted omitted_read e2.
+    holds-Ok (λ m. length (named_methods m) ≤ MAX_LIST_ITEMS) _ m e2 (covered-short listed omitted
+    (optional-Ok _ methods methods-short (codes "http-method") members listed listed_read)
+    (optional-Ok _ (omitted_methods (is_some listed)) (omitted-short (is_some listed)) (codes "http-method-omission") members omitted omitted_read))))
+
 collection-Ok : (room : ℕ) (members : Members) (c : Collection) → collection room members ≡ Ok c → IsCollection room c
 collection-Ok room members c e =
     bind-Ok (element_keys (codes "web-resource-name" ∷ codes "url-pattern" ∷ codes "http-method" ∷ codes "http-method-omission" ∷ []) members) _ _ e (λ _ _ e1.
     bind-Ok (optional (text_of ignored_text) (codes "web-resource-name") members) _ _ e1 (λ _ _ e2.
     bind-Ok (required (patterns 1 room) (codes "url-pattern") members) _ _ e2 (λ its_patterns read e3.
-    bind-Ok (optional methods (codes "http-method") members) _ _ e3 (λ listed listed_read e4.
-    bind-Ok (optional (omitted_methods (is_some listed)) (codes "http-method-omission") members) _ _ e4 (λ omitted omitted_read e5.
-    holds-Ok (IsCollection room) _ c e5 (record {
+    bind-Ok (methods_of members) _ _ e3 (λ its_methods methods_read e4.
+    holds-Ok (IsCollection room) _ c e4 (record {
       patterns = required-Ok (λ found. length found ≤ room) (patterns 1 room) (list_of-short 1 room is_text (text_of pattern)) (codes "url-pattern") members its_patterns read;
-      methods = covered-short listed omitted
-          (optional-Ok _ methods methods-short (codes "http-method") members listed listed_read)
-          (optional-Ok _ (omitted_methods (is_some listed)) (omitted-short (is_some listed)) (codes "http-method-omission") members omitted omitted_read);
-    }))))))
+      methods = methods_of-Ok members its_methods methods_read;
+    })))))
 
 collection_table-Ok : (room : ℕ) → Yields (IsCollection room) (collection_table room)
 unfolding collection_table
@@ -72,13 +80,13 @@ record AreCollections (room n : ℕ) (found : List Collection) : Type 0 where
   patterns : length (flat_map (λ c. c.patterns) found) ≤ room
   methods : All FewMethods found
 
-collections_within-Ok : (room : ℕ) (key : List ℕ) (values : List Data) (found : List Collection) → collections_within room key values ≡ Ok found → AreCollections room (length values) found
-collections_within-Ok room key [] found e = holds-Ok (AreCollections room 0) _ found e (record { count = refl; patterns = omega arith; methods = λ i d l. absurd (omega arith) })
-collections_within-Ok room key (value ∷ rest) found e =
-    bind-Ok (collection_table room key value) _ _ e (λ c read e1.
-    bind-Ok (collections_within (room - length c.patterns) key rest) _ _ e1 (λ others more e2.
-    let one = collection_table-Ok room key value c read in
-    let all = collections_within-Ok (room - length c.patterns) key rest others more in
+collections_within-Ok : (i room : ℕ) (key : List ℕ) (values : List Data) (found : List Collection) → collections_within i room key values ≡ Ok found → AreCollections room (length values) found
+collections_within-Ok i room key [] found e = holds-Ok (AreCollections room 0) _ found e (record { count = refl; patterns = omega arith; methods = λ i d l. absurd (omega arith) })
+collections_within-Ok i room key (value ∷ rest) found e =
+    bind-Ok (within (Item i) (collection_table room key value)) _ _ e (λ c read e1.
+    bind-Ok (collections_within (i + 1) (room - length c.patterns) key rest) _ _ e1 (λ others more e2.
+    let one = collection_table-Ok room key value c (within-Ok (Item i) (collection_table room key value) c read) in
+    let all = collections_within-Ok (i + 1) (room - length c.patterns) key rest others more in
     holds-Ok (AreCollections room (suc (length rest))) _ found e2 (record {
       count = ap suc all.count;
       patterns = let few = one.patterns in let rest = all.patterns in omega (arith, length-append c.patterns (flat_map (λ c. c.patterns) others));
@@ -94,7 +102,7 @@ record AreFew (found : List Collection) : Type 0 where
 collections-yields : Yields AreFew collections
 collections-yields key value found e =
     bind-Ok (list_items 1 MAX_LIST_ITEMS is_table key value) _ _ e (λ items read e1.
-    let all = collections_within-Ok MAX_PATTERNS_OF_CONSTRAINT key items found e1 in record {
+    let all = collections_within-Ok 0 MAX_PATTERNS_OF_CONSTRAINT key items found e1 in record {
       short = let n = list_items-Ok 1 MAX_LIST_ITEMS is_table key value items read in let m = all.count in omega arith;
       patterns = all.patterns;
       methods = all.methods;

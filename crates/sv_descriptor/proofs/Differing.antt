@@ -1,14 +1,15 @@
 -- Names that differ, checked one after another.
-use Rattle.std.proofs.Common.{◌≡◌, ℕ, ◌+◌, ◌<◌, Bool, true, false, List, [], ◌∷◌, ◌++◌, map, length, get_or, take, drop, refl, sym, ap, ◌∙◌, zero, suc, Some, arith}
-use Rattle.std.specs.Prelude.{◌||◌, slice_get}
+use Rattle.std.proofs.Common.{◌≡◌, ℕ, ◌+◌, ◌<◌, Bool, true, false, not, List, [], ◌∷◌, ◌++◌, map, length, get_or, take, drop, refl, sym, ap, ◌∙◌, zero, suc, Some, arith}
+use Rattle.std.specs.Prelude.{◌||◌, if◌then◌else◌, slice_get}
 use Rattle.std.specs.List.{Contains}
 use Rattle.std.proofs.lemmas.Slice.Eq.{bytes_eq-Decides}
 use Rattle.std.specs.Str.{bytes_eq}
 use Rattle.std.proofs.lemmas.Cmp.{nat_list_eq_equiv}
 use Rattle.std.proofs.lemmas.List.{take_more, take-append-drop, map-append}
 use Rattle.std.proofs.lemmas.List.Folds.{list_any-append}
+use Rattle.sv_descriptor.proofs.Lists.{drop-here}
 use Rattle.sv_descriptor.specs.Table.{is_among}
-use Rattle.sv_descriptor.specs.Names.{repeats, HaveSame, Differ}
+use Rattle.sv_descriptor.specs.Names.{repeats, HaveSame, Differ, texts_before_repeat}
 
 is_among-append : (xs ys : List (List ℕ)) (text : List ℕ) → is_among (xs ++ ys) text ≡ (is_among xs text || is_among ys text)
 is_among-append xs ys text = list_any-append (λ other. bytes_eq other text) xs ys
@@ -101,6 +102,25 @@ Differ-repeats (x ∷ rest) h (suc i) zero lt l same = omega arith
 Differ-repeats (x ∷ rest) h (suc i) (suc j) lt l same =
     let (unique, others) = found-first (is_among rest x) (repeats rest) h in
     Differ-repeats rest others i j (omega arith) (omega arith) same
+
+-- Only the texts known matter, and not their order.
+pub texts_before_repeat-same : (known others texts : List (List ℕ)) → HaveSame known others → texts_before_repeat known texts ≡ texts_before_repeat others texts
+texts_before_repeat-same known others [] h = refl
+texts_before_repeat-same known others (text ∷ rest) h =
+    ap (λ b. if b then 0 else texts_before_repeat (text ∷ known) rest + 1) (h text)
+    ∙ ap (λ n. if is_among others text then 0 else n + 1) (texts_before_repeat-same (text ∷ known) (text ∷ others) rest (λ other. ap (λ b. bytes_eq text other || b) (h other)))
+
+-- The next text is a new one.
+pub texts_before_repeat-next : {X : Type 0} (f : X → List ℕ) (items : List X) (names new : List (List ℕ)) (i : ℕ) (item : X) → i < length items → item ≡ get_or items i item
+    → HaveSame new (f item ∷ names) → is_among names (f item) ≡ false → texts_before_repeat names (map f (drop i items)) ≡ texts_before_repeat new (map f (drop (i + 1) items)) + 1
+texts_before_repeat-next f items names new i item below at entered is_new =
+    rw (drop-here items i item below at, is_new) (ap (λ n. n + 1) (sym (texts_before_repeat-same new (f item ∷ names) (map f (drop (i + 1) items)) entered)))
+
+pub not-back : (a b c : Bool) → a ≡ c → a ≡ not b → b ≡ not c
+not-back true true c e h = cc
+not-back true false c e h = rw (sym e) refl
+not-back false true c e h = rw (sym e) refl
+not-back false false c e h = cc
 
 -- A name in a list is at some index.
 pub Contains-is_among : (texts : List (List ℕ)) (text : List ℕ) → is_among texts text ≡ true → Contains texts text

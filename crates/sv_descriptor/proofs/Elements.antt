@@ -3,7 +3,7 @@ use Rattle.std.proofs.Common.{◌≡◌, ℕ, ◌≤◌, Bool, false, true, code
 use Rattle.std.specs.Prelude.{IfSome}
 use Rattle.sv_descriptor.proofs.Yields.{IsListOf, bind-Ok, holds-Ok, table_of-yields, list_of-yields, optional-Ok, optional_or-Ok}
 use Rattle.toml.specs.Data.{Members}
-use Rattle.sv_descriptor.specs.Fault.{Reads}
+use Rattle.sv_descriptor.specs.Fault.{Located}
 use Rattle.sv_descriptor.specs.Table.{optional, optional_or}
 use Rattle.sv_descriptor.specs.Value.{truth, table_of}
 use Rattle.sv_descriptor.specs.declared.limits.TheConstants.{MAX_LIST_ITEMS}
@@ -35,7 +35,7 @@ use Rattle.sv_descriptor.proofs.Constraining.{AreConstraints, constraints-yields
 use Rattle.sv_descriptor.proofs.Entries.{HasPages, HasSessions, error_page-Ok, filter_mapping-Ok, login_config-Ok, security_role-Ok, servlet-Ok, servlet_mapping-Ok, session_config-Ok, standard-Ok, welcome_file_list-Ok}
 
 -- A list of tables at an optional key.
-tables-Ok : {A : Type 0} (P : A → Type 0) (reads : Members → Reads A) → ((members : Members) (a : A) → reads members ≡ Ok a → P a)
+tables-Ok : {A : Type 0} (P : A → Type 0) (reads : Members → Located A) → ((members : Members) (a : A) → reads members ≡ Ok a → P a)
     → (key : List ℕ) (members : Members) (found : List A) → optional_or [] (tables reads) key members ≡ Ok found → IsListOf P MAX_LIST_ITEMS found
 tables-Ok P reads h key members found e =
     optional_or-Ok (IsListOf P MAX_LIST_ITEMS) [] (tables reads) (record { short = omega arith; each = λ k d l. absurd (omega arith) })

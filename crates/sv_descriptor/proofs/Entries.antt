@@ -4,7 +4,7 @@ use Rattle.std.specs.Prelude.{◌||◌, if◌then◌else◌, int_lt, IfSome}
 use Rattle.std.proofs.lemmas.Bool.Decides.{nat_tests}
 use Rattle.http_header.specs.Token.{is_token_byte}
 use Rattle.toml.specs.Data.{Members}
-use Rattle.sv_descriptor.specs.Fault.{Reads, refuse, check}
+use Rattle.sv_descriptor.specs.Fault.{Located, refuse, check}
 use Rattle.sv_descriptor.specs.ListOf.{list_of_texts}
 use Rattle.sv_descriptor.specs.Table.{has_key, optional, optional_or, required}
 use Rattle.sv_descriptor.specs.Value.{is_text, name, table_of, text_of, truth, whole_of, number_between}
@@ -37,7 +37,7 @@ use Rattle.sv_descriptor.specs.declared.session.SessionConfig.{SessionConfig}
 use Rattle.sv_descriptor.specs.declared.version.Version.{Version}
 
 -- A list at an optional key.
-texts-short : {A : Type 0} (reads : List ℕ → List ℕ → Reads A) (key : List ℕ) (members : Members) (found : List A)
+texts-short : {A : Type 0} (reads : List ℕ → List ℕ → Located A) (key : List ℕ) (members : Members) (found : List A)
     → optional_or [] (list_of_texts 0 MAX_LIST_ITEMS reads) key members ≡ Ok found → length found ≤ MAX_LIST_ITEMS
 texts-short reads key members found e =
     optional_or-Ok (λ found. length found ≤ MAX_LIST_ITEMS) [] (list_of_texts 0 MAX_LIST_ITEMS reads) (omega arith) (list_of-short 0 MAX_LIST_ITEMS is_text (text_of reads)) key members found e

@@ -10,4 +10,5 @@ pub mod Numbering
 pub mod Constraining
 pub mod Elements
 pub mod Agreeing
+pub mod Places
 pub mod Locations

@@ -1,29 +1,25 @@
 -- A server file and a users file that were read are well-formed.
-use Rattle.std.proofs.Common.{◌≡◌, ℕ, ◌*◌, Bool, true, false, not, codes, List, [], ◌∷◌, length, Ok, refl, subst, arith}
+use Rattle.std.proofs.Common.{◌≡◌, ℕ, ◌*◌, Bool, true, false, codes, List, [], ◌∷◌, length, Ok, refl, subst, arith}
 use Rattle.std.specs.Prelude.{if◌then◌else◌}
 use Rattle.std.specs.List.{All}
 use Rattle.toml.specs.Data.{Members}
 use Rattle.sv_realm.specs.declared.account.User.{User}
-use Rattle.sv_descriptor.specs.Fault.{refuse, check}
+use Rattle.sv_descriptor.specs.Fault.{refuse}
 use Rattle.sv_descriptor.specs.ListOf.{list_of_texts, list_of_tables}
-use Rattle.sv_descriptor.specs.Names.{Differ, repeats}
+use Rattle.sv_descriptor.specs.Names.{Differ, distinct}
 use Rattle.sv_descriptor.specs.Table.{only_keys, required, optional}
 use Rattle.sv_descriptor.specs.Value.{any_text, hex_text, name, number_between, is_table, table_of, text_of, whole_of}
-use Rattle.sv_descriptor.specs.declared.fault.FaultCode.TheVariants.{BadValue, DuplicateName}
+use Rattle.sv_descriptor.specs.declared.fault.FaultCode.TheVariants.{BadValue}
 use Rattle.sv_descriptor.specs.declared.limits.TheConstants.{MAX_LIST_ITEMS, NO_LIMIT}
 use Rattle.sv_descriptor.proofs.Differing.{Differ-repeats}
 use Rattle.sv_descriptor.proofs.HexTexts.{hex_text-Ok}
-use Rattle.sv_descriptor.proofs.Yields.{IsListOf, bind-Ok, check-Ok, text_of-yields, table_of-yields, list_of-yields, required-Ok}
+use Rattle.sv_descriptor.proofs.Yields.{IsListOf, bind-Ok, distinct-Ok, text_of-yields, table_of-yields, list_of-yields, required-Ok}
 use Rattle.sv_descriptor.specs.ContextPath.{context_path, is_context_path}
 use Rattle.sv_descriptor.specs.Server.{IsWellFormedServer, context, context_paths, server}
 use Rattle.sv_descriptor.specs.Users.{AreWellFormedUsers, user, user_names, users}
 use Rattle.sv_descriptor.specs.declared.limits.TheConstants.{DIGEST_BYTES, DIGEST_DIGITS, MAX_PORT, MAX_SALT_DIGITS, SEED_BYTES, SEED_DIGITS}
 use Rattle.sv_descriptor.specs.declared.server.ContextEntry.{ContextEntry}
 use Rattle.sv_descriptor.specs.declared.server.Server.{Server}
-
-not-true : (b : Bool) → not b ≡ true → b ≡ false
-not-true true h = cc
-not-true false h = refl
 
 -- A key whose bytes are written with a fixed number of digits.
 bytes-Ok : (digits : ℕ) (key : List ℕ) (members : Members) (bytes : List ℕ) → required (text_of (hex_text digits digits)) key members ≡ Ok bytes → digits ≡ 2 * length bytes
@@ -47,14 +43,14 @@ pub users-Ok : (members : Members) (found : List User) → users members ≡ Ok 
 users-Ok members found e =
     bind-Ok (only_keys (codes "user" ∷ []) [] members) _ _ e (λ _ _ e1.
     bind-Ok (required (list_of_tables 0 MAX_LIST_ITEMS user) (codes "user") members) _ _ e1 (λ listed read e2.
-    bind-Ok (check (not (repeats (user_names listed))) DuplicateName (codes "name")) _ _ e2 (λ u unique e3.
+    bind-Ok (distinct (codes "user") (codes "name") (user_names listed)) _ _ e2 (λ u unique e3.
     let same : listed ≡ found = cc in
     let all = required-Ok (IsListOf (λ user. length user.digest ≡ DIGEST_BYTES) MAX_LIST_ITEMS) (list_of_tables 0 MAX_LIST_ITEMS user)
     (list_of-yields _ 0 MAX_LIST_ITEMS is_table (table_of user) (table_of-yields _ user user-Ok)) (codes "user") members listed read in
     subst AreWellFormedUsers same (record {
       few = all.short;
       digests_are_whole = all.each;
-      names_differ = Differ-repeats (user_names listed) (not-true _ (check-Ok _ DuplicateName (codes "name") u unique));
+      names_differ = Differ-repeats (user_names listed) (distinct-Ok (codes "user") (codes "name") (user_names listed) u unique);
     }))))
 
 context-Ok : (members : Members) (c : ContextEntry) → context members ≡ Ok c → is_context_path c.path ≡ true
@@ -81,7 +77,7 @@ server-Ok members s e =
     bind-Ok (required (whole_of (number_between 0 MAX_PORT)) (codes "port") members) _ _ e1 (λ port _ e2.
     bind-Ok (required (text_of (hex_text SEED_DIGITS SEED_DIGITS)) (codes "seed") members) _ _ e2 (λ seed seed_read e3.
     bind-Ok (required (list_of_tables 0 NO_LIMIT context) (codes "context") members) _ _ e3 (λ contexts contexts_read e4.
-    bind-Ok (check (not (repeats (context_paths contexts))) DuplicateName (codes "path")) _ _ e4 (λ u unique e5.
+    bind-Ok (distinct (codes "context") (codes "path") (context_paths contexts)) _ _ e4 (λ u unique e5.
     let same_seed : seed ≡ s.seed = cc in
     let same_contexts : contexts ≡ s.contexts = cc in
     let n = bytes-Ok SEED_DIGITS (codes "seed") members seed seed_read in
@@ -90,5 +86,5 @@ server-Ok members s e =
     record {
       seed_is_whole = subst (λ b. length b ≡ SEED_BYTES) same_seed (omega arith);
       paths_are_context_paths = subst (All (λ context. is_context_path context.path ≡ true)) same_contexts all.each;
-      paths_differ = subst (λ l. Differ (context_paths l)) same_contexts (Differ-repeats (context_paths contexts) (not-true _ (check-Ok _ DuplicateName (codes "path") u unique)));
+      paths_differ = subst (λ l. Differ (context_paths l)) same_contexts (Differ-repeats (context_paths contexts) (distinct-Ok (codes "context") (codes "path") (context_paths contexts) u unique));
     })))))

@@ -2,7 +2,7 @@
 use Rattle.std.specs.Prelude.{[], codes, Ok}
 use Rattle.toml.specs.Data.{Members}
 use Rattle.sv_text.specs.Steps.{◌>>=◌}
-use Rattle.sv_descriptor.specs.Fault.{Reads}
+use Rattle.sv_descriptor.specs.Fault.{Located}
 use Rattle.sv_descriptor.specs.Table.{optional_or}
 use Rattle.sv_descriptor.specs.Filter.{filter_entry, filter_mapping}
 use Rattle.sv_descriptor.specs.Listener.{listener}
@@ -10,7 +10,7 @@ use Rattle.sv_descriptor.specs.Servlet.{servlet, servlet_mapping}
 use Rattle.sv_descriptor.specs.Tables.{tables}
 use Rattle.sv_descriptor.specs.declared.components.Components.{Components}
 
-abbrev pub components : Members → Reads Components
+abbrev pub components : Members → Located Components
 components table = do
   its_servlets ← optional_or [] (tables servlet) (codes "servlet") table
   its_servlet_mappings ← optional_or [] (tables servlet_mapping) (codes "servlet-mapping") table

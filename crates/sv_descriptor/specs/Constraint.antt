@@ -8,7 +8,7 @@ use Rattle.sv_constraints.specs.declared.constraint.Auth.TheVariants as auth
 use Rattle.sv_constraints.specs.declared.constraint.Transport.{Transport}
 use Rattle.sv_constraints.specs.declared.constraint.Transport.TheVariants as transport
 use Rattle.sv_text.specs.Steps.{◌>>=◌, ◌>>◌}
-use Rattle.sv_descriptor.specs.Fault.{Reads, refuse}
+use Rattle.sv_descriptor.specs.Fault.{Located, refuse}
 use Rattle.sv_descriptor.specs.ListOf.{list_of_texts}
 use Rattle.sv_descriptor.specs.Table.{required, optional_or}
 use Rattle.sv_descriptor.specs.Value.{Reader, name, text_of, table_of}
@@ -18,26 +18,26 @@ use Rattle.sv_descriptor.specs.Collection.{collections}
 use Rattle.sv_descriptor.specs.Ignored.{element_keys}
 use Rattle.sv_descriptor.specs.Tables.{tables}
 
-abbrev pub auth_constraint : Members → Reads Auth
+abbrev pub auth_constraint : Members → Located Auth
 auth_constraint table = do
   element_keys (codes "role-name" ∷ []) table
   roles ← optional_or [] (list_of_texts 0 MAX_LIST_ITEMS name) (codes "role-name") table
   Ok (auth.Roles roles)
 
-abbrev pub transport_guarantee : List ℕ → List ℕ → Reads Transport
+abbrev pub transport_guarantee : List ℕ → List ℕ → Located Transport
 transport_guarantee key text =
     if bytes_eq text (codes "NONE") then Ok transport.Plain
     else if bytes_eq text (codes "INTEGRAL") then Ok transport.Integral
     else if bytes_eq text (codes "CONFIDENTIAL") then Ok transport.Confidential
     else refuse BadValue key
 
-abbrev pub user_data_constraint : Members → Reads Transport
+abbrev pub user_data_constraint : Members → Located Transport
 user_data_constraint table = do
   element_keys (codes "transport-guarantee" ∷ []) table
   required (text_of transport_guarantee) (codes "transport-guarantee") table
 
 -- A constraint has the number 0 until all are numbered.
-abbrev pub constraint : Members → Reads Constraint
+abbrev pub constraint : Members → Located Constraint
 constraint table = do
   element_keys (codes "web-resource-collection" ∷ codes "auth-constraint" ∷ codes "user-data-constraint" ∷ []) table
   its_collections ← required collections (codes "web-resource-collection") table

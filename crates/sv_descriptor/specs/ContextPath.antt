@@ -5,7 +5,7 @@ use Rattle.std.specs.Str.{bytes_eq}
 use Rattle.sv_uri.specs.Canonical.{canonical}
 use Rattle.sv_uri.specs.declared.fault.PathFault.{PathFault}
 use Rattle.sv_uri.specs.declared.path.Canon.{Canon}
-use Rattle.sv_descriptor.specs.Fault.{Reads, refuse}
+use Rattle.sv_descriptor.specs.Fault.{Located, refuse}
 use Rattle.sv_descriptor.specs.declared.fault.FaultCode.TheVariants.{BadValue}
 
 abbrev pub is_itself : List ℕ → Result Canon PathFault → Bool
@@ -20,5 +20,5 @@ is_canonical text = is_itself text (canonical text)
 abbrev pub is_context_path : List ℕ → Bool
 is_context_path text = bytes_eq text [] || (is_canonical text && not (ends_with nat_eq text (codes "/")))
 
-abbrev pub context_path : List ℕ → List ℕ → Reads (List ℕ)
+abbrev pub context_path : List ℕ → List ℕ → Located (List ℕ)
 context_path key text = if is_context_path text then Ok text else refuse BadValue key

@@ -6,7 +6,7 @@ use Rattle.std.specs.Str.{byte}
 use Rattle.http_header.specs.Token.{is_token_byte}
 use Rattle.toml.specs.Data.{Members}
 use Rattle.sv_text.specs.Steps.{◌>>=◌, ◌>>◌}
-use Rattle.sv_descriptor.specs.Fault.{Reads, refuse}
+use Rattle.sv_descriptor.specs.Fault.{Located, refuse}
 use Rattle.sv_descriptor.specs.Table.{optional, optional_or}
 use Rattle.sv_descriptor.specs.Value.{is_within, text_of, truth, whole_of}
 use Rattle.sv_descriptor.specs.declared.fault.FaultCode.TheVariants.{BadValue}
@@ -27,10 +27,10 @@ is_path_byte b = nat_le 32 b && nat_le b 126 && not (b == byte ";")
 unfoldable pub is_cookie_path : List ℕ → Bool
 is_cookie_path text = is_within 1 MAX_COOKIE_PATH_BYTES text && starts_with nat_eq text (codes "/") && list_all is_path_byte text
 
-abbrev pub cookie_name : List ℕ → List ℕ → Reads (List ℕ)
+abbrev pub cookie_name : List ℕ → List ℕ → Located (List ℕ)
 cookie_name key text = if is_cookie_name text then Ok text else refuse BadValue key
 
-abbrev pub cookie_path : List ℕ → List ℕ → Reads (List ℕ)
+abbrev pub cookie_path : List ℕ → List ℕ → Located (List ℕ)
 cookie_path key text = if is_cookie_path text then Ok text else refuse BadValue key
 
 -- The lifetime of a cookie. With -1, it has none and lasts until the client ends.
@@ -38,12 +38,12 @@ abbrev pub age_of : ℤ → Option ℕ
 age_of (pos n) = Some n
 age_of (negsuc n) = None
 
-abbrev pub max_age : List ℕ → ℤ → Reads (Option ℕ)
+abbrev pub max_age : List ℕ → ℤ → Located (Option ℕ)
 max_age key number =
     if int_lt number (negsuc 0) || int_lt (pos MAX_COOKIE_AGE) number then refuse BadValue key else Ok (age_of number)
 
 -- Missing keys have their default values.
-abbrev pub cookie_config : Members → Reads CookieSettings
+abbrev pub cookie_config : Members → Located CookieSettings
 cookie_config table = do
   element_keys (codes "name" ∷ codes "path" ∷ codes "http-only" ∷ codes "max-age" ∷ []) table
   its_name ← optional_or standard_settings.name (text_of cookie_name) (codes "name") table

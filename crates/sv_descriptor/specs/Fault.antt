@@ -1,26 +1,66 @@
--- The first fault of a configuration file.
-use Rattle.std.specs.Prelude.{ℕ, Bool, if◌then◌else◌, List, ◌++◌, codes, Option, Some, None, Result, Ok, Err}
+-- The first fault of a configuration file, and its place.
+use Rattle.std.specs.Prelude.{ℕ, Bool, if◌then◌else◌, List, [], ◌∷◌, ◌++◌, codes, Option, Some, None, Result, Ok, Err}
 use Rattle.sv_descriptor.specs.declared.fault.DescriptorFault.{DescriptorFault}
 use Rattle.sv_descriptor.specs.declared.fault.FaultCode.{FaultCode}
 use Rattle.sv_descriptor.specs.declared.fault.FaultCode.TheVariants.{NotToml, UnknownKey, MissingKey, WrongType, BadPattern, DuplicatePattern, UnknownServlet, UnknownFilter, BothMethodLists, ReservedRole, BadTimeout, BadValue, DuplicateName, TooMany}
+use Rattle.sv_descriptor.specs.declared.fault.LocatedFault.{LocatedFault}
+use Rattle.sv_descriptor.specs.declared.fault.LocatedReadFault.{LocatedReadFault}
+use Rattle.sv_descriptor.specs.declared.fault.LocatedReadFault.TheVariants as located
 use Rattle.sv_descriptor.specs.declared.fault.ReadFault.{ReadFault}
 use Rattle.sv_descriptor.specs.declared.fault.ReadFault.TheVariants.{Fault, NoMemory}
+use Rattle.sv_descriptor.specs.declared.fault.ValueStep.{ValueStep}
+use Rattle.sv_descriptor.specs.declared.fault.ValueStep.TheVariants.{Key, Item}
 
 -- The fault of the file; none if memory ran out.
 abbrev pub fault : ReadFault → Option DescriptorFault
 fault (Fault f) = Some f
 fault NoMemory = None
 
+-- The same with the place of the fault.
+abbrev pub located_fault : LocatedReadFault → Option LocatedFault
+located_fault (located.Fault f) = Some f
+located_fault located.NoMemory = None
+
+-- The reason without the place.
+abbrev pub plain : LocatedReadFault → ReadFault
+plain (located.Fault f) = Fault f.fault
+plain located.NoMemory = NoMemory
+
 -- The value that is read, or the first fault.
 abbrev pub Reads : Type 0 → Type 0
 Reads A = Result A DescriptorFault
 
-abbrev pub refuse : {A : Type 0} → FaultCode → List ℕ → Reads A
-refuse code key = Err (record { code = code; key = key })
+-- The value that is read, or the first fault with its place.
+abbrev pub Located : Type 0 → Type 0
+Located A = Result A LocatedFault
+
+abbrev pub without_place : {A : Type 0} → Located A → Reads A
+without_place (Ok a) = Ok a
+without_place (Err f) = Err f.fault
+
+-- A value is read one step further down, so a fault in it has one more step in front.
+abbrev pub within : {A : Type 0} → ValueStep → Located A → Located A
+within step (Ok a) = Ok a
+within step (Err f) = Err (record { fault = f.fault; steps = step ∷ f.steps })
+
+-- A fault at the end of these steps.
+abbrev pub refuse_at : {A : Type 0} → FaultCode → List ℕ → List ValueStep → Located A
+refuse_at code key steps = Err (record { fault = record { code = code; key = key }; steps = steps })
+
+-- A fault at the table or value that is being read.
+abbrev pub refuse : {A : Type 0} → FaultCode → List ℕ → Located A
+refuse code key = refuse_at code key []
 
 -- A condition on the values read, and the fault if it does not hold.
-abbrev pub check : Bool → FaultCode → List ℕ → Reads (Unit {0})
-check holds code key = if holds then Ok tt else refuse code key
+abbrev pub check_at : Bool → FaultCode → List ℕ → List ValueStep → Located (Unit {0})
+check_at holds code key steps = if holds then Ok tt else refuse_at code key steps
+
+abbrev pub check : Bool → FaultCode → List ℕ → Located (Unit {0})
+check holds code key = check_at holds code key []
+
+-- The steps to a key of an item of a list in the file's table.
+abbrev pub item_key : List ℕ → ℕ → List ℕ → List ValueStep
+item_key list i key = Key list ∷ Item i ∷ Key key ∷ []
 
 abbrev pub number : FaultCode → ℕ
 number NotToml = 1

@@ -3,7 +3,7 @@ use Rattle.std.specs.Prelude.{ℕ, ℤ, pos, negsuc, int_lt, Bool, ◌||◌, Lis
 use Rattle.std.specs.Str.{bytes_eq}
 use Rattle.toml.specs.Data.{Members}
 use Rattle.sv_text.specs.Steps.{◌>>=◌, ◌>>◌}
-use Rattle.sv_descriptor.specs.Fault.{Reads, refuse}
+use Rattle.sv_descriptor.specs.Fault.{Located, refuse}
 use Rattle.sv_descriptor.specs.Table.{required, optional, optional_or}
 use Rattle.sv_descriptor.specs.Value.{name, text_of, whole_of, table_of}
 use Rattle.sv_descriptor.specs.declared.fault.FaultCode.TheVariants.{BadValue}
@@ -18,14 +18,14 @@ use Rattle.sv_descriptor.specs.declared.servlet.ServletMapping.{ServletMapping}
 unfoldable pub is_reserved_servlet : List ℕ → Bool
 is_reserved_servlet text = bytes_eq text (codes "default") || bytes_eq text (codes "*")
 
-abbrev pub servlet_name : List ℕ → List ℕ → Reads (List ℕ)
+abbrev pub servlet_name : List ℕ → List ℕ → Located (List ℕ)
 servlet_name key text = if is_reserved_servlet text then refuse BadValue key else name key text
 
 -- A signed whole number of 32 bits.
-abbrev pub startup_order : List ℕ → ℤ → Reads ℤ
+abbrev pub startup_order : List ℕ → ℤ → Located ℤ
 startup_order key number = if int_lt number (negsuc 2147483647) || int_lt (pos 2147483647) number then refuse BadValue key else Ok number
 
-abbrev pub servlet : Members → Reads ServletEntry
+abbrev pub servlet : Members → Located ServletEntry
 servlet table = do
   element_keys (codes "servlet-name" ∷ codes "servlet-class" ∷ codes "load-on-startup" ∷ codes "init-param" ∷ []) table
   its_name ← required (text_of servlet_name) (codes "servlet-name") table
@@ -34,7 +34,7 @@ servlet table = do
   params ← optional_or [] (table_of init_params) (codes "init-param") table
   Ok (record { servlet_name = its_name; servlet_class = class; load_on_startup = order; init_params = params })
 
-abbrev pub servlet_mapping : Members → Reads ServletMapping
+abbrev pub servlet_mapping : Members → Located ServletMapping
 servlet_mapping table = do
   element_keys (codes "servlet-name" ∷ codes "url-pattern" ∷ []) table
   its_name ← required (text_of name) (codes "servlet-name") table

@@ -3,7 +3,7 @@
 use Rattle.std.specs.Prelude.{ℕ, ℤ, pos, negsuc, int_lt, List, [], ◌∷◌, codes, if◌then◌else◌, Ok}
 use Rattle.toml.specs.Data.{Members}
 use Rattle.sv_text.specs.Steps.{◌>>=◌, ◌>>◌}
-use Rattle.sv_descriptor.specs.Fault.{Reads, refuse}
+use Rattle.sv_descriptor.specs.Fault.{Located, refuse}
 use Rattle.sv_descriptor.specs.Table.{optional_or}
 use Rattle.sv_descriptor.specs.Value.{table_of, whole_of}
 use Rattle.sv_descriptor.specs.declared.fault.FaultCode.TheVariants.{BadTimeout}
@@ -20,7 +20,7 @@ abbrev pub minutes : ℤ → ℕ
 minutes (pos n) = n
 minutes (negsuc n) = 0
 
-abbrev pub session_timeout : List ℕ → ℤ → Reads ℕ
+abbrev pub session_timeout : List ℕ → ℤ → Located ℕ
 session_timeout key number = if int_lt (pos MAX_SESSION_TIMEOUT) number then refuse BadTimeout key else Ok (minutes number)
 
 -- Version 1 has no cookie configuration.
@@ -28,7 +28,7 @@ abbrev pub session_keys : Version → List (List ℕ)
 session_keys One = codes "session-timeout" ∷ []
 session_keys Two = codes "session-timeout" ∷ codes "cookie-config" ∷ []
 
-abbrev pub session_config : Version → Members → Reads SessionConfig
+abbrev pub session_config : Version → Members → Located SessionConfig
 session_config its_version table = do
   element_keys (session_keys its_version) table
   its_timeout ← optional_or DEFAULT_SESSION_TIMEOUT (whole_of session_timeout) (codes "session-timeout") table
@@ -39,5 +39,5 @@ abbrev pub default_session : SessionConfig
 default_session = record { timeout = DEFAULT_SESSION_TIMEOUT; cookie = standard_settings }
 
 -- The session configuration of a table.
-abbrev pub session : Version → Members → Reads SessionConfig
+abbrev pub session : Version → Members → Located SessionConfig
 session its_version = optional_or default_session (table_of (session_config its_version)) (codes "session-config")

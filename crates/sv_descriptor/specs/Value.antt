@@ -2,26 +2,26 @@
 use Rattle.std.specs.Prelude.{ℕ, ℤ, pos, nat_abs, int_lt, Bool, true, false, ◌&&◌, ◌||◌, nat_le, List, length, if◌then◌else◌, Result, Ok, Err}
 use Rattle.hex.specs.Hex.{decode_of}
 use Rattle.toml.specs.Data.{Data, string, integer, boolean, table, Members}
-use Rattle.sv_descriptor.specs.Fault.{Reads, refuse}
+use Rattle.sv_descriptor.specs.Fault.{Located, refuse}
 use Rattle.sv_descriptor.specs.declared.fault.FaultCode.TheVariants.{WrongType, BadValue}
 use Rattle.sv_descriptor.specs.declared.limits.TheConstants.{MAX_NAME_BYTES}
 
 -- How the value at a key is read.
 abbrev pub Reader : Type 0 → Type 0
-Reader A = List ℕ → Data → Reads A
+Reader A = List ℕ → Data → Located A
 
 -- A text, read further.
-abbrev pub text_of : {A : Type 0} → (List ℕ → List ℕ → Reads A) → Reader A
+abbrev pub text_of : {A : Type 0} → (List ℕ → List ℕ → Located A) → Reader A
 text_of reads key (string text) = reads key text
 text_of reads key _ = refuse WrongType key
 
 -- A whole number, read further.
-abbrev pub whole_of : {A : Type 0} → (List ℕ → ℤ → Reads A) → Reader A
+abbrev pub whole_of : {A : Type 0} → (List ℕ → ℤ → Located A) → Reader A
 whole_of reads key (integer number) = reads key number
 whole_of reads key _ = refuse WrongType key
 
 -- A table, read further.
-abbrev pub table_of : {A : Type 0} → (Members → Reads A) → Reader A
+abbrev pub table_of : {A : Type 0} → (Members → Located A) → Reader A
 table_of reads key (table inner) = reads inner
 table_of reads key _ = refuse WrongType key
 
@@ -46,7 +46,7 @@ is_table (table _) = true
 is_table _ = false
 
 -- Any text.
-abbrev pub any_text : List ℕ → List ℕ → Reads (List ℕ)
+abbrev pub any_text : List ℕ → List ℕ → Located (List ℕ)
 any_text key text = Ok text
 
 -- The length of a text is within bounds.
@@ -56,18 +56,18 @@ is_within least most text = nat_le least (length text) && nat_le (length text) m
 abbrev pub is_name : List ℕ → Bool
 is_name = is_within 1 MAX_NAME_BYTES
 
-abbrev pub name : List ℕ → List ℕ → Reads (List ℕ)
+abbrev pub name : List ℕ → List ℕ → Located (List ℕ)
 name key text = if is_name text then Ok text else refuse BadValue key
 
 -- The bytes written as pairs of hexadecimal digits, in either case.
-abbrev pub decoded : {E : Type 0} → List ℕ → Result (List ℕ) E → Reads (List ℕ)
+abbrev pub decoded : {E : Type 0} → List ℕ → Result (List ℕ) E → Located (List ℕ)
 decoded key (Ok bytes) = Ok bytes
 decoded key (Err e) = refuse BadValue key
 
-abbrev pub hex_text : ℕ → ℕ → List ℕ → List ℕ → Reads (List ℕ)
+abbrev pub hex_text : ℕ → ℕ → List ℕ → List ℕ → Located (List ℕ)
 hex_text least most key text = if is_within least most text then decoded key (decode_of text) else refuse BadValue key
 
 -- A whole number within bounds.
-abbrev pub number_between : ℕ → ℕ → List ℕ → ℤ → Reads ℕ
+abbrev pub number_between : ℕ → ℕ → List ℕ → ℤ → Located ℕ
 number_between least most key number =
     if int_lt number (pos least) || int_lt (pos most) number then refuse BadValue key else Ok (nat_abs number)

@@ -2,7 +2,7 @@
 use Rattle.std.specs.Prelude.{ℕ, ◌==◌, codes, if◌then◌else◌, Option, None, Some, Ok}
 use Rattle.toml.specs.Data.{Members}
 use Rattle.sv_text.specs.Steps.{◌>>=◌}
-use Rattle.sv_descriptor.specs.Fault.{Reads}
+use Rattle.sv_descriptor.specs.Fault.{Located}
 use Rattle.sv_descriptor.specs.Table.{optional}
 use Rattle.sv_descriptor.specs.Value.{number_between, whole_of}
 use Rattle.sv_descriptor.specs.declared.limits.TheConstants.{MAX_SESSIONS_OF_VERSION_1, MAX_SESSIONS_OF_VERSION_2}
@@ -15,7 +15,7 @@ numbered None = One
 numbered (Some number) = if number == 2 then Two else One
 
 -- The version of a table.
-abbrev pub version : Members → Reads Version
+abbrev pub version : Members → Located Version
 version table = do
   number ← optional (whole_of (number_between 1 2)) (codes "version") table
   Ok (numbered number)

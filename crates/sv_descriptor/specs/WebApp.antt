@@ -2,7 +2,7 @@
 use Rattle.std.specs.Prelude.{ℕ, Bool, false, List, [], ◌∷◌, codes, Ok}
 use Rattle.toml.specs.Data.{Members}
 use Rattle.sv_text.specs.Steps.{◌>>=◌, ◌>>◌}
-use Rattle.sv_descriptor.specs.Fault.{Reads}
+use Rattle.sv_descriptor.specs.Fault.{Located}
 use Rattle.sv_descriptor.specs.Table.{optional_or}
 use Rattle.sv_descriptor.specs.Value.{truth}
 use Rattle.sv_descriptor.specs.Components.{components}
@@ -42,7 +42,7 @@ assembled its_version its_components its_session its_pages its_security = record
 }
 
 -- The elements, after the components have been read.
-abbrev pub behind_components : Version → Bool → Components → Members → Reads WebApp
+abbrev pub behind_components : Version → Bool → Components → Members → Located WebApp
 behind_components its_version deny its_components table = do
   its_session ← session its_version table
   its_pages ← pages table
@@ -50,7 +50,7 @@ behind_components its_version deny its_components table = do
   Ok (assembled its_version its_components its_session its_pages its_security)
 
 -- The elements, read in their order.
-abbrev pub web_app : Members → Reads WebApp
+abbrev pub web_app : Members → Located WebApp
 web_app table = do
   element_keys top_keys table
   its_version ← version table

@@ -1,17 +1,19 @@
 //! Agreement among the elements of a descriptor.
 
-ghost use Rattle.std.specs.Prelude.{◌≡◌, ◌||◌, ◌++◌, IfOk, OnOk};
-ghost use Rattle.std.specs.List.{flat_map, list_all};
+ghost use Rattle.std.specs.Prelude.{◌≡◌, ◌||◌, ◌++◌, ◌∷◌, [], IfOk, OnOk, not, codes};
+ghost use Rattle.std.specs.List.{flat_map, list_all, position};
 ghost use Rattle.sv_text.specs.Gives.{Gives};
 ghost use Rattle.sv_descriptor.specs.Agreement as spec;
 ghost use Rattle.sv_descriptor.specs.Names.{HaveSame};
+ghost use Rattle.sv_descriptor.specs.declared.fault.FaultCode.TheVariants.{DuplicatePattern, UnknownServlet};
+ghost use Rattle.sv_descriptor.specs.declared.fault.ValueStep.TheVariants.{Item};
 ghost use Rattle.sv_descriptor.specs.Servlet.{is_reserved_servlet};
-ghost use Rattle.sv_descriptor.specs.Fault.{fault};
+ghost use Rattle.sv_descriptor.specs.Fault.{located_fault, refuse_at, item_key};
 ghost use Rattle.sv_descriptor.specs.Table.{is_among, texts as texts_of};
 
-use crate::fault::{FaultCode, ReadFault, refuse};
+use crate::fault::{FaultCode, LocatedReadFault, refuse, refuse_item, within_item, within_key};
 use crate::filter::FilterMapping;
-use crate::names::{Names, distinct_names, repeats};
+use crate::names::{Names, check_distinct, distinct_names, first_repeat, refuse_repeat, repeats};
 use crate::servlet::{ServletMapping, is_reserved_servlet};
 use crate::web_app::WebApp;
 use std::alloc::Global;
@@ -23,47 +25,86 @@ use sv_text::{NoMemory, Text};
 /// # Errors
 /// In this order: [`FaultCode::DuplicateName`] for servlets, filters and roles, [`FaultCode::UnknownServlet`] and
 /// [`FaultCode::DuplicatePattern`] for servlet mappings, [`FaultCode::UnknownFilter`] and [`FaultCode::UnknownServlet`]
-/// for filter mappings; or [`ReadFault::NoMemory`].
-pub fn check_agreement(alloc: Global, web_app: &WebApp) -> Result<(), ReadFault>
-    ensures { Gives fault result (spec.elements_agree web_app.now) }
+/// for filter mappings; or [`LocatedReadFault::NoMemory`].
+pub fn check_agreement(alloc: Global, web_app: &WebApp) -> Result<(), LocatedReadFault>
+    ensures { Gives located_fault result (spec.elements_agree web_app.now) }
 {
-    let Some(servlets) = distinct_names(alloc, web_app.servlets.as_slice())? else {
-        return refuse(alloc, FaultCode::DuplicateName, "servlet-name");
+    let declared = web_app.servlets.as_slice();
+    let Some(servlets) = distinct_names(alloc, declared)? else {
+        return refuse_repeat(alloc, declared, "servlet", "servlet-name");
     };
-    let Some(filters) = distinct_names(alloc, web_app.filters.as_slice())? else {
-        return refuse(alloc, FaultCode::DuplicateName, "filter-name");
+    let declared = web_app.filters.as_slice();
+    let Some(filters) = distinct_names(alloc, declared)? else {
+        return refuse_repeat(alloc, declared, "filter", "filter-name");
     };
-    if repeats(alloc, web_app.rules.declared.as_slice())? {
-        return refuse(alloc, FaultCode::DuplicateName, "role-name");
-    }
+    let roles = web_app.rules.declared.as_slice();
+    check_distinct(alloc, roles, "security-role", "role-name")?;
     check_servlet_mappings(alloc, &servlets, web_app)?;
     check_filter_mappings(alloc, &servlets, &filters, web_app)
 }
 
+#[tactic(auto, using(crate::proofs::Lists::list_all_position))]
 fn check_servlet_mappings(
     alloc: Global,
     servlets: &Names<'_>,
     web_app: &WebApp,
-) -> Result<(), ReadFault>
+) -> Result<(), LocatedReadFault>
     requires { HaveSame servlets.now (spec.servlet_names web_app.now) }
-    ensures { Gives fault result (spec.servlet_mappings_fit web_app.now) }
+    ensures { Gives located_fault result (spec.servlet_mappings_fit web_app.now) }
 {
     let mappings = web_app.servlet_mappings.as_slice();
-    if !are_mapped(servlets, mappings) {
-        return refuse(alloc, FaultCode::UnknownServlet, "servlet-name");
+    if let Some(place) = first_unmapped(servlets, mappings) {
+        let code = FaultCode::UnknownServlet;
+        return refuse_item(alloc, code, "servlet-mapping", place, "servlet-name");
     }
-    if repeats(alloc, servlet_patterns(alloc, mappings)?.as_slice())? {
-        return refuse(alloc, FaultCode::DuplicatePattern, "url-pattern");
+    let patterns = servlet_patterns(alloc, mappings)?;
+    if repeats(alloc, patterns.as_slice())? {
+        let number = first_repeat(alloc, patterns.as_slice())?;
+        return refuse_pattern(alloc, mappings, number);
     }
     Ok(())
 }
 
-fn are_mapped(servlets: &Names<'_>, mappings: &[ServletMapping]) -> bool
-    ensures { result ≡ list_all (λ mapping. is_among servlets.now mapping.servlet_name) mappings.now }
+/// Refuses the pattern with a number among those of all servlet mappings.
+fn refuse_pattern(
+    alloc: Global,
+    mappings: &[ServletMapping],
+    number: usize,
+) -> Result<(), LocatedReadFault>
+    ensures { Gives located_fault result (refuse_at DuplicatePattern (codes "url-pattern") (spec.pattern_steps 0 mappings.now number)) }
 {
-    mappings
-        .iter()
-        .all(|mapping| servlets.contains(mapping.servlet_name.as_str()))
+    let code = FaultCode::DuplicatePattern;
+    let mut number = number;
+    for (place, mapping) in mappings.iter().enumerate() {
+        let patterns = mapping.url_patterns.as_slice().len();
+        if number < patterns {
+            return refuse_nested(alloc, code, "servlet-mapping", place, "url-pattern", number);
+        }
+        number -= patterns;
+    }
+    refuse(alloc, code, "url-pattern")
+}
+
+/// Refuses an item of the list at a key of an item of a list in the file's table.
+fn refuse_nested(
+    alloc: Global,
+    code: FaultCode,
+    list: &str,
+    item: usize,
+    key: &str,
+    nested_item: usize,
+) -> Result<(), LocatedReadFault>
+    ensures { Gives located_fault result (refuse_at code key.now (item_key list.now item key.now ++ Item nested_item ∷ [])) }
+{
+    let refused = within_item(nested_item, refuse(alloc, code, key));
+    let refused = within_key(alloc, key, refused);
+    within_key(alloc, list, within_item(item, refused))
+}
+
+fn first_unmapped(servlets: &Names<'_>, mappings: &[ServletMapping]) -> Option<usize>
+    ensures { result ≡ position (λ mapping. not (is_among servlets.now mapping.servlet_name)) mappings.now }
+{
+    mappings.iter().position(|mapping| !servlets.contains(mapping.servlet_name.as_str()))
 }
 
 fn servlet_patterns(alloc: Global, mappings: &[ServletMapping]) -> Result<Vec<&str>, NoMemory>
@@ -91,32 +132,61 @@ fn text_of(pattern: &Pattern) -> &str
     pattern.text()
 }
 
+#[tactic(auto, using(crate::proofs::Lists::list_all_position))]
 fn check_filter_mappings(
     alloc: Global,
     servlets: &Names<'_>,
     filters: &Names<'_>,
     web_app: &WebApp,
-) -> Result<(), ReadFault>
+) -> Result<(), LocatedReadFault>
     requires servlets { HaveSame servlets.now (spec.servlet_names web_app.now) }
     requires filters { HaveSame filters.now (spec.filter_names web_app.now) }
-    ensures { Gives fault result (spec.filter_mappings_fit web_app.now) }
+    ensures { Gives located_fault result (spec.filter_mappings_fit web_app.now) }
 {
     let mappings = web_app.filter_mappings.as_slice();
-    if !have_filters(filters, mappings) {
-        return refuse(alloc, FaultCode::UnknownFilter, "filter-name");
+    if let Some(place) = first_without_filter(filters, mappings) {
+        let code = FaultCode::UnknownFilter;
+        return refuse_item(alloc, code, "filter-mapping", place, "filter-name");
     }
     if !have_servlets(servlets, mappings) {
-        return refuse(alloc, FaultCode::UnknownServlet, "servlet-name");
+        return refuse_servlet(alloc, servlets, mappings);
     }
     Ok(())
 }
 
-fn have_filters(filters: &Names<'_>, mappings: &[FilterMapping]) -> bool
-    ensures { result ≡ list_all (λ mapping. is_among filters.now mapping.filter_name) mappings.now }
+fn first_without_filter(filters: &Names<'_>, mappings: &[FilterMapping]) -> Option<usize>
+    ensures { result ≡ position (λ mapping. not (is_among filters.now mapping.filter_name)) mappings.now }
 {
     mappings
         .iter()
-        .all(|mapping| filters.contains(mapping.filter_name.as_str()))
+        .position(|mapping| !filters.contains(mapping.filter_name.as_str()))
+}
+
+/// Refuses the first unknown servlet of the filter mappings.
+fn refuse_servlet(
+    alloc: Global,
+    servlets: &Names<'_>,
+    mappings: &[FilterMapping],
+) -> Result<(), LocatedReadFault>
+    ensures { Gives located_fault result (refuse_at UnknownServlet (codes "servlet-name") (spec.unknown_servlet_steps (λ name. is_reserved_servlet name || is_among servlets.now name) 0 mappings.now)) }
+{
+    let code = FaultCode::UnknownServlet;
+    for (place, mapping) in mappings.iter().enumerate() {
+        let names = mapping.servlet_names.as_slice();
+        if !are_known(servlets, names) {
+            let name = first_unknown(servlets, names).unwrap_or(0);
+            return refuse_nested(alloc, code, "filter-mapping", place, "servlet-name", name);
+        }
+    }
+    refuse(alloc, code, "servlet-name")
+}
+
+fn first_unknown(servlets: &Names<'_>, names: &[Text]) -> Option<usize>
+    ensures { result ≡ position (λ name. not (is_reserved_servlet name || is_among servlets.now name)) names.now }
+{
+    names
+        .iter()
+        .position(|name| !is_known(servlets, name.as_str()))
 }
 
 fn have_servlets(servlets: &Names<'_>, mappings: &[FilterMapping]) -> bool

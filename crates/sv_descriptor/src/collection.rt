@@ -4,12 +4,12 @@ ghost use Rattle.std.specs.Prelude.{◌≡◌, ◌-◌, length, map};
 ghost use Rattle.std.specs.List.{list_all};
 ghost use Rattle.http_header.specs.Token.{is_token_byte};
 ghost use Rattle.sv_text.specs.Gives.{Gives};
-ghost use Rattle.toml.specs.View.{view};
+ghost use Rattle.toml.specs.View.{view, table_view};
 ghost use Rattle.sv_descriptor.specs.Collection as spec;
-ghost use Rattle.sv_descriptor.specs.Fault.{fault};
+ghost use Rattle.sv_descriptor.specs.Fault.{located_fault};
 ghost use Rattle.sv_descriptor.specs.ListOf.{is_array};
 
-use crate::fault::{FaultCode, ReadFault, refuse};
+use crate::fault::{FaultCode, LocatedReadFault, refuse, within_item};
 use crate::ignored_keys::{IgnoredText, element_keys};
 use crate::limits::MAX_LIST_ITEMS;
 use crate::list::{ListOf, list_items};
@@ -43,7 +43,7 @@ impl Schema for Collections {
         alloc: Global,
         key: &str,
         value: &Value,
-    ) -> Result<Listed<Collection>, ReadFault> {
+    ) -> Result<Listed<Collection>, LocatedReadFault> {
         let item = TableOf(CollectionTable {
             room: MAX_PATTERNS_OF_CONSTRAINT,
         });
@@ -57,13 +57,13 @@ fn collections_within(
     room: usize,
     key: &str,
     values: &[Value],
-) -> Result<Listed<Collection>, ReadFault>
-    ensures { Gives fault result (spec.collections_within room key.now (map view values.now)) }
+) -> Result<Listed<Collection>, LocatedReadFault>
+    ensures { Gives located_fault result (spec.collections_within 0 room key.now (map view values.now)) }
 {
     let mut room = room;
     let mut collections = Vec::with_capacity(alloc, values.len())?;
-    for value in values {
-        let collection = read_collection(alloc, room, key, value)?;
+    for (place, value) in values.iter().enumerate() {
+        let collection = within_item(place, read_collection(alloc, room, key, value))?;
         room = room_beside(room, &collection);
         collections.push(collection)?;
     }
@@ -76,8 +76,8 @@ fn read_collection(
     room: usize,
     key: &str,
     value: &Value,
-) -> Result<Collection, ReadFault>
-    ensures { Gives fault result (spec.collection_table room key.now (view value.now)) }
+) -> Result<Collection, LocatedReadFault>
+    ensures { Gives located_fault result (spec.collection_table room key.now (view value.now)) }
 {
     TableOf(CollectionTable { room }).read(alloc, key, value)
 }
@@ -101,7 +101,7 @@ impl TableSchema for CollectionTable {
 
     ghost reads = { λ schema. spec.collection schema.room };
 
-    fn read(&self, alloc: Global, table: &Table) -> Result<Collection, ReadFault> {
+    fn read(&self, alloc: Global, table: &Table) -> Result<Collection, LocatedReadFault> {
         let known = [
             "web-resource-name",
             "url-pattern",
@@ -115,17 +115,22 @@ impl TableSchema for CollectionTable {
             most: self.room,
             item: TextOf(UrlPattern),
         };
-        let patterns = required(alloc, table, "url-pattern", &patterns)?;
-        let listed = optional(alloc, table, "http-method", &METHODS)?;
-        let omission = OmittedMethods {
-            beside_methods: listed.is_some(),
-        };
-        let omitted = optional(alloc, table, "http-method-omission", &omission)?;
         Ok(Collection {
-            patterns,
-            methods: covered_methods(listed, omitted),
+            patterns: required(alloc, table, "url-pattern", &patterns)?,
+            methods: read_methods(alloc, table)?,
         })
     }
+}
+
+fn read_methods(alloc: Global, table: &Table) -> Result<Methods, LocatedReadFault>
+    ensures { Gives located_fault result (spec.methods_of (table_view table.now)) }
+{
+    let listed = optional(alloc, table, "http-method", &METHODS)?;
+    let omission = OmittedMethods {
+        beside_methods: listed.is_some(),
+    };
+    let omitted = optional(alloc, table, "http-method-omission", &omission)?;
+    Ok(covered_methods(listed, omitted))
 }
 
 /// Returns the methods that a collection covers: those listed, all except those omitted, or all.
@@ -166,7 +171,12 @@ impl Schema for OmittedMethods {
         value.is_array()
     }
 
-    fn read(&self, alloc: Global, key: &str, value: &Value) -> Result<Listed<Text>, ReadFault> {
+    fn read(
+        &self,
+        alloc: Global,
+        key: &str,
+        value: &Value,
+    ) -> Result<Listed<Text>, LocatedReadFault> {
         let _ = list_items(alloc, 0, MAX_LIST_ITEMS, &METHODS.item, key, value)?;
         if self.beside_methods {
             return refuse(alloc, FaultCode::BothMethodLists, key);
@@ -184,7 +194,7 @@ impl TextSchema for Method {
 
     ghost reads = { λ _. spec.method };
 
-    fn read(&self, alloc: Global, key: &str, text: &str) -> Result<Text, ReadFault> {
+    fn read(&self, alloc: Global, key: &str, text: &str) -> Result<Text, LocatedReadFault> {
         if !is_method_name(text) {
             return refuse(alloc, FaultCode::BadValue, key);
         }

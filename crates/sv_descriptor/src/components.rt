@@ -3,9 +3,9 @@
 ghost use Rattle.sv_text.specs.Gives.{Gives};
 ghost use Rattle.toml.specs.View.{table_view};
 ghost use Rattle.sv_descriptor.specs.Components.{components};
-ghost use Rattle.sv_descriptor.specs.Fault.{fault};
+ghost use Rattle.sv_descriptor.specs.Fault.{located_fault};
 
-use crate::fault::ReadFault;
+use crate::fault::LocatedReadFault;
 use crate::filter::{FilterEntry, FilterMapping, FilterMappingTable, FilterTable};
 use crate::listener::{ListenerEntry, ListenerTable};
 use crate::servlet::{ServletEntry, ServletMapping, ServletMappingTable, ServletTable};
@@ -32,9 +32,9 @@ pub struct Components {
 /// Reads the components of a descriptor.
 ///
 /// # Errors
-/// The first fault in the order of the elements, or [`ReadFault::NoMemory`].
-pub fn read_components(alloc: Global, table: &Table) -> Result<Components, ReadFault>
-    ensures { Gives fault result (components (table_view table.now)) }
+/// The first fault in the order of the elements, or [`LocatedReadFault::NoMemory`].
+pub fn read_components(alloc: Global, table: &Table) -> Result<Components, LocatedReadFault>
+    ensures { Gives located_fault result (components (table_view table.now)) }
 {
     Ok(Components {
         servlets: tables(alloc, table, "servlet", ServletTable)?,

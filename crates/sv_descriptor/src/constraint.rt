@@ -5,7 +5,7 @@ ghost use Rattle.sv_descriptor.specs.Constraint as spec;
 ghost use Rattle.sv_descriptor.specs.ListOf.{is_array};
 
 use crate::collection::Collections;
-use crate::fault::{FaultCode, ReadFault, refuse};
+use crate::fault::{FaultCode, LocatedReadFault, refuse};
 use crate::ignored_keys::element_keys;
 use crate::limits::MAX_LIST_ITEMS;
 use crate::list::ListOf;
@@ -37,7 +37,7 @@ impl Schema for Constraints {
         alloc: Global,
         key: &str,
         value: &Value,
-    ) -> Result<Listed<Constraint>, ReadFault> {
+    ) -> Result<Listed<Constraint>, LocatedReadFault> {
         let constraints = UNNUMBERED.read(alloc, key, value)?;
         Ok(numbered(constraints))
     }
@@ -76,7 +76,7 @@ impl TableSchema for ConstraintTable {
 
     ghost reads = { λ _. spec.constraint };
 
-    fn read(&self, alloc: Global, table: &Table) -> Result<Constraint, ReadFault> {
+    fn read(&self, alloc: Global, table: &Table) -> Result<Constraint, LocatedReadFault> {
         let known = [
             "web-resource-collection",
             "auth-constraint",
@@ -104,7 +104,7 @@ impl TableSchema for AuthTable {
 
     ghost reads = { λ _. spec.auth_constraint };
 
-    fn read(&self, alloc: Global, table: &Table) -> Result<Auth, ReadFault> {
+    fn read(&self, alloc: Global, table: &Table) -> Result<Auth, LocatedReadFault> {
         element_keys(alloc, &["role-name"], table)?;
         let roles = ListOf {
             least: 0,
@@ -124,7 +124,7 @@ impl TableSchema for TransportTable {
 
     ghost reads = { λ _. spec.user_data_constraint };
 
-    fn read(&self, alloc: Global, table: &Table) -> Result<Transport, ReadFault> {
+    fn read(&self, alloc: Global, table: &Table) -> Result<Transport, LocatedReadFault> {
         element_keys(alloc, &["transport-guarantee"], table)?;
         required(alloc, table, "transport-guarantee", &TextOf(Guarantee))
     }
@@ -139,7 +139,7 @@ impl TextSchema for Guarantee {
 
     ghost reads = { λ _. spec.transport_guarantee };
 
-    fn read(&self, alloc: Global, key: &str, text: &str) -> Result<Transport, ReadFault> {
+    fn read(&self, alloc: Global, key: &str, text: &str) -> Result<Transport, LocatedReadFault> {
         match text {
             "NONE" => Ok(Transport::Plain),
             "INTEGRAL" => Ok(Transport::Integral),

@@ -4,7 +4,7 @@ ghost use Rattle.std.specs.Prelude.{◌≡◌};
 ghost use Rattle.sv_text.specs.Gives.{GivesAnswer};
 ghost use Rattle.sv_descriptor.specs.ContextPath as spec;
 
-use crate::fault::{FaultCode, ReadFault, refuse};
+use crate::fault::{FaultCode, LocatedReadFault, refuse};
 use crate::text::TextSchema;
 use std::alloc::Global;
 use sv_text::{NoMemory, Text};
@@ -20,7 +20,7 @@ impl TextSchema for ContextPath {
 
     ghost reads = { λ _. spec.context_path };
 
-    fn read(&self, alloc: Global, key: &str, text: &str) -> Result<Text, ReadFault> {
+    fn read(&self, alloc: Global, key: &str, text: &str) -> Result<Text, LocatedReadFault> {
         if !is_context_path(alloc, text)? {
             return refuse(alloc, FaultCode::BadValue, key);
         }

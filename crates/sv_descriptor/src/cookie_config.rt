@@ -5,7 +5,7 @@ ghost use Rattle.std.specs.List.{list_all};
 ghost use Rattle.sv_descriptor.specs.CookieConfig as spec;
 
 use crate::collection::is_token_text;
-use crate::fault::{FaultCode, ReadFault, refuse};
+use crate::fault::{FaultCode, LocatedReadFault, refuse};
 use crate::ignored_keys::element_keys;
 use crate::limits::{MAX_COOKIE_AGE, MAX_COOKIE_PATH_BYTES, MAX_NAME_BYTES};
 use crate::schema::{optional, optional_or};
@@ -26,7 +26,7 @@ impl TableSchema for CookieTable {
 
     ghost reads = { λ _. spec.cookie_config };
 
-    fn read(&self, alloc: Global, table: &Table) -> Result<CookieSettings, ReadFault> {
+    fn read(&self, alloc: Global, table: &Table) -> Result<CookieSettings, LocatedReadFault> {
         element_keys(alloc, &["name", "path", "http-only", "max-age"], table)?;
         let standard = CookieSettings::standard(alloc)?;
         Ok(CookieSettings {
@@ -47,7 +47,7 @@ impl TextSchema for CookieName {
 
     ghost reads = { λ _. spec.cookie_name };
 
-    fn read(&self, alloc: Global, key: &str, text: &str) -> Result<Text, ReadFault> {
+    fn read(&self, alloc: Global, key: &str, text: &str) -> Result<Text, LocatedReadFault> {
         if !is_cookie_name(text) {
             return refuse(alloc, FaultCode::BadValue, key);
         }
@@ -71,7 +71,7 @@ impl TextSchema for CookiePath {
 
     ghost reads = { λ _. spec.cookie_path };
 
-    fn read(&self, alloc: Global, key: &str, text: &str) -> Result<Text, ReadFault> {
+    fn read(&self, alloc: Global, key: &str, text: &str) -> Result<Text, LocatedReadFault> {
         if !is_cookie_path(text) {
             return refuse(alloc, FaultCode::BadValue, key);
         }
@@ -107,7 +107,7 @@ impl WholeSchema for MaxAge {
 
     ghost reads = { λ _. spec.max_age };
 
-    fn read(&self, alloc: Global, key: &str, number: i64) -> Result<Option<u32>, ReadFault> {
+    fn read(&self, alloc: Global, key: &str, number: i64) -> Result<Option<u32>, LocatedReadFault> {
         if number < -1 || number > i64::from(MAX_COOKIE_AGE) {
             return refuse(alloc, FaultCode::BadValue, key);
         }

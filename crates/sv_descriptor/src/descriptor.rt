@@ -2,13 +2,13 @@
 
 ghost use Rattle.std.specs.Prelude.{◌≡◌, IfOk};
 ghost use Rattle.sv_text.specs.Gives.{Gives};
-ghost use Rattle.sv_descriptor.specs.Descriptor.{descriptor, descriptor_of};
+ghost use Rattle.sv_descriptor.specs.Descriptor.{descriptor, descriptor_of, located_descriptor};
 ghost use Rattle.sv_descriptor.specs.WellFormed.{IsWellFormed};
-ghost use Rattle.sv_descriptor.specs.Fault.{fault};
+ghost use Rattle.sv_descriptor.specs.Fault.{fault, located_fault};
 
 use crate::agreement::check_agreement;
 use crate::document::read_document;
-use crate::fault::ReadFault;
+use crate::fault::{LocatedReadFault, ReadFault};
 use crate::table::TableSchema;
 use crate::web_app::{WebApp, read_web_app};
 use std::alloc::Global;
@@ -60,6 +60,18 @@ pub fn read_descriptor(alloc: Global, text: &str) -> Result<Descriptor, ReadFaul
     ensures gives { Gives fault result (descriptor_of text.now) }
     ensures well_formed { IfOk result IsWellFormed }
 {
+    Ok(read_located_descriptor(alloc, text)?)
+}
+
+/// Reads a deployment descriptor, and locates its fault.
+///
+/// # Errors
+/// The first fault in the format's order with its place, or [`LocatedReadFault::NoMemory`].
+#[tactic(auto, unfolding(crate::specs::Descriptor::located_descriptor))]
+pub fn read_located_descriptor(alloc: Global, text: &str) -> Result<Descriptor, LocatedReadFault>
+    ensures gives { Gives located_fault result (located_descriptor text.now) }
+    ensures well_formed { IfOk result IsWellFormed }
+{
     read_document(alloc, text, &DescriptorTable)
 }
 
@@ -72,7 +84,7 @@ impl TableSchema for DescriptorTable {
 
     ghost reads = { λ _. descriptor };
 
-    fn read(&self, alloc: Global, table: &Table) -> Result<Descriptor, ReadFault> {
+    fn read(&self, alloc: Global, table: &Table) -> Result<Descriptor, LocatedReadFault> {
         let web_app = read_web_app(alloc, table)?;
         check_agreement(alloc, &web_app)?;
         Ok(Descriptor { web_app })

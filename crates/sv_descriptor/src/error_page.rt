@@ -2,9 +2,9 @@
 
 ghost use Rattle.sv_text.specs.Gives.{Gives};
 ghost use Rattle.sv_descriptor.specs.ErrorPage as spec;
-ghost use Rattle.sv_descriptor.specs.Fault.{fault};
+ghost use Rattle.sv_descriptor.specs.Fault.{located_fault};
 
-use crate::fault::{FaultCode, ReadFault, refuse};
+use crate::fault::{FaultCode, LocatedReadFault, refuse, within_key};
 use crate::ignored_keys::element_keys;
 use crate::limits::{MAX_ERROR_CODE, MIN_ERROR_CODE};
 use crate::location::{Location, PageLocation};
@@ -45,7 +45,7 @@ impl TableSchema for ErrorPageTable {
 
     ghost reads = { λ _. spec.error_page };
 
-    fn read(&self, alloc: Global, table: &Table) -> Result<ErrorPage, ReadFault> {
+    fn read(&self, alloc: Global, table: &Table) -> Result<ErrorPage, LocatedReadFault> {
         element_keys(alloc, &["error-code", "exception-type", "location"], table)?;
         let status = WholeOf(NumberBetween {
             least: MIN_ERROR_CODE,
@@ -64,8 +64,8 @@ fn page_for(
     alloc: Global,
     status: Option<u16>,
     exception: Option<Text>,
-) -> Result<PageFor, ReadFault>
-    ensures { Gives fault result (spec.page_for status exception) }
+) -> Result<PageFor, LocatedReadFault>
+    ensures { Gives located_fault result (spec.page_for status exception) }
 {
     let Some(exception) = exception else {
         return match status {
@@ -74,7 +74,8 @@ fn page_for(
         };
     };
     if status.is_some() {
-        return refuse(alloc, FaultCode::BadValue, "exception-type");
+        let key = "exception-type";
+        return within_key(alloc, key, refuse(alloc, FaultCode::BadValue, key));
     }
     Ok(PageFor::Exception(exception))
 }

@@ -1,14 +1,16 @@
-//! The faults of a configuration file.
+//! The faults of a configuration file, and their places.
 
-ghost use Rattle.std.specs.Prelude.{◌≡◌};
+ghost use Rattle.std.specs.Prelude.{◌≡◌, Err};
 ghost use Rattle.sv_text.specs.Gives.{Gives};
 ghost use Rattle.sv_descriptor.specs.Fault as spec;
+ghost use Rattle.sv_descriptor.specs.declared.fault.LocatedReadFault.TheVariants as located;
 ghost use Rattle.sv_descriptor.specs.declared.fault.ReadFault.TheVariants.{NoMemory};
+ghost use Rattle.sv_descriptor.specs.declared.fault.ValueStep.TheVariants.{Key, Item};
 
 use std::alloc::{AllocError, AllocFailed, Global};
 use std::error::Error;
 use std::fmt;
-use sv_text::{NoMemory as OutOfMemory, Text};
+use sv_text::{Listed, NoMemory as OutOfMemory, Text};
 
 /// The reason why a configuration file was not read. It is printed as its fault, or as `no memory`.
 #[derive(Debug, Drop)]
@@ -26,6 +28,35 @@ pub struct DescriptorFault {
     pub code: FaultCode,
     /// The bare key of the faulty value. It is empty if the text is not TOML.
     pub key: Text,
+}
+
+/// The reason why a configuration file was not read, with its place.
+#[derive(Debug, Drop)]
+pub enum LocatedReadFault {
+    /// The file violates its format. This is the first fault in the format's order.
+    Fault(LocatedFault),
+    /// Memory ran out while the file was read, or its fault or the fault's place was named. The file may still be
+    /// valid.
+    NoMemory,
+}
+
+/// The first fault of a configuration file, with the place of the faulty value.
+#[derive(Debug, Drop)]
+pub struct LocatedFault {
+    /// The fault.
+    pub fault: DescriptorFault,
+    /// The steps from the file's table to the faulty value, outermost first; for a missing key to the table that lacks
+    /// it. There are none for the file's table itself, and for a text that is not TOML.
+    pub steps: Listed<ValueStep>,
+}
+
+/// A step from a table or a list to a value in it.
+#[derive(Debug, Drop)]
+pub enum ValueStep {
+    /// To the value at this key of a table.
+    Key(Text),
+    /// To this item of a list, counted from 0.
+    Item(usize),
 }
 
 /// A kind of fault in a configuration file. It is printed as its name.
@@ -137,29 +168,121 @@ impl From<OutOfMemory> for ReadFault {
     }
 }
 
-impl From<AllocError> for ReadFault {
-    ghost from_gives = { λ _ fault. fault ≡ NoMemory };
+impl From<LocatedReadFault> for ReadFault {
+    ghost from_gives = { λ located fault. fault ≡ spec.plain located };
 
-    fn from(_refused: AllocError) -> ReadFault {
-        ReadFault::NoMemory
+    fn from(located: LocatedReadFault) -> ReadFault {
+        match located {
+            LocatedReadFault::Fault(located) => ReadFault::Fault(located.fault),
+            LocatedReadFault::NoMemory => ReadFault::NoMemory,
+        }
     }
 }
 
-impl<T: Drop> From<AllocFailed<T>> for ReadFault {
-    ghost from_gives = { λ _ fault. fault ≡ NoMemory };
+impl From<OutOfMemory> for LocatedReadFault {
+    ghost from_gives = { λ _ fault. fault ≡ located.NoMemory };
 
-    fn from(_refused: AllocFailed<T>) -> ReadFault {
-        ReadFault::NoMemory
+    fn from(_refused: OutOfMemory) -> LocatedReadFault {
+        LocatedReadFault::NoMemory
     }
 }
 
-/// Refuses a file because of a fault at a key.
+impl From<AllocError> for LocatedReadFault {
+    ghost from_gives = { λ _ fault. fault ≡ located.NoMemory };
+
+    fn from(_refused: AllocError) -> LocatedReadFault {
+        LocatedReadFault::NoMemory
+    }
+}
+
+impl<T: Drop> From<AllocFailed<T>> for LocatedReadFault {
+    ghost from_gives = { λ _ fault. fault ≡ located.NoMemory };
+
+    fn from(_refused: AllocFailed<T>) -> LocatedReadFault {
+        LocatedReadFault::NoMemory
+    }
+}
+
+/// Refuses the table or value that is being read because of a fault at a key.
 ///
 /// # Errors
-/// Always: [`ReadFault::NoMemory`] if there was no memory to name the key, and the fault otherwise.
-pub fn refuse<T>(alloc: Global, code: FaultCode, key: &str) -> Result<T, ReadFault>
-    ensures { Gives spec.fault result (spec.refuse code key.now) }
+/// Always: [`LocatedReadFault::NoMemory`] if there was no memory to name the key, and the fault without steps otherwise.
+pub fn refuse<T>(alloc: Global, code: FaultCode, key: &str) -> Result<T, LocatedReadFault>
+    ensures { Gives spec.located_fault result (spec.refuse code key.now) }
 {
     let key = Text::copy_of(alloc, key)?;
-    Err(ReadFault::Fault(DescriptorFault { code, key }))
+    Err(LocatedReadFault::Fault(LocatedFault {
+        fault: DescriptorFault { code, key },
+        steps: Listed::from_vec(Vec::new(alloc)),
+    }))
+}
+
+/// Returns the result of reading the value at a key of a table. A fault of the value gets the step to it in front.
+pub fn within_key<T: Drop>(
+    alloc: Global,
+    key: &str,
+    read: Result<T, LocatedReadFault>,
+) -> Result<T, LocatedReadFault>
+    ensures { (answer : spec.Located T) → Gives spec.located_fault read answer → Gives spec.located_fault result (spec.within (Key key.now) answer) }
+{
+    match read {
+        Ok(value) => Ok(value),
+        Err(LocatedReadFault::Fault(located)) => refuse_below_key(alloc, key, located),
+        Err(LocatedReadFault::NoMemory) => Err(LocatedReadFault::NoMemory),
+    }
+}
+
+/// Returns the result of reading an item of a list. A fault of the item gets the step to it in front.
+pub fn within_item<T: Drop>(
+    item: usize,
+    read: Result<T, LocatedReadFault>,
+) -> Result<T, LocatedReadFault>
+    ensures { (answer : spec.Located T) → Gives spec.located_fault read answer → Gives spec.located_fault result (spec.within (Item item) answer) }
+{
+    match read {
+        Ok(value) => Ok(value),
+        Err(LocatedReadFault::Fault(located)) => refuse_below(ValueStep::Item(item), located),
+        Err(LocatedReadFault::NoMemory) => Err(LocatedReadFault::NoMemory),
+    }
+}
+
+fn refuse_below_key<T>(
+    alloc: Global,
+    key: &str,
+    located: LocatedFault,
+) -> Result<T, LocatedReadFault>
+    ensures { Gives spec.located_fault result (spec.within (Key key.now) (Err located)) }
+{
+    let step = ValueStep::Key(Text::copy_of(alloc, key)?);
+    refuse_below(step, located)
+}
+
+/// Refuses a file because of a fault that has one more step in front.
+fn refuse_below<T>(step: ValueStep, located: LocatedFault) -> Result<T, LocatedReadFault>
+    ensures { Gives spec.located_fault result (spec.within step (Err located)) }
+{
+    let LocatedFault { fault, steps } = located;
+    let mut steps = steps.into_vec();
+    steps.insert(0, step)?;
+    Err(LocatedReadFault::Fault(LocatedFault {
+        fault,
+        steps: Listed::from_vec(steps),
+    }))
+}
+
+/// Refuses a file because of a fault at a key of an item of a list in the file's table.
+///
+/// # Errors
+/// Always: [`LocatedReadFault::NoMemory`] if there was no memory to name the place, and the fault otherwise.
+pub fn refuse_item(
+    alloc: Global,
+    code: FaultCode,
+    list: &str,
+    item: usize,
+    key: &str,
+) -> Result<(), LocatedReadFault>
+    ensures { Gives spec.located_fault result (spec.refuse_at code key.now (spec.item_key list.now item key.now)) }
+{
+    let refused = within_key(alloc, key, refuse(alloc, code, key));
+    within_key(alloc, list, within_item(item, refused))
 }

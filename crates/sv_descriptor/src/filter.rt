@@ -3,9 +3,9 @@
 ghost use Rattle.sv_text.specs.Gives.{Gives};
 ghost use Rattle.toml.specs.View.{table_view};
 ghost use Rattle.sv_descriptor.specs.Filter as spec;
-ghost use Rattle.sv_descriptor.specs.Fault.{fault};
+ghost use Rattle.sv_descriptor.specs.Fault.{located_fault};
 
-use crate::fault::{FaultCode, ReadFault, refuse};
+use crate::fault::{FaultCode, LocatedReadFault, refuse};
 use crate::ignored_keys::element_keys;
 use crate::init_param::{InitParam, InitParams};
 use crate::limits::MAX_LIST_ITEMS;
@@ -61,7 +61,7 @@ impl TableSchema for FilterTable {
 
     ghost reads = { λ _. spec.filter_entry };
 
-    fn read(&self, alloc: Global, table: &Table) -> Result<FilterEntry, ReadFault> {
+    fn read(&self, alloc: Global, table: &Table) -> Result<FilterEntry, LocatedReadFault> {
         element_keys(alloc, &["filter-name", "filter-class", "init-param"], table)?;
         Ok(FilterEntry {
             filter_name: required(alloc, table, "filter-name", &TextOf(Name))?,
@@ -80,7 +80,7 @@ impl TableSchema for FilterMappingTable {
 
     ghost reads = { λ _. spec.filter_mapping };
 
-    fn read(&self, alloc: Global, table: &Table) -> Result<FilterMapping, ReadFault> {
+    fn read(&self, alloc: Global, table: &Table) -> Result<FilterMapping, LocatedReadFault> {
         let known = ["filter-name", "url-pattern", "servlet-name", "dispatcher"];
         element_keys(alloc, &known, table)?;
         let filter_name = required(alloc, table, "filter-name", &TextOf(Name))?;
@@ -92,8 +92,12 @@ impl TableSchema for FilterMappingTable {
 }
 
 /// Reads the lists of a filter mapping.
-fn read_lists(alloc: Global, table: &Table, filter_name: Text) -> Result<FilterMapping, ReadFault>
-    ensures { Gives fault result (spec.filter_mapping_of filter_name (table_view table.now)) }
+fn read_lists(
+    alloc: Global,
+    table: &Table,
+    filter_name: Text,
+) -> Result<FilterMapping, LocatedReadFault>
+    ensures { Gives located_fault result (spec.filter_mapping_of filter_name (table_view table.now)) }
 {
     let patterns = UrlPatterns {
         least: 0,
@@ -130,7 +134,7 @@ impl TextSchema for Dispatcher {
 
     ghost reads = { λ _. spec.dispatcher };
 
-    fn read(&self, alloc: Global, key: &str, text: &str) -> Result<Kind, ReadFault> {
+    fn read(&self, alloc: Global, key: &str, text: &str) -> Result<Kind, LocatedReadFault> {
         match text {
             "REQUEST" => Ok(Kind::Request),
             "FORWARD" => Ok(Kind::Forward),

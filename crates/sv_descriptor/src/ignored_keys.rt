@@ -3,18 +3,18 @@
 ghost use Rattle.sv_text.specs.Gives.{Gives};
 ghost use Rattle.toml.specs.View.{table_view};
 ghost use Rattle.sv_descriptor.specs.Ignored as spec;
-ghost use Rattle.sv_descriptor.specs.Fault.{fault};
+ghost use Rattle.sv_descriptor.specs.Fault.{located_fault};
 ghost use Rattle.sv_descriptor.specs.Table.{texts};
 
-use crate::fault::ReadFault;
+use crate::fault::LocatedReadFault;
 use crate::table::only_keys;
 use crate::text::TextSchema;
 use std::alloc::Global;
 use toml::Table;
 
 /// Checks that an element has only known keys, `description` and `display-name`. Any element may have the last two.
-pub fn element_keys(alloc: Global, known: &[&str], table: &Table) -> Result<(), ReadFault>
-    ensures { Gives fault result (spec.element_keys (texts known.now) (table_view table.now)) }
+pub fn element_keys(alloc: Global, known: &[&str], table: &Table) -> Result<(), LocatedReadFault>
+    ensures { Gives located_fault result (spec.element_keys (texts known.now) (table_view table.now)) }
 {
     only_keys(alloc, known, &["description", "display-name"], table)
 }
@@ -28,7 +28,7 @@ impl TextSchema for IgnoredText {
 
     ghost reads = { λ _. spec.ignored_text };
 
-    fn read(&self, _alloc: Global, _key: &str, _text: &str) -> Result<(), ReadFault> {
+    fn read(&self, _alloc: Global, _key: &str, _text: &str) -> Result<(), LocatedReadFault> {
         Ok(())
     }
 }

@@ -39,10 +39,12 @@ mod web_app;
 mod welcome_file;
 mod whole;
 
-pub use descriptor::{Descriptor, read_descriptor};
+pub use descriptor::{Descriptor, read_descriptor, read_located_descriptor};
 pub use document::read_document;
 pub use error_page::{ErrorPage, PageFor};
-pub use fault::{DescriptorFault, FaultCode, ReadFault, refuse};
+pub use fault::{
+    DescriptorFault, FaultCode, LocatedFault, LocatedReadFault, ReadFault, ValueStep, refuse,
+};
 pub use filter::{FilterEntry, FilterMapping};
 pub use init_param::InitParam;
 pub use laws::{limits_of_all_formats, limits_of_the_descriptor, limits_of_the_settings};
@@ -57,13 +59,13 @@ pub use location::Location;
 pub use login::FormLogin;
 pub use names::{Named, Names, distinct_names, repeats};
 pub use schema::{Schema, has_key, list_or_empty, optional, optional_or, required};
-pub use server::{ContextEntry, Server, read_server};
+pub use server::{ContextEntry, Server, read_located_server, read_server};
 pub use servlet::{ServletEntry, ServletMapping};
 pub use session::SessionConfig;
 pub use sv_mapping::Kind;
 pub use table::{TableOf, TableSchema, only_keys};
 pub use text::{AnyText, HexText, Name, TextOf, TextSchema, is_within};
-pub use users::read_users;
+pub use users::{read_located_users, read_users};
 pub use version::Version;
 pub use web_app::WebApp;
 pub use whole::{NumberBetween, Truth, WholeOf, WholeSchema};

@@ -4,10 +4,10 @@ ghost use Rattle.std.specs.Prelude.{◌≡◌, ℕ, Bool, map};
 ghost use Rattle.std.specs.List.{list_all};
 ghost use Rattle.sv_text.specs.Gives.{Gives};
 ghost use Rattle.toml.specs.View.{view};
-ghost use Rattle.sv_descriptor.specs.Fault.{fault};
+ghost use Rattle.sv_descriptor.specs.Fault.{located_fault};
 ghost use Rattle.sv_descriptor.specs.ListOf as spec;
 
-use crate::fault::{FaultCode, ReadFault, refuse};
+use crate::fault::{FaultCode, LocatedReadFault, refuse, within_item};
 use crate::schema::Schema;
 use std::alloc::Global;
 use sv_text::Listed;
@@ -42,7 +42,7 @@ impl<S: Schema> Schema for ListOf<S> {
         alloc: Global,
         key: &str,
         value: &Value,
-    ) -> Result<Listed<S::Output>, ReadFault> {
+    ) -> Result<Listed<S::Output>, LocatedReadFault> {
         let items = list_items(alloc, self.least, self.most, &self.item, key, value)?;
         each(alloc, &self.item, key, items)
     }
@@ -52,7 +52,7 @@ impl<S: Schema> Schema for ListOf<S> {
 ///
 /// # Errors
 /// In this order: [`FaultCode::WrongType`] if the value is no list or an item has another type, [`FaultCode::TooMany`]
-/// if the list is too long, and [`FaultCode::BadValue`] if it is too short; or [`ReadFault::NoMemory`].
+/// if the list is too long, and [`FaultCode::BadValue`] if it is too short; or [`LocatedReadFault::NoMemory`].
 pub fn list_items<'a, S: Schema>(
     alloc: Global,
     least: usize,
@@ -60,8 +60,8 @@ pub fn list_items<'a, S: Schema>(
     item: &S,
     key: &str,
     value: &'a Value,
-) -> Result<&'a [Value], ReadFault>
-    ensures { Gives fault (spec.seen result) (spec.list_items least most (S.fits item.now) key.now (view value.now)) }
+) -> Result<&'a [Value], LocatedReadFault>
+    ensures { Gives located_fault (spec.seen result) (spec.list_items least most (S.fits item.now) key.now (view value.now)) }
 {
     match value {
         Value::Array(items) => sized_items(alloc, least, most, item, key, items.as_slice()),
@@ -76,8 +76,8 @@ fn sized_items<'a, S: Schema>(
     item: &S,
     key: &str,
     items: &'a [Value],
-) -> Result<&'a [Value], ReadFault>
-    ensures { Gives fault (spec.seen result) (spec.sized_items least most (S.fits item.now) key.now (map view items.now)) }
+) -> Result<&'a [Value], LocatedReadFault>
+    ensures { Gives located_fault (spec.seen result) (spec.sized_items least most (S.fits item.now) key.now (map view items.now)) }
 {
     if !all_fit(item, items) {
         return refuse(alloc, FaultCode::WrongType, key);
@@ -107,12 +107,12 @@ fn each<S: Schema>(
     item: &S,
     key: &str,
     values: &[Value],
-) -> Result<Listed<S::Output>, ReadFault>
-    ensures { Gives fault result (spec.each (S.reads item.now key.now) (map view values.now)) }
+) -> Result<Listed<S::Output>, LocatedReadFault>
+    ensures { Gives located_fault result (spec.each_from 0 (S.reads item.now key.now) (map view values.now)) }
 {
     let mut outputs = Vec::with_capacity(alloc, values.len())?;
-    for value in values {
-        outputs.push(item.read(alloc, key, value)?)?;
+    for (place, value) in values.iter().enumerate() {
+        outputs.push(within_item(place, item.read(alloc, key, value))?)?;
     }
     Ok(Listed::from_vec(outputs))
 }

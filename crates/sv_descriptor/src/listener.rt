@@ -2,7 +2,7 @@
 
 ghost use Rattle.sv_descriptor.specs.Listener.{listener};
 
-use crate::fault::ReadFault;
+use crate::fault::LocatedReadFault;
 use crate::ignored_keys::element_keys;
 use crate::schema::required;
 use crate::table::TableSchema;
@@ -27,7 +27,7 @@ impl TableSchema for ListenerTable {
 
     ghost reads = { λ _. listener };
 
-    fn read(&self, alloc: Global, table: &Table) -> Result<ListenerEntry, ReadFault> {
+    fn read(&self, alloc: Global, table: &Table) -> Result<ListenerEntry, LocatedReadFault> {
         element_keys(alloc, &["listener-class"], table)?;
         Ok(ListenerEntry {
             listener_class: required(alloc, table, "listener-class", &TextOf(Name))?,

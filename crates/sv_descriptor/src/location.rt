@@ -5,7 +5,7 @@ ghost use Rattle.sv_text.specs.Gives.{GivesAnswer};
 ghost use Rattle.sv_uri.specs.Canonical.{begins_with_slash};
 ghost use Rattle.sv_descriptor.specs.Location as spec;
 
-use crate::fault::{FaultCode, ReadFault, refuse};
+use crate::fault::{FaultCode, LocatedReadFault, refuse};
 use crate::text::TextSchema;
 use std::alloc::Global;
 use std::marker::Model;
@@ -63,7 +63,7 @@ impl TextSchema for PageLocation {
 
     ghost reads = { λ _. spec.location };
 
-    fn read(&self, alloc: Global, key: &str, text: &str) -> Result<Location, ReadFault> {
+    fn read(&self, alloc: Global, key: &str, text: &str) -> Result<Location, LocatedReadFault> {
         match Location::parse(alloc, text)? {
             Some(location) => Ok(location),
             None => refuse(alloc, FaultCode::BadValue, key),

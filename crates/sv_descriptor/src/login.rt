@@ -2,7 +2,7 @@
 
 ghost use Rattle.sv_descriptor.specs.Login as spec;
 
-use crate::fault::{FaultCode, ReadFault, refuse};
+use crate::fault::{FaultCode, LocatedReadFault, refuse};
 use crate::ignored_keys::element_keys;
 use crate::location::{Location, PageLocation};
 use crate::schema::required;
@@ -29,7 +29,7 @@ impl TableSchema for LoginTable {
 
     ghost reads = { λ _. spec.login_config };
 
-    fn read(&self, alloc: Global, table: &Table) -> Result<FormLogin, ReadFault> {
+    fn read(&self, alloc: Global, table: &Table) -> Result<FormLogin, LocatedReadFault> {
         element_keys(alloc, &["auth-method", "form-login-config"], table)?;
         required(alloc, table, "auth-method", &TextOf(AuthMethod))?;
         required(alloc, table, "form-login-config", &TableOf(FormLoginTable))
@@ -45,7 +45,7 @@ impl TableSchema for FormLoginTable {
 
     ghost reads = { λ _. spec.form_login_config };
 
-    fn read(&self, alloc: Global, table: &Table) -> Result<FormLogin, ReadFault> {
+    fn read(&self, alloc: Global, table: &Table) -> Result<FormLogin, LocatedReadFault> {
         element_keys(alloc, &["form-login-page", "form-error-page"], table)?;
         Ok(FormLogin {
             login_page: required(alloc, table, "form-login-page", &TextOf(PageLocation))?,
@@ -63,7 +63,7 @@ impl TextSchema for AuthMethod {
 
     ghost reads = { λ _. spec.auth_method };
 
-    fn read(&self, alloc: Global, key: &str, text: &str) -> Result<(), ReadFault> {
+    fn read(&self, alloc: Global, key: &str, text: &str) -> Result<(), LocatedReadFault> {
         if text != "FORM" {
             return refuse(alloc, FaultCode::BadValue, key);
         }

@@ -1,10 +1,13 @@
 //! Names that must differ.
 
 ghost use Rattle.std.specs.Prelude.{◌≡◌, ℕ, List, [], ◌∷◌, map, not, IfOk};
-ghost use Rattle.sv_text.specs.Gives.{GivesAnswer};
+ghost use Rattle.sv_text.specs.Gives.{Gives, GivesAnswer};
+ghost use Rattle.sv_descriptor.specs.Fault.{located_fault, refuse_at, item_key};
+ghost use Rattle.sv_descriptor.specs.declared.fault.FaultCode.TheVariants.{DuplicateName};
 ghost use Rattle.sv_descriptor.specs.Names as spec;
 ghost use Rattle.sv_descriptor.specs.Table.{is_among};
 
+use crate::fault::{FaultCode, LocatedReadFault, refuse_item};
 use std::alloc::Global;
 use std::collections::BTreeSet;
 use std::marker::Model;
@@ -97,4 +100,48 @@ pub fn repeats<N: Named>(alloc: Global, items: &[N]) -> Result<bool, NoMemory>
     ensures { GivesAnswer result (spec.repeats (map N.its_name items.now)) }
 {
     Ok(distinct_names(alloc, items)?.is_none())
+}
+
+/// Checks that the names at a key of the items of a list in the file's table differ.
+///
+/// # Errors
+/// [`FaultCode::DuplicateName`] at the first name that repeats an earlier one, or [`LocatedReadFault::NoMemory`].
+pub fn check_distinct<N: Named>(
+    alloc: Global,
+    items: &[N],
+    list: &str,
+    key: &str,
+) -> Result<(), LocatedReadFault>
+    ensures { Gives located_fault result (spec.distinct list.now key.now (map N.its_name items.now)) }
+{
+    if repeats(alloc, items)? {
+        return refuse_repeat(alloc, items, list, key);
+    }
+    Ok(())
+}
+
+/// Refuses a list because of the first name that repeats an earlier one. The name is at a key of an item of the list.
+pub fn refuse_repeat<N: Named>(
+    alloc: Global,
+    items: &[N],
+    list: &str,
+    key: &str,
+) -> Result<(), LocatedReadFault>
+    ensures { Gives located_fault result (refuse_at DuplicateName key.now (item_key list.now (spec.first_repeat (map N.its_name items.now)) key.now)) }
+{
+    let place = first_repeat(alloc, items)?;
+    refuse_item(alloc, FaultCode::DuplicateName, list, place, key)
+}
+
+/// Returns the place of the first name that repeats an earlier one, or the number of names if they all differ.
+pub fn first_repeat<N: Named>(alloc: Global, items: &[N]) -> Result<usize, NoMemory>
+    ensures { GivesAnswer result (spec.first_repeat (map N.its_name items.now)) }
+{
+    let mut names = Names::new(alloc);
+    for (place, item) in items.iter().enumerate() {
+        if !names.enter(item.name())? {
+            return Ok(place);
+        }
+    }
+    Ok(items.len())
 }

@@ -3,10 +3,10 @@
 ghost use Rattle.sv_text.specs.Gives.{Gives};
 ghost use Rattle.toml.specs.View.{table_view};
 ghost use Rattle.sv_descriptor.specs.Pages.{pages};
-ghost use Rattle.sv_descriptor.specs.Fault.{fault};
+ghost use Rattle.sv_descriptor.specs.Fault.{located_fault};
 
 use crate::error_page::{ErrorPage, ErrorPageTable};
-use crate::fault::ReadFault;
+use crate::fault::LocatedReadFault;
 use crate::schema::list_or_empty;
 use crate::table::TableOf;
 use crate::tables::tables;
@@ -27,9 +27,9 @@ pub struct Pages {
 /// Reads the pages of a descriptor.
 ///
 /// # Errors
-/// The first fault in the order of the elements, or [`ReadFault::NoMemory`].
-pub fn read_pages(alloc: Global, table: &Table) -> Result<Pages, ReadFault>
-    ensures { Gives fault result (pages (table_view table.now)) }
+/// The first fault in the order of the elements, or [`LocatedReadFault::NoMemory`].
+pub fn read_pages(alloc: Global, table: &Table) -> Result<Pages, LocatedReadFault>
+    ensures { Gives located_fault result (pages (table_view table.now)) }
 {
     let files = TableOf(WelcomeFileTable);
     Ok(Pages {

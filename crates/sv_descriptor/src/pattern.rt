@@ -2,7 +2,7 @@
 
 ghost use Rattle.sv_descriptor.specs.Pattern.{pattern};
 
-use crate::fault::{FaultCode, ReadFault, refuse};
+use crate::fault::{FaultCode, LocatedReadFault, refuse};
 use crate::list::ListOf;
 use crate::text::{TextOf, TextSchema};
 use std::alloc::Global;
@@ -17,11 +17,11 @@ impl TextSchema for UrlPattern {
 
     ghost reads = { λ _. pattern };
 
-    fn read(&self, alloc: Global, key: &str, text: &str) -> Result<Pattern, ReadFault> {
+    fn read(&self, alloc: Global, key: &str, text: &str) -> Result<Pattern, LocatedReadFault> {
         match Pattern::parse(alloc, text) {
             Ok(pattern) => Ok(pattern),
             Err(PatternFault::BadPattern) => refuse(alloc, FaultCode::BadPattern, key),
-            Err(PatternFault::NoMemory) => Err(ReadFault::NoMemory),
+            Err(PatternFault::NoMemory) => Err(LocatedReadFault::NoMemory),
         }
     }
 }

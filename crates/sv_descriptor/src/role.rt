@@ -3,7 +3,7 @@
 ghost use Rattle.std.specs.Prelude.{◌≡◌};
 ghost use Rattle.sv_descriptor.specs.Role as spec;
 
-use crate::fault::{FaultCode, ReadFault, refuse};
+use crate::fault::{FaultCode, LocatedReadFault, refuse};
 use crate::ignored_keys::element_keys;
 use crate::schema::required;
 use crate::table::TableSchema;
@@ -21,7 +21,7 @@ impl TableSchema for RoleTable {
 
     ghost reads = { λ _. spec.security_role };
 
-    fn read(&self, alloc: Global, table: &Table) -> Result<Text, ReadFault> {
+    fn read(&self, alloc: Global, table: &Table) -> Result<Text, LocatedReadFault> {
         element_keys(alloc, &["role-name"], table)?;
         required(alloc, table, "role-name", &TextOf(RoleName))
     }
@@ -36,7 +36,7 @@ impl TextSchema for RoleName {
 
     ghost reads = { λ _. spec.role_name };
 
-    fn read(&self, alloc: Global, key: &str, text: &str) -> Result<Text, ReadFault> {
+    fn read(&self, alloc: Global, key: &str, text: &str) -> Result<Text, LocatedReadFault> {
         if is_reserved_role(text) {
             return refuse(alloc, FaultCode::ReservedRole, key);
         }

@@ -3,10 +3,10 @@
 ghost use Rattle.sv_text.specs.Gives.{Gives};
 ghost use Rattle.toml.specs.View.{table_view};
 ghost use Rattle.sv_descriptor.specs.Security.{security};
-ghost use Rattle.sv_descriptor.specs.Fault.{fault};
+ghost use Rattle.sv_descriptor.specs.Fault.{located_fault};
 
 use crate::constraint::Constraints;
-use crate::fault::ReadFault;
+use crate::fault::LocatedReadFault;
 use crate::login::{FormLogin, LoginTable};
 use crate::role::RoleTable;
 use crate::schema::{list_or_empty, optional};
@@ -32,13 +32,13 @@ pub struct Security {
 /// constraint covers.
 ///
 /// # Errors
-/// The first fault in the order of the elements, or [`ReadFault::NoMemory`].
+/// The first fault in the order of the elements, or [`LocatedReadFault::NoMemory`].
 pub fn read_security(
     alloc: Global,
     table: &Table,
     deny_uncovered: bool,
-) -> Result<Security, ReadFault>
-    ensures { Gives fault result (security deny_uncovered (table_view table.now)) }
+) -> Result<Security, LocatedReadFault>
+    ensures { Gives located_fault result (security deny_uncovered (table_view table.now)) }
 {
     let constraints = list_or_empty(alloc, table, "security-constraint", &Constraints)?;
     let declared = tables(alloc, table, "security-role", RoleTable)?;

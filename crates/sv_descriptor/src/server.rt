@@ -3,14 +3,14 @@
 ghost use Rattle.std.specs.Prelude.{IfOk};
 ghost use Rattle.sv_text.specs.Gives.{Gives};
 ghost use Rattle.sv_descriptor.specs.Server as spec;
-ghost use Rattle.sv_descriptor.specs.Fault.{fault};
+ghost use Rattle.sv_descriptor.specs.Fault.{fault, located_fault};
 
 use crate::context_path::ContextPath;
 use crate::document::read_document;
-use crate::fault::{FaultCode, ReadFault, refuse};
+use crate::fault::{LocatedReadFault, ReadFault};
 use crate::limits::{MAX_PORT, NO_LIMIT, SEED_DIGITS};
 use crate::list::ListOf;
-use crate::names::{Named, repeats};
+use crate::names::{Named, check_distinct};
 use crate::schema::{optional, required};
 use crate::table::{TableOf, TableSchema, only_keys};
 use crate::text::{AnyText, HexText, TextOf};
@@ -59,6 +59,18 @@ pub fn read_server(alloc: Global, text: &str) -> Result<Server, ReadFault>
     ensures gives { Gives fault result (spec.server_of text.now) }
     ensures well_formed { IfOk result spec.IsWellFormedServer }
 {
+    Ok(read_located_server(alloc, text)?)
+}
+
+/// Reads a server file, and locates its fault.
+///
+/// # Errors
+/// The first fault in the format's order with its place, or [`LocatedReadFault::NoMemory`].
+#[tactic(auto, unfolding(crate::specs::Server::located_server))]
+pub fn read_located_server(alloc: Global, text: &str) -> Result<Server, LocatedReadFault>
+    ensures gives { Gives located_fault result (spec.located_server text.now) }
+    ensures well_formed { IfOk result spec.IsWellFormedServer }
+{
     read_document(alloc, text, &ServerTable)
 }
 
@@ -71,7 +83,7 @@ impl TableSchema for ServerTable {
 
     ghost reads = { λ _. spec.server };
 
-    fn read(&self, alloc: Global, table: &Table) -> Result<Server, ReadFault> {
+    fn read(&self, alloc: Global, table: &Table) -> Result<Server, LocatedReadFault> {
         only_keys(alloc, &["port", "seed", "context"], &[], table)?;
         let port = WholeOf(NumberBetween {
             least: 0,
@@ -89,9 +101,7 @@ impl TableSchema for ServerTable {
             item: TableOf(ContextTable),
         };
         let contexts = required(alloc, table, "context", &contexts)?;
-        if repeats(alloc, contexts.as_slice())? {
-            return refuse(alloc, FaultCode::DuplicateName, "path");
-        }
+        check_distinct(alloc, contexts.as_slice(), "context", "path")?;
         Ok(Server {
             port,
             seed,
@@ -109,7 +119,7 @@ impl TableSchema for ContextTable {
 
     ghost reads = { λ _. spec.context };
 
-    fn read(&self, alloc: Global, table: &Table) -> Result<ContextEntry, ReadFault> {
+    fn read(&self, alloc: Global, table: &Table) -> Result<ContextEntry, LocatedReadFault> {
         only_keys(alloc, &["path", "descriptor", "files", "users"], &[], table)?;
         Ok(ContextEntry {
             path: required(alloc, table, "path", &TextOf(ContextPath))?,

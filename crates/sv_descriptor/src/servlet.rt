@@ -3,7 +3,7 @@
 ghost use Rattle.std.specs.Prelude.{◌≡◌};
 ghost use Rattle.sv_descriptor.specs.Servlet as spec;
 
-use crate::fault::{FaultCode, ReadFault, refuse};
+use crate::fault::{FaultCode, LocatedReadFault, refuse};
 use crate::ignored_keys::element_keys;
 use crate::init_param::{InitParam, InitParams};
 use crate::limits::MAX_LIST_ITEMS;
@@ -57,7 +57,7 @@ impl TableSchema for ServletTable {
 
     ghost reads = { λ _. spec.servlet };
 
-    fn read(&self, alloc: Global, table: &Table) -> Result<ServletEntry, ReadFault> {
+    fn read(&self, alloc: Global, table: &Table) -> Result<ServletEntry, LocatedReadFault> {
         let known = [
             "servlet-name",
             "servlet-class",
@@ -83,7 +83,7 @@ impl TableSchema for ServletMappingTable {
 
     ghost reads = { λ _. spec.servlet_mapping };
 
-    fn read(&self, alloc: Global, table: &Table) -> Result<ServletMapping, ReadFault> {
+    fn read(&self, alloc: Global, table: &Table) -> Result<ServletMapping, LocatedReadFault> {
         element_keys(alloc, &["servlet-name", "url-pattern"], table)?;
         let patterns = UrlPatterns {
             least: 1,
@@ -106,7 +106,7 @@ impl TextSchema for ServletName {
 
     ghost reads = { λ _. spec.servlet_name };
 
-    fn read(&self, alloc: Global, key: &str, text: &str) -> Result<Text, ReadFault> {
+    fn read(&self, alloc: Global, key: &str, text: &str) -> Result<Text, LocatedReadFault> {
         if is_reserved_servlet(text) {
             return refuse(alloc, FaultCode::BadValue, key);
         }
@@ -131,7 +131,7 @@ impl WholeSchema for StartupOrder {
 
     ghost reads = { λ _. spec.startup_order };
 
-    fn read(&self, alloc: Global, key: &str, number: i64) -> Result<i32, ReadFault> {
+    fn read(&self, alloc: Global, key: &str, number: i64) -> Result<i32, LocatedReadFault> {
         if number < i64::from(i32::MIN) || number > i64::from(i32::MAX) {
             return refuse(alloc, FaultCode::BadValue, key);
         }

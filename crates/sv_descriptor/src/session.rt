@@ -4,10 +4,10 @@ ghost use Rattle.sv_text.specs.Gives.{Gives, GivesAnswer};
 ghost use Rattle.toml.specs.View.{table_view};
 ghost use Rattle.sv_descriptor.specs.Ignored.{element_keys};
 ghost use Rattle.sv_descriptor.specs.Session as spec;
-ghost use Rattle.sv_descriptor.specs.Fault.{fault};
+ghost use Rattle.sv_descriptor.specs.Fault.{located_fault};
 
 use crate::cookie_config::CookieTable;
-use crate::fault::{FaultCode, ReadFault, refuse};
+use crate::fault::{FaultCode, LocatedReadFault, refuse};
 use crate::ignored_keys::element_keys;
 use crate::limits::{DEFAULT_SESSION_TIMEOUT, MAX_SESSION_TIMEOUT};
 use crate::schema::optional_or;
@@ -31,13 +31,13 @@ pub struct SessionConfig {
 /// Reads the session configuration of a context.
 ///
 /// # Errors
-/// The first fault of the table, or [`ReadFault::NoMemory`].
+/// The first fault of the table, or [`LocatedReadFault::NoMemory`].
 pub fn read_session(
     alloc: Global,
     version: Version,
     table: &Table,
-) -> Result<SessionConfig, ReadFault>
-    ensures { Gives fault result (spec.session version (table_view table.now)) }
+) -> Result<SessionConfig, LocatedReadFault>
+    ensures { Gives located_fault result (spec.session version (table_view table.now)) }
 {
     let session = TableOf(SessionTable { version });
     let default = default_session(alloc)?;
@@ -66,7 +66,7 @@ impl TableSchema for SessionTable {
 
     ghost reads = { λ schema. spec.session_config schema.version };
 
-    fn read(&self, alloc: Global, table: &Table) -> Result<SessionConfig, ReadFault> {
+    fn read(&self, alloc: Global, table: &Table) -> Result<SessionConfig, LocatedReadFault> {
         session_keys(alloc, self.version, table)?;
         let minutes = WholeOf(SessionTimeout);
         let default = DEFAULT_SESSION_TIMEOUT;
@@ -81,8 +81,8 @@ impl TableSchema for SessionTable {
 }
 
 /// Checks that the table has only the keys of the version.
-fn session_keys(alloc: Global, version: Version, table: &Table) -> Result<(), ReadFault>
-    ensures { Gives fault result (element_keys (spec.session_keys version) (table_view table.now)) }
+fn session_keys(alloc: Global, version: Version, table: &Table) -> Result<(), LocatedReadFault>
+    ensures { Gives located_fault result (element_keys (spec.session_keys version) (table_view table.now)) }
 {
     match version {
         Version::One => element_keys(alloc, &["session-timeout"], table),
@@ -99,7 +99,7 @@ impl WholeSchema for SessionTimeout {
 
     ghost reads = { λ _. spec.session_timeout };
 
-    fn read(&self, alloc: Global, key: &str, number: i64) -> Result<u32, ReadFault> {
+    fn read(&self, alloc: Global, key: &str, number: i64) -> Result<u32, LocatedReadFault> {
         if number > i64::from(MAX_SESSION_TIMEOUT) {
             return refuse(alloc, FaultCode::BadTimeout, key);
         }

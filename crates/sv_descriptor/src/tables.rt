@@ -4,10 +4,10 @@ ghost use Rattle.std.specs.Prelude.{[]};
 ghost use Rattle.sv_text.specs.Gives.{Gives};
 ghost use Rattle.toml.specs.View.{table_view};
 ghost use Rattle.sv_descriptor.specs.Tables as spec;
-ghost use Rattle.sv_descriptor.specs.Fault.{fault};
+ghost use Rattle.sv_descriptor.specs.Fault.{located_fault};
 ghost use Rattle.sv_descriptor.specs.Table.{optional_or};
 
-use crate::fault::ReadFault;
+use crate::fault::LocatedReadFault;
 use crate::limits::MAX_LIST_ITEMS;
 use crate::list::ListOf;
 use crate::schema::list_or_empty;
@@ -19,14 +19,14 @@ use toml::Table;
 /// Reads the list of tables at an optional key.
 ///
 /// # Errors
-/// The first fault of the list, or [`ReadFault::NoMemory`].
+/// The first fault of the list, or [`LocatedReadFault::NoMemory`].
 pub fn tables<T: TableSchema + Drop>(
     alloc: Global,
     table: &Table,
     key: &str,
     item: T,
-) -> Result<Listed<T::Output>, ReadFault>
-    ensures { Gives fault result (optional_or [] (spec.tables (T.reads item)) key.now (table_view table.now)) }
+) -> Result<Listed<T::Output>, LocatedReadFault>
+    ensures { Gives located_fault result (optional_or [] (spec.tables (T.reads item)) key.now (table_view table.now)) }
 {
     let schema = ListOf {
         least: 0,

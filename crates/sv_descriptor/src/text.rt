@@ -2,10 +2,10 @@
 
 ghost use Rattle.std.specs.Prelude.{◌≡◌, ℕ, List};
 ghost use Rattle.sv_text.specs.Gives.{Gives};
-ghost use Rattle.sv_descriptor.specs.Fault.{fault, Reads};
+ghost use Rattle.sv_descriptor.specs.Fault.{located_fault, Located};
 ghost use Rattle.sv_descriptor.specs.Value as spec;
 
-use crate::fault::{FaultCode, ReadFault, refuse};
+use crate::fault::{FaultCode, LocatedReadFault, refuse};
 use crate::limits::MAX_NAME_BYTES;
 use crate::schema::Schema;
 use hex::FromHexError;
@@ -19,14 +19,14 @@ pub trait TextSchema {
     type Output: Drop;
 
     // The result of reading the text at a key: the output, or the first fault.
-    ghost reads: { Self → List ℕ → List ℕ → Reads Self.Output };
+    ghost reads: { Self → List ℕ → List ℕ → Located Self.Output };
 
     /// Reads the text at a key.
     ///
     /// # Errors
-    /// The first fault of the text, or [`ReadFault::NoMemory`].
-    fn read(&self, alloc: Global, key: &str, text: &str) -> Result<Self::Output, ReadFault>
-        ensures { Gives fault result (reads self.now key.now text.now) };
+    /// The first fault of the text, or [`LocatedReadFault::NoMemory`].
+    fn read(&self, alloc: Global, key: &str, text: &str) -> Result<Self::Output, LocatedReadFault>
+        ensures { Gives located_fault result (reads self.now key.now text.now) };
 }
 
 /// A text at a key.
@@ -44,7 +44,7 @@ impl<T: TextSchema> Schema for TextOf<T> {
         value.is_str()
     }
 
-    fn read(&self, alloc: Global, key: &str, value: &Value) -> Result<T::Output, ReadFault> {
+    fn read(&self, alloc: Global, key: &str, value: &Value) -> Result<T::Output, LocatedReadFault> {
         match value {
             Value::String(text) => self.0.read(alloc, key, text.as_str()),
             _ => refuse(alloc, FaultCode::WrongType, key),
@@ -61,7 +61,7 @@ impl TextSchema for AnyText {
 
     ghost reads = { λ _. spec.any_text };
 
-    fn read(&self, alloc: Global, _key: &str, text: &str) -> Result<Text, ReadFault> {
+    fn read(&self, alloc: Global, _key: &str, text: &str) -> Result<Text, LocatedReadFault> {
         Ok(Text::copy_of(alloc, text)?)
     }
 }
@@ -75,7 +75,7 @@ impl TextSchema for Name {
 
     ghost reads = { λ _. spec.name };
 
-    fn read(&self, alloc: Global, key: &str, text: &str) -> Result<Text, ReadFault> {
+    fn read(&self, alloc: Global, key: &str, text: &str) -> Result<Text, LocatedReadFault> {
         if !is_within(text, 1, MAX_NAME_BYTES) {
             return refuse(alloc, FaultCode::BadValue, key);
         }
@@ -97,13 +97,13 @@ impl TextSchema for HexText {
 
     ghost reads = { λ schema. spec.hex_text schema.least schema.most };
 
-    fn read(&self, alloc: Global, key: &str, text: &str) -> Result<Bytes, ReadFault> {
+    fn read(&self, alloc: Global, key: &str, text: &str) -> Result<Bytes, LocatedReadFault> {
         if !is_within(text, self.least, self.most) {
             return refuse(alloc, FaultCode::BadValue, key);
         }
         match hex::decode(alloc, text) {
             Ok(bytes) => Ok(Bytes::from_vec(bytes)),
-            Err(FromHexError::OutOfMemory) => Err(ReadFault::NoMemory),
+            Err(FromHexError::OutOfMemory) => Err(LocatedReadFault::NoMemory),
             Err(_) => refuse(alloc, FaultCode::BadValue, key),
         }
     }

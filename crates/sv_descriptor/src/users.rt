@@ -1,16 +1,17 @@
 //! The users file.
 
-ghost use Rattle.std.specs.Prelude.{◌≡◌, IfOk};
+ghost use Rattle.std.specs.Prelude.{◌≡◌, IfOk, codes};
 ghost use Rattle.sv_text.specs.Gives.{Gives};
 ghost use Rattle.sv_descriptor.specs.Users as spec;
-ghost use Rattle.sv_descriptor.specs.Fault.{fault};
+ghost use Rattle.sv_descriptor.specs.Fault.{fault, located_fault};
+ghost use Rattle.sv_descriptor.specs.Names.{distinct};
 ghost use Rattle.sv_descriptor.specs.Table.{texts};
 
 use crate::document::read_document;
-use crate::fault::{FaultCode, ReadFault, refuse};
+use crate::fault::{LocatedReadFault, ReadFault};
 use crate::limits::{DIGEST_DIGITS, MAX_LIST_ITEMS, MAX_SALT_DIGITS};
 use crate::list::ListOf;
-use crate::names::repeats;
+use crate::names::check_distinct;
 use crate::schema::required;
 use crate::table::{TableOf, TableSchema, only_keys};
 use crate::text::{HexText, Name, TextOf};
@@ -27,6 +28,18 @@ pub fn read_users(alloc: Global, text: &str) -> Result<Vec<User>, ReadFault>
     ensures gives { Gives fault (spec.seen result) (spec.users_of text.now) }
     ensures well_formed { IfOk result (λ users. spec.AreWellFormedUsers users.items) }
 {
+    Ok(read_located_users(alloc, text)?)
+}
+
+/// Reads a users file, and locates its fault.
+///
+/// # Errors
+/// The first fault in the format's order with its place, or [`LocatedReadFault::NoMemory`].
+#[tactic(auto, unfolding(crate::specs::Users::located_users))]
+pub fn read_located_users(alloc: Global, text: &str) -> Result<Vec<User>, LocatedReadFault>
+    ensures gives { Gives located_fault (spec.seen result) (spec.located_users text.now) }
+    ensures well_formed { IfOk result (λ users. spec.AreWellFormedUsers users.items) }
+{
     let users = read_document(alloc, text, &UsersTable)?;
     Ok(users.into_vec())
 }
@@ -40,7 +53,7 @@ impl TableSchema for UsersTable {
 
     ghost reads = { λ _. spec.users };
 
-    fn read(&self, alloc: Global, table: &Table) -> Result<Listed<User>, ReadFault> {
+    fn read(&self, alloc: Global, table: &Table) -> Result<Listed<User>, LocatedReadFault> {
         only_keys(alloc, &["user"], &[], table)?;
         let users = ListOf {
             least: 0,
@@ -48,11 +61,16 @@ impl TableSchema for UsersTable {
             item: TableOf(UserTable),
         };
         let users = required(alloc, table, "user", &users)?;
-        if repeats(alloc, user_names(alloc, users.as_slice())?.as_slice())? {
-            return refuse(alloc, FaultCode::DuplicateName, "name");
-        }
+        check_names(alloc, users.as_slice())?;
         Ok(users)
     }
+}
+
+fn check_names(alloc: Global, users: &[User]) -> Result<(), LocatedReadFault>
+    ensures { Gives located_fault result (distinct (codes "user") (codes "name") (spec.user_names users.now)) }
+{
+    let names = user_names(alloc, users)?;
+    check_distinct(alloc, names.as_slice(), "user", "name")
 }
 
 fn user_names(alloc: Global, users: &[User]) -> Result<Vec<&str>, NoMemory>
@@ -74,7 +92,7 @@ impl TableSchema for UserTable {
 
     ghost reads = { λ _. spec.user };
 
-    fn read(&self, alloc: Global, table: &Table) -> Result<User, ReadFault> {
+    fn read(&self, alloc: Global, table: &Table) -> Result<User, LocatedReadFault> {
         only_keys(alloc, &["name", "salt", "digest", "roles"], &[], table)?;
         let salt = TextOf(HexText {
             least: 0,

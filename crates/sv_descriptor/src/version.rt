@@ -4,9 +4,9 @@ ghost use Rattle.std.specs.Prelude.{◌≡◌};
 ghost use Rattle.sv_text.specs.Gives.{Gives};
 ghost use Rattle.toml.specs.View.{table_view};
 ghost use Rattle.sv_descriptor.specs.Version as spec;
-ghost use Rattle.sv_descriptor.specs.Fault.{fault};
+ghost use Rattle.sv_descriptor.specs.Fault.{located_fault};
 
-use crate::fault::ReadFault;
+use crate::fault::LocatedReadFault;
 use crate::limits::{MAX_SESSIONS_OF_VERSION_1, MAX_SESSIONS_OF_VERSION_2};
 use crate::schema::optional;
 use crate::whole::{NumberBetween, WholeOf};
@@ -37,9 +37,9 @@ impl Version {
 /// Reads the version of a descriptor.
 ///
 /// # Errors
-/// The fault of the value, or [`ReadFault::NoMemory`].
-pub fn read_version(alloc: Global, table: &Table) -> Result<Version, ReadFault>
-    ensures { Gives fault result (spec.version (table_view table.now)) }
+/// The fault of the value, or [`LocatedReadFault::NoMemory`].
+pub fn read_version(alloc: Global, table: &Table) -> Result<Version, LocatedReadFault>
+    ensures { Gives located_fault result (spec.version (table_view table.now)) }
 {
     let numbers = WholeOf(NumberBetween { least: 1, most: 2 });
     let number = optional(alloc, table, "version", &numbers)?;

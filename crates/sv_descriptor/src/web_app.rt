@@ -4,11 +4,11 @@ ghost use Rattle.std.specs.Prelude.{◌≡◌};
 ghost use Rattle.sv_text.specs.Gives.{Gives};
 ghost use Rattle.toml.specs.View.{table_view};
 ghost use Rattle.sv_descriptor.specs.WebApp as spec;
-ghost use Rattle.sv_descriptor.specs.Fault.{fault};
+ghost use Rattle.sv_descriptor.specs.Fault.{located_fault};
 
 use crate::components::{Components, read_components};
 use crate::error_page::ErrorPage;
-use crate::fault::ReadFault;
+use crate::fault::LocatedReadFault;
 use crate::filter::{FilterEntry, FilterMapping};
 use crate::ignored_keys::element_keys;
 use crate::listener::ListenerEntry;
@@ -58,9 +58,9 @@ pub struct WebApp {
 /// Reads the elements of a descriptor, without checking that they agree with one another.
 ///
 /// # Errors
-/// The first fault in the order of the elements, or [`ReadFault::NoMemory`].
-pub fn read_web_app(alloc: Global, table: &Table) -> Result<WebApp, ReadFault>
-    ensures { Gives fault result (spec.web_app (table_view table.now)) }
+/// The first fault in the order of the elements, or [`LocatedReadFault::NoMemory`].
+pub fn read_web_app(alloc: Global, table: &Table) -> Result<WebApp, LocatedReadFault>
+    ensures { Gives located_fault result (spec.web_app (table_view table.now)) }
 {
     let known = [
         "version",
@@ -91,8 +91,8 @@ fn read_behind_components(
     version: Version,
     deny_uncovered: bool,
     components: Components,
-) -> Result<WebApp, ReadFault>
-    ensures { Gives fault result (spec.behind_components version deny_uncovered components (table_view table.now)) }
+) -> Result<WebApp, LocatedReadFault>
+    ensures { Gives located_fault result (spec.behind_components version deny_uncovered components (table_view table.now)) }
 {
     let session = read_session(alloc, version, table)?;
     let pages = read_pages(alloc, table)?;

@@ -3,7 +3,7 @@
 ghost use Rattle.std.specs.Prelude.{◌≡◌};
 ghost use Rattle.sv_descriptor.specs.WelcomeFile as spec;
 
-use crate::fault::{FaultCode, ReadFault, refuse};
+use crate::fault::{FaultCode, LocatedReadFault, refuse};
 use crate::ignored_keys::element_keys;
 use crate::limits::MAX_LIST_ITEMS;
 use crate::list::ListOf;
@@ -23,7 +23,7 @@ impl TableSchema for WelcomeFileTable {
 
     ghost reads = { λ _. spec.welcome_file_list };
 
-    fn read(&self, alloc: Global, table: &Table) -> Result<Listed<Text>, ReadFault> {
+    fn read(&self, alloc: Global, table: &Table) -> Result<Listed<Text>, LocatedReadFault> {
         element_keys(alloc, &["welcome-file"], table)?;
         let files = ListOf {
             least: 0,
@@ -43,7 +43,7 @@ impl TextSchema for WelcomeFile {
 
     ghost reads = { λ _. spec.welcome_file };
 
-    fn read(&self, alloc: Global, key: &str, text: &str) -> Result<Text, ReadFault> {
+    fn read(&self, alloc: Global, key: &str, text: &str) -> Result<Text, LocatedReadFault> {
         if is_no_partial_path(text) {
             return refuse(alloc, FaultCode::BadValue, key);
         }

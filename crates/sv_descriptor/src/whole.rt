@@ -2,10 +2,10 @@
 
 ghost use Rattle.std.specs.Prelude.{◌≡◌, ℕ, ℤ, List};
 ghost use Rattle.sv_text.specs.Gives.{Gives};
-ghost use Rattle.sv_descriptor.specs.Fault.{fault, Reads};
+ghost use Rattle.sv_descriptor.specs.Fault.{located_fault, Located};
 ghost use Rattle.sv_descriptor.specs.Value as spec;
 
-use crate::fault::{FaultCode, ReadFault, refuse};
+use crate::fault::{FaultCode, LocatedReadFault, refuse};
 use crate::schema::Schema;
 use std::alloc::Global;
 use toml::Value;
@@ -16,14 +16,14 @@ pub trait WholeSchema {
     type Output: Drop;
 
     // The result of reading the number at a key: the output, or the fault.
-    ghost reads: { Self → List ℕ → ℤ → Reads Self.Output };
+    ghost reads: { Self → List ℕ → ℤ → Located Self.Output };
 
     /// Reads the number at a key.
     ///
     /// # Errors
-    /// The fault of the number, or [`ReadFault::NoMemory`].
-    fn read(&self, alloc: Global, key: &str, number: i64) -> Result<Self::Output, ReadFault>
-        ensures { Gives fault result (reads self.now key.now number) };
+    /// The fault of the number, or [`LocatedReadFault::NoMemory`].
+    fn read(&self, alloc: Global, key: &str, number: i64) -> Result<Self::Output, LocatedReadFault>
+        ensures { Gives located_fault result (reads self.now key.now number) };
 }
 
 /// A whole number at a key.
@@ -41,7 +41,7 @@ impl<T: WholeSchema> Schema for WholeOf<T> {
         value.is_integer()
     }
 
-    fn read(&self, alloc: Global, key: &str, value: &Value) -> Result<T::Output, ReadFault> {
+    fn read(&self, alloc: Global, key: &str, value: &Value) -> Result<T::Output, LocatedReadFault> {
         match value {
             Value::Integer(number) => self.0.read(alloc, key, *number),
             _ => refuse(alloc, FaultCode::WrongType, key),
@@ -63,7 +63,7 @@ impl WholeSchema for NumberBetween {
 
     ghost reads = { λ schema. spec.number_between schema.least schema.most };
 
-    fn read(&self, alloc: Global, key: &str, number: i64) -> Result<u16, ReadFault> {
+    fn read(&self, alloc: Global, key: &str, number: i64) -> Result<u16, LocatedReadFault> {
         if number < i64::from(self.least) || number > i64::from(self.most) {
             return refuse(alloc, FaultCode::BadValue, key);
         }
@@ -86,7 +86,7 @@ impl Schema for Truth {
         value.is_bool()
     }
 
-    fn read(&self, alloc: Global, key: &str, value: &Value) -> Result<bool, ReadFault> {
+    fn read(&self, alloc: Global, key: &str, value: &Value) -> Result<bool, LocatedReadFault> {
         match value {
             Value::Boolean(holds) => Ok(*holds),
             _ => refuse(alloc, FaultCode::WrongType, key),

@@ -1,12 +1,5 @@
-use Rattle.std.proofs.Common.{◌≡◌, Bool, true, false, not, sym, refl}
-use Rattle.sv_descriptor.proofs.Differing.{distinct-more, repeats-found}
+use Rattle.sv_descriptor.proofs.Differing.{distinct-more, not-back, repeats-found}
 use Rattle.sv_descriptor.proofs.names.distinct_names.Goals as goal
-
-not-back : (a b c : Bool) → a ≡ c → a ≡ not b → b ≡ not c
-not-back true true c e h = cc
-not-back true false c e h = rw (sym e) refl
-not-back false true c e h = rw (sym e) refl
-not-back false false c e h = cc
 
 pub returns-then-not-branch : goal.returns-then-not-branch
 returns-then-not-branch g c =
