@@ -141,10 +141,12 @@ def expected_of(case, row, cells):
 
 
 def without_places(given, expected):
-    """What was given, with PLACE for its places if PLACE is expected."""
-    if b":PLACE\n" not in expected:
-        return given
-    return re.sub(rb"(?m)^(  [^ \n]+):\d+:\d+: [^\n]+$", rb"\1:PLACE", given)
+    """What was given, with PLACE or LINE for its places if such are expected."""
+    if b":PLACE\n" in expected:
+        return re.sub(rb"(?m)^(  [^ \n]+):\d+:\d+: [^\n]+$", rb"\1:PLACE", given)
+    if b":LINE: " in expected:
+        return re.sub(rb"(?m)^(  [^ :\n]+)(?::\d+)?: (?!\d)", rb"\1:LINE: ", given)
+    return given
 
 
 def differences(program, case, row):

@@ -8,7 +8,6 @@ pub mod Settings
 pub mod Values
 pub mod Replies
 pub mod Execution
-pub mod Ended
 pub mod Policy
 pub mod Printed
 pub mod ProgramFault

@@ -4,29 +4,19 @@ use Rattle.sv_deployments.specs.declared.program_filter.ProgramFilter.{ProgramFi
 use Rattle.sv_deployments.specs.declared.program_listener.ProgramListener.{ProgramListener}
 use Rattle.sv_deployments.specs.declared.program_servlet.ProgramServlet.{ProgramServlet}
 use Rattle.sv_component.specs.Steps.{ComponentSteps}
-use Rattle.sv_container.specs.NewCode.{code_number}
 use Rattle.sv_deployments.specs.Configuration.{FindsConfiguration}
 use Rattle.sv_deployments.specs.Folders.{FolderGiving}
 use Rattle.sv_deployments.specs.declared.configuration.Configuration.{Configuration}
 use Rattle.sv_program.specs.FileStore.{Giving}
 use Rattle.sv_program.specs.declared.command_fault.CommandFault.{CommandFault}
-use Rattle.sv_program.specs.declared.command_fault.CommandFault.TheVariants as fault
 use Rattle.sv_container.specs.Script.{RunsScript}
-use Rattle.sv_container.specs.declared.run_fault.RunFault.{RunFault}
-use Rattle.sv_container.specs.declared.run_fault.RunFault.TheVariants as run
+use Rattle.sv_run.specs.declared.run_fault.RunFault.{RunFault}
+use Rattle.sv_listening.specs.RunFault.{fault_of_run}
 use Rattle.sv_streams.specs.Calls.{Making}
-
--- the command's fault for a fault of the run
-abbrev pub fault_of : RunFault → CommandFault
-fault_of (run.Script line) = fault.Script line
-fault_of (run.Start code context) = fault.Start (code_number code) context
-fault_of run.Output = fault.Output
-fault_of run.NoMemory = fault.NoMemory
-fault_of run.Connection = fault.Socket
 
 abbrev pub ended : Result (Unit {0}) RunFault → Result (Unit {0}) CommandFault
 ended (Ok done) = Ok done
-ended (Err found) = Err (fault_of found)
+ended (Err found) = Err (fault_of_run found)
 
 module _ {I O : Type 0} (moving : ComponentSteps ProgramServlet ProgramFilter ProgramListener) (gives : Making I) (takes : Making O) where
   -- a fault of the files is the result, and nothing is read or written; without one, the configured container runs the

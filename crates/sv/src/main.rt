@@ -4,7 +4,6 @@
 mod asked_container;
 mod command;
 mod count;
-mod ended;
 mod execution;
 mod gaps;
 mod key;
@@ -22,7 +21,6 @@ mod site;
 mod texts;
 
 use crate::command::Command;
-use ended::Ended;
 use execution::carry_out;
 use program_fault::ProgramFault;
 use std::net::Net;
@@ -36,13 +34,13 @@ use sv_program::{CommandFault, Disk};
 fn main(rt: HostRuntime) -> ExitCode {
     match run(&rt) {
         Ok(()) => ExitCode::SUCCESS,
-        Err(ended) => {
+        Err(fault) => {
             // If standard error cannot be written, the exit status still reports the fault.
-            let _ = eprintln!(rt; "{}", ended.fault);
-            if let Some(detail) = &ended.detail {
+            let _ = eprintln!(rt; "{fault}");
+            if let Some(detail) = fault.detail() {
                 let _ = eprintln!(rt; "{detail}");
             }
-            ExitCode::from(ended.fault.status())
+            ExitCode::from(fault.status())
         }
     }
 }
@@ -61,23 +59,20 @@ fn run<
         + AllocGlobal
         + Clone
         + Drop,
->(rt: &R) -> Result<(), Ended> {
+>(rt: &R) -> Result<(), ProgramFault> {
     let arguments: Vec<String> = env::args(rt)
         .map_err(ProgramFault::of_arguments)?
         .skip(1)
         .collect(rt.alloc())
         .map_err(CommandFault::from)?;
     let command = Command::parse(arguments.as_slice()).ok_or(ProgramFault::Usage)?;
-    let ran = carry_out(
+    carry_out(
         command,
         rt.alloc(),
         &mut Disk::new(rt),
         rt,
         rt.reader(),
         &mut io::writer(rt),
-    );
-    match ran {
-        Ok(()) => Ok(()),
-        Err(fault) => Err(Ended::of(rt.alloc(), &mut Disk::new(rt), &command, fault)),
-    }
+    )?;
+    Ok(())
 }

@@ -2,11 +2,11 @@
 
 ghost use Rattle.std.specs.Prelude.{◌≡◌, Some};
 ghost use Rattle.std.specs.IoError.{error_kind};
-ghost use Rattle.sv.specs.ProgramFault.{arguments_fault, program_fault_line, program_status};
+ghost use Rattle.sv.specs.ProgramFault.{IsProgramDetail, arguments_fault, program_fault_line, program_status};
 
 use std::io::ErrorKind;
 use std::{fmt, io};
-use sv_program::CommandFault;
+use sv_program::{CommandFault, Detail};
 
 /// Why the program ended early. Its text is the line that it writes on standard error.
 #[derive(Drop)]
@@ -36,6 +36,16 @@ impl ProgramFault {
         match self {
             ProgramFault::Usage => 2,
             ProgramFault::Command(fault) => fault.status(),
+        }
+    }
+
+    /// Returns the second line on standard error, if there is one.
+    pub fn detail(&self) -> Option<Detail<'_>>
+        ensures { IsProgramDetail self.now result }
+    {
+        match self {
+            ProgramFault::Usage => None,
+            ProgramFault::Command(fault) => fault.detail(),
         }
     }
 }

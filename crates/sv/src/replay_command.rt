@@ -1,15 +1,15 @@
 //! The command `replay`: runs a script over a server's container.
 
 ghost use Rattle.sv_component.specs.Steps.{steps_of};
-ghost use Rattle.std.specs.Prelude.{◌≡◌};
 ghost use Rattle.sv.specs.Replay as spec;
 
 use std::alloc::Global;
 use sv_component::{Filter, Listener, Servlet};
-use sv_container::{RunFault, run_script};
+use sv_container::run_script;
 use sv_deployments::{
     FolderStore, ProgramFilter, ProgramListener, ProgramServlet, read_deployments,
 };
+use sv_listening::fault_of_run;
 use sv_program::{CommandFault, FileStore};
 use sv_streams::{Sink, Source};
 
@@ -36,22 +36,6 @@ pub fn replay<S: FileStore + FolderStore, I: Source, O: Sink>(
     };
     match run_script(alloc, script, output, configuration.deployments) {
         Ok(()) => Ok(()),
-        Err(fault) => Err(fault_of(fault)),
-    }
-}
-
-// Returns the command's fault for a fault of the run.
-fn fault_of(fault: RunFault) -> CommandFault
-    ensures { result ≡ spec.fault_of fault }
-{
-    match fault {
-        RunFault::Script(line) => CommandFault::Script { line },
-        RunFault::Start(code, context) => CommandFault::Start {
-            code: code.number(),
-            context,
-        },
-        RunFault::Output => CommandFault::Output,
-        RunFault::NoMemory => CommandFault::NoMemory,
-        RunFault::Connection => CommandFault::Socket,
+        Err(fault) => Err(fault_of_run(fault)),
     }
 }

@@ -7,7 +7,6 @@ use Rattle.sv_container.specs.declared.container.Container.{Container}
 use Rattle.sv_container.specs.declared.new_fault.NewFault.{NewFault}
 use Rattle.sv_lifecycle.specs.declared.deployment.Deployment.{Deployment}
 use Rattle.sv_journal.specs.Journal.{JournalState, new_journal}
-use Rattle.sv_journal.specs.StartCode.{new_code_number}
 use Rattle.sv_journal.specs.declared.start_code.NewCode.{NewCode}
 use Rattle.sv_journal.specs.declared.start_code.NewCode.TheVariants.{Start}
 use Rattle.sv_journal.specs.declared.start_code.StartCode.TheVariants.{NoMemory}
@@ -18,7 +17,7 @@ use Rattle.sv_run.specs.declared.seeded_words.SeededWords.{SeededWords}
 -- the fault of a container that did not start, from its code and the context path that goes with it
 abbrev pub start_fault : NewCode → List ℕ → CommandFault
 start_fault (Start NoMemory) context = fault.NoMemory
-start_fault code context = fault.Start (new_code_number code) context
+start_fault code context = fault.Start code context
 
 -- the words of a seed, from the beginning of its key stream
 abbrev pub AreWordsOf : List ℕ → SeededWords → Type 0

@@ -3,7 +3,6 @@
 ghost use Rattle.sv_component.specs.Steps.{steps_of};
 ghost use Rattle.std.specs.Prelude.{◌≡◌, length};
 ghost use Rattle.sv_container.specs.SeededStart as spec;
-ghost use Rattle.sv_journal.specs.StartCode.{new_code_number};
 
 use crate::container::Container;
 use std::alloc::Global;
@@ -49,18 +48,9 @@ fn start_fault(code: NewCode, context: Text) -> CommandFault
 {
     match code {
         NewCode::Start(StartCode::NoMemory) => CommandFault::NoMemory,
-        NewCode::Start(StartCode::PartsMismatch) => numbered(code, context),
-        NewCode::Start(StartCode::InitFailed(_)) => numbered(code, context),
-        NewCode::DuplicateContext => numbered(code, context),
-        NewCode::TooManyContexts => numbered(code, context),
-    }
-}
-
-fn numbered(code: NewCode, context: Text) -> CommandFault
-    ensures { result ≡ CommandFault.Start (new_code_number code) context }
-{
-    CommandFault::Start {
-        code: code.number(),
-        context,
+        NewCode::Start(StartCode::PartsMismatch) => CommandFault::Start { code, context },
+        NewCode::Start(StartCode::InitFailed(_)) => CommandFault::Start { code, context },
+        NewCode::DuplicateContext => CommandFault::Start { code, context },
+        NewCode::TooManyContexts => CommandFault::Start { code, context },
     }
 }

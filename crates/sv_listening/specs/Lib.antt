@@ -5,6 +5,7 @@ pub mod Pacing
 pub mod Parting
 pub mod Parts
 pub mod Recording
+pub mod RunFault
 pub mod Seeding
 pub mod Sending
 pub mod SocketLaws

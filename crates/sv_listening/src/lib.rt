@@ -44,3 +44,4 @@ pub use serve::serve_on;
 pub use server::{ListenOptions, listen_and_run, run_controlled};
 pub use socket_acceptor::SocketAcceptor;
 pub use socket_stream::SocketStream;
+pub use sockets::fault_of_run;

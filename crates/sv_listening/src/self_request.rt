@@ -2,7 +2,7 @@
 
 use crate::own_acceptor::OwnAcceptor;
 use crate::self_test::{ask, first_line};
-use crate::sockets::{fault_of, listen};
+use crate::sockets::{fault_of_run, listen};
 use std::alloc::Global;
 use std::io;
 use std::io::ErrorKind;
@@ -35,7 +35,7 @@ pub fn own_answer<H: Net + Clock, R: EventHandler>(
     let mut buffer = [0; READ_BYTES];
     match serve_connections(handler, &mut acceptor, &mut clock, 1, &mut buffer) {
         Ok(()) => answered(alloc, client),
-        Err(fault) => Err(fault_of(fault)),
+        Err(fault) => Err(fault_of_run(fault)),
     }
 }
 

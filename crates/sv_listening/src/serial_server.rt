@@ -1,7 +1,7 @@
 //! Serving the connections of a port one after another.
 
 use crate::serve::serve_on;
-use crate::sockets::{fault_of, listen};
+use crate::sockets::{fault_of_run, listen};
 use std::alloc::Global;
 use std::io::Write;
 use std::net::Net;
@@ -38,6 +38,6 @@ pub fn listen_and_serve<H: Net + Clock, W: Write, R: EventHandler>(
         &mut output,
     ) {
         Ok(()) => Ok(()),
-        Err(fault) => Err(fault_of(fault)),
+        Err(fault) => Err(fault_of_run(fault)),
     }
 }

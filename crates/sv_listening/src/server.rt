@@ -1,6 +1,6 @@
 //! Serving all connections of an address at once.
 
-use crate::sockets::{fault_of, file_fault};
+use crate::sockets::{fault_of_run, file_fault};
 use std::alloc::Global;
 use std::cell::Cell;
 use std::io::Write;
@@ -148,7 +148,7 @@ fn run_sockets<H: Clock, R: EventHandler + Queries>(
     let served = match result {
         Ok(()) if poller.has_failed() => Err(CommandFault::Socket),
         Ok(()) => Ok(()),
-        Err(fault) => Err(fault_of(RunFault::of_step(fault))),
+        Err(fault) => Err(fault_of_run(RunFault::of_step(fault))),
     };
     (served, handler)
 }

@@ -1,5 +1,8 @@
 //! A port of this machine, and the faults of commands that listen or open files.
 
+ghost use Rattle.std.specs.Prelude.{◌≡◌};
+ghost use Rattle.sv_listening.specs.RunFault.{fault_of_run};
+
 use std::alloc::Global;
 use std::io;
 use std::net::{Ipv4Addr, Net, TcpListener};
@@ -13,13 +16,12 @@ pub(crate) fn listen<H: Net>(host: &H, port: u16) -> io::Result<H::Listener> {
 }
 
 /// Returns the fault of a command for the fault of its run.
-pub(crate) fn fault_of(fault: RunFault) -> CommandFault {
+pub fn fault_of_run(fault: RunFault) -> CommandFault
+    ensures { result ≡ fault_of_run fault }
+{
     match fault {
         RunFault::Script(line) => CommandFault::Script { line },
-        RunFault::Start(code, context) => CommandFault::Start {
-            code: code.number(),
-            context,
-        },
+        RunFault::Start(code, context) => CommandFault::Start { code, context },
         RunFault::Output => CommandFault::Output,
         RunFault::NoMemory => CommandFault::NoMemory,
         RunFault::Connection => CommandFault::Socket,

@@ -20,7 +20,7 @@ uncovered_in path text = uncovered_lines (texts_of path text ∷ [])
 -- the text for the lines or the fault
 abbrev pub said_text : Step (List ℕ) → List ℕ
 said_text (Ok lines) = lines
-said_text (Err (Descriptor path fault)) = descriptor_fault_text fault
+said_text (Err (Descriptor path found)) = descriptor_fault_text found.fault
 said_text (Err other) = []
 
 -- the status if the whole text is written

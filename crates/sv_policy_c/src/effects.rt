@@ -14,7 +14,7 @@ use std::alloc::Global;
 use std::str;
 use sv_descriptor::{DescriptorFault, ReadFault};
 use sv_policy::{ExplainFault, Explanation};
-use sv_program::CommandFault;
+use sv_program::{CommandFault, FileFault};
 use sv_text::{Listed, Text};
 
 /// Writes the decision on a request.
@@ -205,14 +205,15 @@ fn list_lines(lines: &str, answer: &mut [u8], length: &mut usize) -> Status
 fn list_fault(
     alloc: Global,
     _context: &str,
-    fault: &DescriptorFault,
+    found: &FileFault,
     answer: &mut [u8],
     length: &mut usize,
 ) -> Status
-    ensures said { Lists (Err (Descriptor _context.now fault.now)) answer.old answer.new length.new result }
+    ensures said { Lists (Err (Descriptor _context.now found.now)) answer.old answer.new length.new result }
     ensures text { result ≢ Status.NotText }
     ensures room { spec.WritesForAnswer answer.old answer.new length.old length.new result }
 {
+    let fault = found.fault();
     match format!(in alloc; "{fault}") {
         Ok(text) => refused(put(answer, length, text.as_str())),
         Err(_) => Status::NoMemory,

@@ -33,14 +33,14 @@ pub text_asked : (name : List ℕ) (text : Option (List ℕ)) → FaultsAreAsked
 text_asked name None = λ fault h. only (File name) fault tt h
 text_asked name (Some text) = done text
 
-pub descriptor_asked : (path : List ℕ) {A : Type 0} (read : Reads A) → FaultsAreAsked (told (Descriptor path) read)
-descriptor_asked path (Ok a) = done a
-descriptor_asked path (Err found) = λ fault h. only (Descriptor path found) fault tt h
+pub descriptor_asked : (path name : List ℕ) {A : Type 0} (read : Reads A) → FaultsAreAsked (told (Descriptor path) name read)
+descriptor_asked path name (Ok a) = done a
+descriptor_asked path name (Err found) = λ fault h. only (Descriptor path (record { file = name; fault = found })) fault tt h
 
 pub each_asked : {A B : Type 0} (step : A → Step B) → ((a : A) → FaultsAreAsked (step a)) → (items : List A) → FaultsAreAsked (each step items)
 each_asked step asked [] = done []
 each_asked step asked (a ∷ rest) = then (step a) _ (asked a) (λ b. then (each step rest) _ (each_asked step asked rest) (λ bs. done (b ∷ bs)))
 
-pub server_asked : {A : Type 0} (read : Reads A) → FaultsAreAsked (told command.Server read)
-server_asked (Ok a) = done a
-server_asked (Err found) = λ fault h. only (command.Server found) fault tt h
+pub server_asked : (name : List ℕ) {A : Type 0} (read : Reads A) → FaultsAreAsked (told command.Server name read)
+server_asked name (Ok a) = done a
+server_asked name (Err found) = λ fault h. only (command.Server (record { file = name; fault = found })) fault tt h

@@ -47,12 +47,12 @@ one_context_more texts i at b lines next whole within is gives pushed known =
 lines_asked : (texts : List ContextTexts) → FaultsAreAsked (uncovered_lines texts)
 lines_asked texts =
     then (each context_lines texts) _
-    (each_asked context_lines (λ at. then (descriptor_in at) _ (then (text_of at.context.descriptor at.descriptor) _ (text_asked at.context.descriptor at.descriptor) (λ text. descriptor_asked at.context.path (descriptor_of text))) (λ descriptor. done _)) texts)
+    (each_asked context_lines (λ at. then (descriptor_in at) _ (then (text_of at.context.descriptor at.descriptor) _ (text_asked at.context.descriptor at.descriptor) (λ text. descriptor_asked at.context.path at.context.descriptor (descriptor_of text))) (λ descriptor. done _)) texts)
     (λ lines. done _)
 
 run_asked : (config : List ℕ) (file : Option (List ℕ)) (texts : List ContextTexts) → FaultsAreAsked (lines_for config file texts)
 run_asked config file texts =
-    then (server_in config file) _ (then (text_of config file) _ (text_asked config file) (λ text. server_asked (server_of text)))
+    then (server_in config file) _ (then (text_of config file) _ (text_asked config file) (λ text. server_asked config (server_of text)))
     (λ server. lines_asked texts)
 
 module _ {S : Type 0} (gives : Giving S) (config : List ℕ) where

@@ -2,6 +2,7 @@
 use Rattle.std.specs.Prelude.{ℕ, List, [], ◌++◌, codes, if◌then◌else◌, Option, Some, None, MatchOption, Result, Ok, Err}
 use Rattle.std.specs.Fmt.{decimal}
 use Rattle.std.specs.Str.{bytes_eq}
+use Rattle.sv_journal.specs.StartCode.{new_code_number}
 use Rattle.sv_descriptor.specs.Fault.{number}
 use Rattle.sv_descriptor.specs.declared.fault.DescriptorFault.{DescriptorFault}
 use Rattle.sv_uri.specs.ContextPath.{shown_context}
@@ -21,12 +22,12 @@ abbrev pub fault_line : CommandFault → List ℕ
 fault_line Input = codes "sv: file stdin"
 fault_line Output = codes "sv: file stdout"
 fault_line (File name) = codes "sv: file " ++ name
-fault_line (Server fault) = codes "sv: server " ++ fault_text fault
-fault_line (Descriptor context fault) = codes "sv: descriptor " ++ shown_context context ++ codes " " ++ fault_text fault
-fault_line (Users context fault) = codes "sv: users " ++ shown_context context ++ codes " " ++ fault_text fault
+fault_line (Server found) = codes "sv: server " ++ fault_text found.fault
+fault_line (Descriptor context found) = codes "sv: descriptor " ++ shown_context context ++ codes " " ++ fault_text found.fault
+fault_line (Users context found) = codes "sv: users " ++ shown_context context ++ codes " " ++ fault_text found.fault
 fault_line (Class name) = codes "sv: class " ++ name
 fault_line (Files context code) = codes "sv: files " ++ shown_context context ++ codes " " ++ decimal code
-fault_line (Start code context) = codes "sv: start " ++ decimal code ++ codes " " ++ shown_context context
+fault_line (Start code context) = codes "sv: start " ++ decimal (new_code_number code) ++ codes " " ++ shown_context context
 fault_line Socket = codes "sv: socket"
 fault_line (Script line) = codes "sv: script " ++ decimal line
 fault_line User = codes "sv: user"
@@ -38,9 +39,9 @@ abbrev pub status_of : CommandFault → ℕ
 status_of Input = 1
 status_of Output = 1
 status_of (File name) = 1
-status_of (Server fault) = 1
-status_of (Descriptor context fault) = 1
-status_of (Users context fault) = 1
+status_of (Server found) = 1
+status_of (Descriptor context found) = 1
+status_of (Users context found) = 1
 status_of (Class name) = 1
 status_of (Files context code) = 1
 status_of (Start code context) = 1

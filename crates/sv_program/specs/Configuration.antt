@@ -5,12 +5,12 @@ use Rattle.std.specs.Option.{ok_or}
 use Rattle.sv_text.specs.Steps.{◌>>=◌}
 use Rattle.sv_realm.specs.declared.account.User.{User}
 use Rattle.sv_descriptor.specs.Fault.{Reads}
-use Rattle.sv_descriptor.specs.declared.fault.DescriptorFault.{DescriptorFault}
 use Rattle.sv_descriptor.specs.Server.{server_of}
 use Rattle.sv_descriptor.specs.Users.{users_of}
 use Rattle.sv_descriptor.specs.declared.server.Server.{Server}
 use Rattle.sv_descriptor.specs.Descriptor.{descriptor_of}
 use Rattle.sv_descriptor.specs.declared.web_app.WebApp.{WebApp}
+use Rattle.sv_program.specs.Detail.{NamedFault}
 use Rattle.sv_program.specs.declared.command_fault.CommandFault.{CommandFault}
 use Rattle.sv_program.specs.declared.command_fault.CommandFault.TheVariants as fault
 use Rattle.sv_program.specs.declared.configuration.ContextTexts.{ContextTexts}
@@ -31,27 +31,27 @@ each step (a ∷ rest) = do
 abbrev pub text_of : List ℕ → Option (List ℕ) → Step (List ℕ)
 text_of name text = ok_or text (fault.File name)
 
--- the value read from a file, or its fault as a fault of this file
-abbrev pub told : {A : Type 0} → (DescriptorFault → CommandFault) → Reads A → Step A
-told of (Ok a) = Ok a
-told of (Err found) = Err (of found)
+-- the value read from the file of this name, or its fault as a fault of this file
+abbrev pub told : {A : Type 0} → (NamedFault → CommandFault) → List ℕ → Reads A → Step A
+told of name (Ok a) = Ok a
+told of name (Err found) = Err (of (record { file = name; fault = found }))
 
 abbrev pub server_in : List ℕ → Option (List ℕ) → Step Server
 server_in name file = do
   text ← text_of name file
-  told fault.Server (server_of text)
+  told fault.Server name (server_of text)
 
 abbrev pub descriptor_in : ContextTexts → Step WebApp
 descriptor_in texts = do
   text ← text_of texts.context.descriptor texts.descriptor
-  told (fault.Descriptor texts.context.path) (descriptor_of text)
+  told (fault.Descriptor texts.context.path) texts.context.descriptor (descriptor_of text)
 
 -- the users of a context; none if it names no users file
 abbrev pub users_named : List ℕ → Option (List ℕ) → Option (List ℕ) → Step (List User)
 users_named path None file = Ok []
 users_named path (Some name) file = do
   text ← text_of name file
-  told (fault.Users path) (users_of text)
+  told (fault.Users path) name (users_of text)
 
 abbrev pub users_in : ContextTexts → Step (List User)
 users_in texts = users_named texts.context.path texts.context.users texts.users

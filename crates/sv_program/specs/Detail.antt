@@ -1,24 +1,37 @@
--- The second line of a fault of a configuration file: the file, the place if it is known, and the problem.
-use Rattle.std.specs.Prelude.{◌≡◌, ◌≤◌, ℕ, List, ◌++◌, codes, length, take, Option, None, IfSome, MatchOption}
+-- The second line of a fault: the file, the place if it is known, the problem and the offending value.
+use Rattle.std.specs.Prelude.{◌≡◌, ◌≤◌, ℕ, ◌+◌, List, ◌++◌, codes, length, take, Option, Some, None, MatchOption}
 use Rattle.std.specs.Fmt.{decimal}
-use Rattle.std.specs.Option.{option_and_then, option_map_or}
+use Rattle.std.specs.Option.{option_and_then}
 use Rattle.toml.specs.Parse.{parse_document}
+use Rattle.sv_journal.specs.declared.calls.Place.{Place}
+use Rattle.sv_journal.specs.declared.calls.Place.TheVariants.{Filter, Servlet}
+use Rattle.sv_journal.specs.declared.start_code.NewCode.{NewCode}
+use Rattle.sv_journal.specs.declared.start_code.NewCode.TheVariants as new
+use Rattle.sv_journal.specs.declared.start_code.StartCode.TheVariants as start
 use Rattle.sv_descriptor.specs.declared.fault.DescriptorFault.{DescriptorFault}
 use Rattle.sv_descriptor.specs.declared.fault.FaultCode.{FaultCode}
 use Rattle.sv_descriptor.specs.declared.fault.FaultCode.TheVariants.{NotToml}
-use Rattle.sv_program.specs.declared.command_fault.CommandFault.{CommandFault}
-use Rattle.sv_program.specs.declared.command_fault.CommandFault.TheVariants as fault
-use Rattle.sv_program.specs.Place.{line_behind, column_behind}
+use Rattle.sv_descriptor.specs.declared.fault.LocatedFault.{LocatedFault}
+use Rattle.sv_descriptor.specs.declared.fault.ValueStep.{ValueStep}
+use Rattle.sv_program.specs.FileLine.{IsFileLine}
 use Rattle.sv_program.specs.Offending.{offending}
+use Rattle.sv_program.specs.Place.{line_behind, column_behind}
 use Rattle.sv_program.specs.Sentence.{sentence}
+use Rattle.sv_program.specs.declared.detail.Detail.{Detail}
+use Rattle.sv_program.specs.declared.detail.Detail.TheVariants as detail
 
--- the line without a place
-abbrev pub plain_line : List ℕ → DescriptorFault → List ℕ
-plain_line name fault = codes "  " ++ name ++ codes ": " ++ sentence fault
+-- the line number after the name of the file, if the line is known
+abbrev pub line_text : Option ℕ → List ℕ
+line_text None = codes ""
+line_text (Some line) = codes ":" ++ decimal line
 
--- the line with the offending text, if it is shown
-abbrev pub told_line : List ℕ → DescriptorFault → Option (List ℕ) → List ℕ
-told_line name fault told = plain_line name fault ++ option_map_or (λ text. codes ": " ++ text) told (codes "")
+-- the offending value, if it is shown
+abbrev pub value_text : Option (List ℕ) → List ℕ
+value_text None = codes ""
+value_text (Some value) = codes ": " ++ value
+
+abbrev pub problem_line : List ℕ → Option ℕ → DescriptorFault → Option (List ℕ) → List ℕ
+problem_line name line fault value = codes "  " ++ name ++ line_text line ++ codes ": " ++ sentence fault ++ value_text value
 
 -- the line with the place after these bytes of the text
 abbrev pub line_with_place : List ℕ → List ℕ → List ℕ → List ℕ
@@ -29,21 +42,43 @@ line_with_place name before message =
 abbrev pub IsPlaced : List ℕ → List ℕ → List ℕ → Type 0
 IsPlaced name text line = (at : ℕ) × (message : List ℕ) × (at ≤ length text) × (line ≡ line_with_place name (take at text) message)
 
--- the line has a place if the text is not valid TOML; the file may have changed since the fault
+-- the line has a place if the text is not valid TOML
 abbrev pub IsTextLine : List ℕ → List ℕ → DescriptorFault → List ℕ → Type 0
-IsTextLine name text found line = MatchOption (parse_document text) (IsPlaced name text line) (λ _. line ≡ plain_line name found)
+IsTextLine name text found line = MatchOption (parse_document text) (IsPlaced name text line) (λ _. line ≡ problem_line name None found None)
 
-abbrev pub IsLineOf : FaultCode → List ℕ → List ℕ → DescriptorFault → List ℕ → Type 0
-IsLineOf NotToml name text found line = IsTextLine name text found line
-IsLineOf other name text found line = line ≡ told_line name found (option_and_then (offending found) (parse_document text))
+-- the line says on which line of the file the offending value begins
+abbrev pub IsProblemLine : List ℕ → List ℕ → LocatedFault → List ℕ → Type 0
+IsProblemLine name text found line =
+    (place : Option ℕ) × IsFileLine text found.steps place
+    × (line ≡ problem_line name place found.fault (option_and_then (offending found) (parse_document text)))
+
+abbrev pub IsLineOf : FaultCode → List ℕ → List ℕ → LocatedFault → List ℕ → Type 0
+IsLineOf NotToml name text found line = IsTextLine name text found.fault line
+IsLineOf other name text found line = IsProblemLine name text found line
 
 -- the line for a fault of a file of this name and text
-abbrev pub IsLine : List ℕ → List ℕ → DescriptorFault → List ℕ → Type 0
-IsLine name text found line = IsLineOf found.code name text found line
+abbrev pub IsLine : List ℕ → List ℕ → LocatedFault → List ℕ → Type 0
+IsLine name text found line = IsLineOf found.fault.code name text found line
 
--- a line for a fault of a file is the line for some text of a file; for a server file, it has the server file's name
-abbrev pub IsDetail : List ℕ → CommandFault → Option (List ℕ) → Type 0
-IsDetail config (fault.Server found) given = IfSome given (λ line. (text : List ℕ) × IsLine config text found line)
-IsDetail config (fault.Descriptor context found) given = IfSome given (λ line. (name : List ℕ) × (text : List ℕ) × IsLine name text found line)
-IsDetail config (fault.Users context found) given = IfSome given (λ line. (name : List ℕ) × (text : List ℕ) × IsLine name text found line)
-IsDetail config other given = given ≡ None
+-- a fault, and the name of the file that has it
+pub record NamedFault : Type 0 where
+  pub file : List ℕ
+  pub fault : DescriptorFault
+
+-- the line is the one for a file of this name and some text in which the fault has some place
+abbrev pub IsDetail : NamedFault → List ℕ → Type 0
+IsDetail found line = (text : List ℕ) × (steps : List ValueStep) × IsLine found.file text (record { fault = found.fault; steps = steps }) line
+
+-- a component, by its place from 1 among those of its kind in the descriptor
+abbrev pub place_text : Place → List ℕ
+place_text (Servlet place) = codes "servlet " ++ decimal (place + 1)
+place_text (Filter place) = codes "filter " ++ decimal (place + 1)
+
+abbrev pub detail_text : Detail → List ℕ
+detail_text (detail.Line line) = line.now
+detail_text (detail.Component place) = codes "  " ++ place_text place ++ codes " of its descriptor: init failed"
+
+-- the component that did not start, if that is the reason
+abbrev pub failed_component : NewCode → Option Place
+failed_component (new.Start (start.InitFailed place)) = Some place
+failed_component other = None

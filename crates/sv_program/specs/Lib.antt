@@ -1,11 +1,10 @@
 pub mod Detail
+pub mod FaultDetail
+pub mod FileLine
 pub mod Place
 pub mod Sentence
-pub mod Tree
 pub mod Shown
 pub mod Offending
-pub mod Telling
-pub mod Lists
 pub mod Arguments
 pub mod CommandFault
 pub mod FaultLine

@@ -2,12 +2,16 @@
 
 ghost use Rattle.std.specs.Prelude.{◌≡◌, ◌++◌, Some};
 ghost use Rattle.sv_program.specs.CommandFault.{fault_line, fault_text, key_text, status_of};
+ghost use Rattle.sv_program.specs.FaultDetail.{IsFaultDetail};
 ghost use Rattle.sv_program.specs.FaultLine.{line_text, shown_text};
 
+use crate::detail::{Detail, failed_component};
+use crate::file_fault::FileFault;
 use std::alloc::{AllocError, AllocFailed};
 use std::error::Error;
 use std::fmt;
 use sv_descriptor::DescriptorFault;
+use sv_journal::NewCode;
 use sv_text::{NoMemory, Text};
 use sv_uri::shown_context;
 
@@ -24,21 +28,21 @@ pub enum CommandFault {
     /// one in the arguments or in the server file.
     File(Text),
     /// The server file does not have the required format: `sv: server CODE KEY`, status 1.
-    Server(DescriptorFault),
+    Server(FileFault),
     /// The deployment descriptor of the context does not have the required format: `sv: descriptor CONTEXT CODE KEY`,
     /// status 1.
     Descriptor {
         /// The context path.
         context: Text,
         /// The first fault of the file.
-        fault: DescriptorFault,
+        fault: FileFault,
     },
     /// The users file of the context does not have the required format: `sv: users CONTEXT CODE KEY`, status 1.
     Users {
         /// The context path.
         context: Text,
         /// The first fault of the file.
-        fault: DescriptorFault,
+        fault: FileFault,
     },
     /// The program has no such class for a component of its kind: `sv: class NAME`, status 1.
     Class(Text),
@@ -51,9 +55,9 @@ pub enum CommandFault {
     },
     /// The container does not start: `sv: start CODE CONTEXT`, status 1.
     Start {
-        /// The number of the fault, from 1 to 12.
-        code: u8,
-        /// The path of the context at which the start failed.
+        /// The reason.
+        code: NewCode,
+        /// The context path that goes with the reason.
         context: Text,
     },
     /// A socket is not available, or failed: `sv: socket`, status 1.
@@ -93,6 +97,34 @@ impl CommandFault {
     }
 }
 
+impl CommandFault {
+    /// Returns the second line on standard error, if there is one: where the fault of a configuration file is, or which
+    /// component did not start.
+    pub fn detail(&self) -> Option<Detail<'_>>
+        ensures { IsFaultDetail self.now result }
+    {
+        match self {
+            CommandFault::Server(fault) => Some(Detail::Line(fault.detail())),
+            CommandFault::Descriptor { fault, .. } => Some(Detail::Line(fault.detail())),
+            CommandFault::Users { fault, .. } => Some(Detail::Line(fault.detail())),
+            CommandFault::Start { code, .. } => match failed_component(*code) {
+                Some(place) => Some(Detail::Component(place)),
+                None => None,
+            },
+            CommandFault::Input => None,
+            CommandFault::Output => None,
+            CommandFault::File(_) => None,
+            CommandFault::Class(_) => None,
+            CommandFault::Files { .. } => None,
+            CommandFault::Socket => None,
+            CommandFault::Script { .. } => None,
+            CommandFault::User => None,
+            CommandFault::Method => None,
+            CommandFault::NoMemory => None,
+        }
+    }
+}
+
 impl fmt::Display for CommandFault {
     ghost output = { λ fault. Some (fault_line fault) };
 
@@ -113,17 +145,17 @@ impl CommandFault {
             CommandFault::Server(fault) => Line {
                 front: "sv: server",
                 place: "",
-                end: LineEnd::Shown(numbered(fault)),
+                end: LineEnd::Shown(numbered(fault.fault())),
             },
             CommandFault::Descriptor { context, fault } => Line {
                 front: "sv: descriptor ",
                 place: shown_context(context.as_str()),
-                end: LineEnd::Shown(numbered(fault)),
+                end: LineEnd::Shown(numbered(fault.fault())),
             },
             CommandFault::Users { context, fault } => Line {
                 front: "sv: users ",
                 place: shown_context(context.as_str()),
-                end: LineEnd::Shown(numbered(fault)),
+                end: LineEnd::Shown(numbered(fault.fault())),
             },
             CommandFault::Class(name) => named("sv: class ", name.as_str()),
             CommandFault::Files { context, code } => Line {
@@ -135,7 +167,7 @@ impl CommandFault {
                 front: "sv: start",
                 place: "",
                 end: LineEnd::Shown(Shown {
-                    code: *code,
+                    code: code.number(),
                     key: shown_context(context.as_str()),
                 }),
             },

@@ -9,9 +9,11 @@ ghost use Rattle.sv_program.specs.Configuration as spec;
 ghost use Rattle.sv_program.specs.declared.command_fault.CommandFault.TheVariants.{File};
 
 use crate::command_fault::CommandFault;
+use crate::file_fault::FileFault;
 use std::alloc::Global;
 use sv_descriptor::{
-    ContextEntry, Descriptor, ReadFault, Server, read_descriptor, read_server, read_users,
+    ContextEntry, Descriptor, LocatedReadFault, Server, read_located_descriptor,
+    read_located_server, read_located_users,
 };
 use sv_realm::Realm;
 use sv_text::Text;
@@ -38,10 +40,15 @@ pub fn server_in(alloc: Global, name: &str, text: Option<&Text>) -> Result<Serve
     let Some(text) = text else {
         return unread(alloc, name);
     };
-    match read_server(alloc, text.as_str()) {
+    match read_located_server(alloc, text.as_str()) {
         Ok(server) => Ok(server),
-        Err(ReadFault::Fault(fault)) => Err(CommandFault::Server(fault)),
-        Err(ReadFault::NoMemory) => Err(CommandFault::NoMemory),
+        Err(LocatedReadFault::Fault(found)) => Err(CommandFault::Server(FileFault::of(
+            alloc,
+            name,
+            text.as_str(),
+            found,
+        )?)),
+        Err(LocatedReadFault::NoMemory) => Err(CommandFault::NoMemory),
     }
 }
 
@@ -55,13 +62,14 @@ pub fn descriptor_in(alloc: Global, texts: &ContextTexts) -> Result<Descriptor, 
     let Some(text) = &texts.descriptor else {
         return unread(alloc, texts.context.descriptor.as_str());
     };
-    match read_descriptor(alloc, text.as_str()) {
+    let name = texts.context.descriptor.as_str();
+    match read_located_descriptor(alloc, text.as_str()) {
         Ok(descriptor) => Ok(descriptor),
-        Err(ReadFault::Fault(fault)) => Err(CommandFault::Descriptor {
+        Err(LocatedReadFault::Fault(found)) => Err(CommandFault::Descriptor {
+            fault: FileFault::of(alloc, name, text.as_str(), found)?,
             context: Text::copy_of(alloc, texts.context.path.as_str())?,
-            fault,
         }),
-        Err(ReadFault::NoMemory) => Err(CommandFault::NoMemory),
+        Err(LocatedReadFault::NoMemory) => Err(CommandFault::NoMemory),
     }
 }
 
@@ -78,13 +86,13 @@ pub fn realm_in(alloc: Global, texts: &ContextTexts) -> Result<Realm, CommandFau
     let Some(text) = &texts.users else {
         return unread(alloc, name.as_str());
     };
-    match read_users(alloc, text.as_str()) {
+    match read_located_users(alloc, text.as_str()) {
         Ok(users) => Ok(Realm::from_users(alloc, users)?),
-        Err(ReadFault::Fault(fault)) => Err(CommandFault::Users {
+        Err(LocatedReadFault::Fault(found)) => Err(CommandFault::Users {
+            fault: FileFault::of(alloc, name.as_str(), text.as_str(), found)?,
             context: Text::copy_of(alloc, texts.context.path.as_str())?,
-            fault,
         }),
-        Err(ReadFault::NoMemory) => Err(CommandFault::NoMemory),
+        Err(LocatedReadFault::NoMemory) => Err(CommandFault::NoMemory),
     }
 }
 

@@ -8,29 +8,29 @@ mod configuration_files;
 mod detail;
 mod disk;
 mod example_policy;
+mod file_fault;
+mod file_line;
 mod first_command;
 mod limits;
 mod line;
-mod lists;
-mod names;
-mod offending_text;
+mod offending_value;
 mod output;
 mod place;
 mod sentence;
 mod toml_value;
-mod tree;
 mod uncovered_command;
 
 pub use command_fault::CommandFault;
 pub use configuration::{ContextTexts, descriptor_in, realm_in, server_in};
 pub use configuration_files::{read_contexts, read_server_file};
-pub use detail::fault_detail;
+pub use detail::Detail;
 pub use disk::{Disk, FileStore};
+pub use file_fault::FileFault;
 pub use first_command::{denies_uncovered, first, first_line};
 pub use limits::{
-    MAX_INPUT_BYTES, MAX_SHOWN_CHARACTERS, limits_are_as_stated, limits_of_the_second_line,
+    MAX_INPUT_BYTES, MAX_LOCATED_BYTES, MAX_SHOWN_CHARACTERS, limits_are_as_stated,
+    limits_of_the_second_line,
 };
-pub use line::detail_line;
 pub use output::{print_line, print_text};
 pub use sv_constraints::{OwnedDecision, OwnedWhy};
 pub use uncovered_command::{gap_lines, uncovered, uncovered_lines};

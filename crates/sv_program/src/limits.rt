@@ -8,12 +8,16 @@ pub const MAX_INPUT_BYTES: u64 = 65_536;
 /// Maximum number of characters shown of a text.
 pub const MAX_SHOWN_CHARACTERS: usize = 80;
 
+/// Maximum number of bytes of a file in which the line of a fault is searched for.
+pub const MAX_LOCATED_BYTES: usize = 65_536;
+
 /// The limits of this crate as numbers.
 pub fn limits_are_as_stated()
     ensures input { MAX_INPUT_BYTES ≡ 65536 }
 {}
 
-/// At most 80 characters of a text are shown.
+/// At most 80 characters of a text are shown. The line of a fault is searched for in files of at most 64 KiB.
 pub fn limits_of_the_second_line()
-    ensures { MAX_SHOWN_CHARACTERS ≡ 80 }
+    ensures characters { MAX_SHOWN_CHARACTERS ≡ 80 }
+    ensures bytes { MAX_LOCATED_BYTES ≡ 65536 }
 {}

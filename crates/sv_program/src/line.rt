@@ -1,64 +1,54 @@
 //! The second line of a fault, from the name and the text of its file.
 
-ghost use Rattle.std.specs.Prelude.{◌≡◌, ◌≤◌, IfOk, length, take};
-ghost use Rattle.sv_text.specs.Gives.{GivesAnswer};
+ghost use Rattle.std.specs.Prelude.{◌≡◌, ◌≤◌, IfOk, None, length, take};
 ghost use Rattle.std.specs.Option.{option_and_then};
+ghost use Rattle.sv_text.specs.Gives.{GivesAnswer};
 ghost use Rattle.toml.specs.Parse.{parse_document};
 ghost use Rattle.sv_program.specs.Detail as spec;
-ghost use Rattle.sv_program.specs.Offending.{offending as offending_text};
+ghost use Rattle.sv_program.specs.Offending.{offending as offending_value};
 
-use crate::offending_text::offending;
+use crate::file_line::file_line;
+use crate::offending_value::offending;
 use crate::place::{column_behind, line_behind};
 use crate::sentence::{back, front};
 use std::alloc::Global;
-use sv_descriptor::{DescriptorFault, FaultCode};
+use sv_descriptor::{DescriptorFault, FaultCode, LocatedFault};
 use sv_text::{NoMemory, Text};
 
 /// Returns the second line of a fault of the file of this name and text, without its line feed. If the text is not
-/// valid TOML, it has the line and column at which the parser stops, and the parser's message. For another fault it has
-/// the offending text, if the file determines it.
-pub fn detail_line(
+/// valid TOML, it has the line and column at which the parser stops, and the parser's message. Any other fault has the
+/// line on which the offending value begins, the problem, and the value.
+pub(crate) fn detail_line(
     alloc: Global,
     name: &str,
     text: &str,
-    fault: &DescriptorFault,
+    found: &LocatedFault,
 ) -> Result<Text, NoMemory>
-    ensures { IfOk result (spec.IsLine name.now text.now fault.now) }
+    ensures { IfOk result (spec.IsLine name.now text.now found.now) }
 {
-    match fault.code {
-        FaultCode::NotToml => text_line(alloc, name, text, fault),
-        _ => told_line(alloc, name, text, fault),
+    match found.fault.code {
+        FaultCode::NotToml => text_line(alloc, name, text, &found.fault),
+        _ => value_line(alloc, name, text, found),
     }
 }
 
-/// Returns the line with the offending text, if the text of the file is still valid TOML.
-fn told_line(
-    alloc: Global,
-    name: &str,
-    text: &str,
-    fault: &DescriptorFault,
-) -> Result<Text, NoMemory>
-    ensures { GivesAnswer result (spec.told_line name.now fault.now (option_and_then (offending_text fault.now) (parse_document text.now))) }
+/// Returns the line of a fault of a text that is TOML.
+fn value_line(alloc: Global, name: &str, text: &str, found: &LocatedFault) -> Result<Text, NoMemory>
+    ensures { IfOk result (spec.IsProblemLine name.now text.now found.now) }
+{
+    let line = file_line(alloc, text.as_bytes(), found.steps.as_slice())?;
+    let value = value_shown(alloc, text, found)?;
+    problem_line(alloc, name, line, &found.fault, value)
+}
+
+/// Returns the offending value of a fault as it is shown, if the text is TOML.
+fn value_shown(alloc: Global, text: &str, found: &LocatedFault) -> Result<Option<Text>, NoMemory>
+    ensures { GivesAnswer result (option_and_then (offending_value found.now) (parse_document text.now)) }
 {
     match toml::table_from_str(alloc, text) {
-        Ok(file) => line_with_text(alloc, name, fault, offending(alloc, fault, &file)?),
+        Ok(file) => offending(alloc, found, &file),
         Err(error) if error.is_memory() => Err(NoMemory),
-        Err(_) => plain_line(alloc, name, fault),
-    }
-}
-
-fn line_with_text(
-    alloc: Global,
-    name: &str,
-    fault: &DescriptorFault,
-    told: Option<Text>,
-) -> Result<Text, NoMemory>
-    ensures { GivesAnswer result (spec.told_line name.now fault.now told) }
-{
-    let plain = plain_line(alloc, name, fault)?;
-    match told {
-        Some(told) => Ok(Text::from_string(format!(in alloc; "{plain}: {told}")?)),
-        None => Ok(plain),
+        Err(_) => Ok(None),
     }
 }
 
@@ -72,7 +62,7 @@ fn text_line(
     ensures { IfOk result (spec.IsTextLine name.now text.now fault.now) }
 {
     let Err(error) = toml::table_from_str(alloc, text) else {
-        return plain_line(alloc, name, fault);
+        return problem_line(alloc, name, None, fault, None);
     };
     let Some(span) = error.span() else {
         return Err(NoMemory);
@@ -96,13 +86,41 @@ fn line_with_place(
     Ok(Text::from_string(text))
 }
 
-/// Returns the line without a place.
-fn plain_line(alloc: Global, name: &str, fault: &DescriptorFault) -> Result<Text, NoMemory>
-    ensures { GivesAnswer result (spec.plain_line name.now fault.now) }
+/// Returns the line with the problem: on this line of the file, if it is known, and with this value, if it is shown.
+fn problem_line(
+    alloc: Global,
+    name: &str,
+    line: Option<usize>,
+    fault: &DescriptorFault,
+    value: Option<Text>,
+) -> Result<Text, NoMemory>
+    ensures { GivesAnswer result (spec.problem_line name.now line fault.now value) }
 {
+    let place = line_text(alloc, line)?;
     let front = front(fault.code);
     let key = fault.key.as_str();
     let back = back(fault.code);
-    let text = format!(in alloc; "  {name}: {front}{key}{back}")?;
+    let value = value_text(alloc, value)?;
+    let text = format!(in alloc; "  {name}{place}: {front}{key}{back}{value}")?;
     Ok(Text::from_string(text))
+}
+
+/// Returns the number of a line, after a colon.
+fn line_text(alloc: Global, line: Option<usize>) -> Result<Text, NoMemory>
+    ensures { GivesAnswer result (spec.line_text line) }
+{
+    match line {
+        Some(line) => Ok(Text::from_string(format!(in alloc; ":{line}")?)),
+        None => Text::copy_of(alloc, ""),
+    }
+}
+
+/// Returns the offending value, after a colon and a space.
+fn value_text(alloc: Global, value: Option<Text>) -> Result<Text, NoMemory>
+    ensures { GivesAnswer result (spec.value_text value) }
+{
+    match value {
+        Some(value) => Ok(Text::from_string(format!(in alloc; ": {value}")?)),
+        None => Text::copy_of(alloc, ""),
+    }
 }

@@ -49,7 +49,7 @@ fn last_line_length(text: &[u8]) -> usize
         .count()
 }
 
-fn ends_line(byte: u8) -> bool
+pub(crate) fn ends_line(byte: u8) -> bool
     ensures { result ≡ spec.ends_line byte }
 {
     byte == b'\n'

@@ -1,0 +1,85 @@
+-- The line of a file on which a value begins: the line after the last whole lines that are TOML by themselves and lack
+-- the value.
+use Rattle.std.specs.Prelude.{◌≡◌, ℕ, ◌+◌, ◌<◌, ◌≤◌, List, [], ◌∷◌, length, take, slice_index_or, Option, Some, None, is_some, if◌then◌else◌}
+use Rattle.std.specs.Option.{option_and_then}
+use Rattle.std.specs.Str.{is_utf8}
+use Rattle.toml.specs.Data.{Members}
+use Rattle.toml.specs.Parse.{parse_document}
+use Rattle.sv_descriptor.specs.declared.fault.ValueStep.{ValueStep}
+use Rattle.sv_program.specs.Offending.{value_in}
+use Rattle.sv_program.specs.Place.{ends_line}
+use Rattle.sv_program.specs.declared.file_line.Found.{Found}
+use Rattle.sv_program.specs.declared.file_line.Found.TheVariants.{Nothing, Lack, Has}
+use Rattle.sv_program.specs.declared.file_line.Presence.{Presence}
+use Rattle.sv_program.specs.declared.file_line.Presence.TheVariants.{NotToml, Lacking, Present}
+use Rattle.sv_program.specs.declared.limits.TheConstants.{MAX_LOCATED_BYTES}
+
+-- the bytes as a text, if they are UTF-8
+abbrev pub text_of : List ℕ → Option (List ℕ)
+text_of bytes = if is_utf8 bytes then Some bytes else None
+
+-- the table of these bytes, if they are a TOML document
+abbrev pub table_of : List ℕ → Option Members
+table_of bytes = option_and_then parse_document (text_of bytes)
+
+abbrev pub presence_in : List ValueStep → Option Members → Presence
+presence_in steps None = NotToml
+presence_in steps (Some table) = if is_some (value_in steps table) then Present else Lacking
+
+-- whether these bytes have the value after these steps
+abbrev pub presence : List ValueStep → List ℕ → Presence
+presence steps bytes = presence_in steps (table_of bytes)
+
+-- the number of bytes up to each end of a line, after this number of bytes, and up to the end
+abbrev pub ends_from : ℕ → List ℕ → List ℕ
+ends_from at [] = at ∷ []
+ends_from at (byte ∷ rest) = if ends_line byte then (at + 1) ∷ ends_from (at + 1) rest else ends_from (at + 1) rest
+
+-- the lengths of the first lines of a text: of none, of one, and so on
+abbrev pub line_ends : List ℕ → List ℕ
+line_ends text = 0 ∷ ends_from 0 text
+
+-- whether the first lines, up to this of the ends, have the value
+abbrev pub presence_to : List ValueStep → List ℕ → List ℕ → ℕ → Presence
+presence_to steps text ends number = presence steps (take (slice_index_or ends number 0) text)
+
+-- the first `number` lines lack the value, and the next first lines that are TOML have it
+pub record BeginsAfter (state : ℕ → Presence) (last : ℕ) (number : ℕ) : Type 0 where
+  pub lacking : state number ≡ Lacking
+  pub has : ℕ
+  pub after : number < has
+  pub within : has ≤ last
+  pub present : state has ≡ Present
+  pub skipped : (between : ℕ) → number < between → between < has → state between ≡ NotToml
+
+-- how many lines a text has
+abbrev pub line_count : List ℕ → ℕ
+line_count text = length (ends_from 0 text)
+
+-- the value begins on this line, from 1; there is none for a long text, or if the text does not have the value
+abbrev pub IsFileLine : List ℕ → List ValueStep → Option ℕ → Type 0
+IsFileLine text steps None =
+    let state = presence_to steps text (line_ends text) in
+    length text ≤ MAX_LOCATED_BYTES → state 0 ≡ Lacking → state (line_count text) ≡ Present → ⊥
+IsFileLine text steps (Some line) =
+    (number : ℕ) × (line ≡ number + 1) × BeginsAfter (presence_to steps text (line_ends text)) (line_count text) number
+
+-- ---- the search for it
+
+-- no first lines between these numbers, nor up to the last, are TOML by themselves
+abbrev pub AreOpen : (ℕ → Presence) → ℕ → ℕ → Type 0
+AreOpen state after last = (number : ℕ) → after < number → number ≤ last → state number ≡ NotToml
+
+-- the value begins after `low` lines or later, and before `high`
+pub record IsNarrowed (state : ℕ → Presence) (low bound high : ℕ) : Type 0 where
+  pub rising : low ≤ bound
+  pub apart : bound < high
+  pub lacking : state low ≡ Lacking
+  pub present : state high ≡ Present
+  pub skipped : AreOpen state low bound
+
+-- the most first lines, more than `bound` and at most `middle`, that are TOML by themselves
+abbrev pub IsLastToml : (ℕ → Presence) → ℕ → ℕ → Found → Type 0
+IsLastToml state bound middle Nothing = AreOpen state bound middle
+IsLastToml state bound middle (Lack number) = (bound < number) × (number ≤ middle) × (state number ≡ Lacking) × AreOpen state number middle
+IsLastToml state bound middle (Has number) = (bound < number) × (number ≤ middle) × (state number ≡ Present) × AreOpen state number middle

@@ -1,0 +1,220 @@
+//! The line of a file on which a value begins.
+//!
+//! The TOML reader gives no places. So the text is cut after whole lines, and each front is read: the value begins on
+//! the line after the longest front that is TOML and lacks it. Fronts that end inside a value are not TOML, and are
+//! passed over.
+
+ghost use Rattle.std.specs.Prelude.{◌≡◌, IfOk, Some, option_copied, option_map, take};
+ghost use Rattle.sv_text.specs.Gives.{GivesAnswer};
+ghost use Rattle.toml.specs.Parse.{parse_document};
+ghost use Rattle.toml.specs.View.{table_view};
+ghost use Rattle.sv_program.specs.FileLine as spec;
+
+use crate::limits::MAX_LOCATED_BYTES;
+use crate::offending_value::value_in;
+use crate::place::ends_line;
+use std::alloc::Global;
+use sv_descriptor::ValueStep;
+use sv_text::NoMemory;
+use toml::Table;
+
+/// Returns the line, from 1, on which the value after these steps begins. There is none if the text has no such value,
+/// or is longer than [`MAX_LOCATED_BYTES`].
+pub(crate) fn file_line(
+    alloc: Global,
+    text: &[u8],
+    steps: &[ValueStep],
+) -> Result<Option<usize>, NoMemory>
+    ensures { IfOk result (λ line. spec.IsFileLine text.now steps.now line) }
+{
+    if text.len() > MAX_LOCATED_BYTES {
+        return Ok(None);
+    }
+    let ends = line_ends(alloc, text)?;
+    let fronts = Fronts {
+        text,
+        ends: ends.as_slice(),
+        steps,
+    };
+    fronts.line(alloc)
+}
+
+/// Returns the lengths of the fronts of whole lines: 0, then up to each line feed, then the whole text.
+fn line_ends(alloc: Global, text: &[u8]) -> Result<Vec<usize>, NoMemory>
+    ensures { IfOk result (λ ends. ends.items ≡ spec.line_ends text.now) }
+{
+    let mut ends = Vec::new(alloc);
+    ends.push(0)?;
+    let mut at = 0;
+    for byte in text {
+        at += 1;
+        if ends_line(*byte) {
+            ends.push(at)?;
+        }
+    }
+    ends.push(at)?;
+    Ok(ends)
+}
+
+/// What a front of a text says about a value.
+#[derive(Clone, Copy)]
+pub(crate) enum Presence {
+    /// The front is not a TOML document.
+    NotToml,
+    /// It is one, and lacks the value.
+    Lacking,
+    /// It is one, and has the value.
+    Present,
+}
+
+/// The longest front of some fronts that is a TOML document, by its number of lines.
+#[derive(Clone, Copy)]
+pub(crate) enum Found {
+    /// None of them is one.
+    Nothing,
+    /// It lacks the value.
+    Lack(usize),
+    /// It has the value.
+    Has(usize),
+}
+
+/// The fronts of a text up to these ends, and the steps to a value.
+#[derive(Clone, Copy)]
+struct Fronts<'a> {
+    text: &'a [u8],
+    ends: &'a [usize],
+    steps: &'a [ValueStep],
+}
+
+impl Fronts<'_> {
+    ghost use Rattle.std.specs.Prelude.{◌≡◌, ◌<◌, ◌≤◌, IfOk, length};
+    ghost use Rattle.sv_text.specs.Gives.{GivesAnswer};
+    ghost use Rattle.sv_program.specs.FileLine as spec;
+
+    /// Returns the line on which the value begins.
+    fn line(&self, alloc: Global) -> Result<Option<usize>, NoMemory>
+        requires { self.now.ends.now ≡ spec.line_ends self.now.text.now }
+        ensures { IfOk result (λ line. length self.now.text.now ≤ MAX_LOCATED_BYTES → spec.IsFileLine self.now.text.now self.now.steps.now line) }
+    {
+        let last = self.ends.len() - 1;
+        let Presence::Lacking = self.presence_at(alloc, 0)? else {
+            return Ok(None);
+        };
+        let Presence::Present = self.presence_at(alloc, last)? else {
+            return Ok(None);
+        };
+        if last == 0 {
+            return Ok(None);
+        }
+        Ok(Some(self.lines_before(alloc, last)? + 1))
+    }
+
+    /// Returns the number of lines before the value, if the front of no lines lacks it and the front of `last` lines has
+    /// it.
+    fn lines_before(&self, alloc: Global, last: usize) -> Result<usize, NoMemory>
+        requires within { last < length self.now.ends.now }
+        requires narrowed { spec.IsNarrowed (spec.presence_to self.now.steps.now self.now.text.now self.now.ends.now) 0 0 last }
+        ensures { IfOk result (λ number. spec.BeginsAfter (spec.presence_to self.now.steps.now self.now.text.now self.now.ends.now) last number) }
+    {
+        let mut low = 0;
+        let mut bound = 0;
+        let mut high = last;
+        while bound + 1 < high {
+            let middle = bound + (high - bound) / 2;
+            match self.last_toml(alloc, bound, middle)? {
+                Found::Nothing => bound = middle,
+                Found::Lack(number) => {
+                    low = number;
+                    bound = middle;
+                }
+                Found::Has(number) => high = number,
+            }
+        }
+        Ok(low)
+    }
+
+    /// Returns the longest front of more than `bound` and at most `middle` lines that is a TOML document.
+    fn last_toml(&self, alloc: Global, bound: usize, middle: usize) -> Result<Found, NoMemory>
+        requires { middle < length self.now.ends.now }
+        ensures { IfOk result (λ found. spec.IsLastToml (spec.presence_to self.now.steps.now self.now.text.now self.now.ends.now) bound middle found) }
+    {
+        let mut number = middle;
+        while number > bound {
+            match self.presence_at(alloc, number)? {
+                Presence::NotToml => number -= 1,
+                Presence::Lacking => return Ok(Found::Lack(number)),
+                Presence::Present => return Ok(Found::Has(number)),
+            }
+        }
+        Ok(Found::Nothing)
+    }
+
+    /// Returns whether the front of this number of lines has the value.
+    fn presence_at(&self, alloc: Global, number: usize) -> Result<Presence, NoMemory>
+        requires { number < length self.now.ends.now }
+        ensures { GivesAnswer result (spec.presence_to self.now.steps.now self.now.text.now self.now.ends.now number) }
+    {
+        let front = front(self.text, self.ends[number]);
+        presence_of(alloc, front, self.steps)
+    }
+}
+
+/// Returns the first `count` bytes of a text, or all of them.
+fn front(text: &[u8], count: usize) -> &[u8]
+    ensures { result.now ≡ take count text.now }
+{
+    if count < text.len() {
+        &text[..count]
+    } else {
+        text
+    }
+}
+
+/// Returns whether these bytes have the value after these steps.
+fn presence_of(alloc: Global, bytes: &[u8], steps: &[ValueStep]) -> Result<Presence, NoMemory>
+    ensures { GivesAnswer result (spec.presence steps.now bytes.now) }
+{
+    match table_of(alloc, bytes)? {
+        Some(table) => Ok(presence_in(&table, steps)),
+        None => Ok(Presence::NotToml),
+    }
+}
+
+fn presence_in(table: &Table, steps: &[ValueStep]) -> Presence
+    ensures { result ≡ spec.presence_in steps.now (Some (table_view table.now)) }
+{
+    match value_in(steps, table) {
+        Some(_) => Presence::Present,
+        None => Presence::Lacking,
+    }
+}
+
+/// Returns the table of these bytes, if they are a TOML document.
+fn table_of(alloc: Global, bytes: &[u8]) -> Result<Option<Table>, NoMemory>
+    ensures { IfOk result (λ table. option_map table_view table ≡ spec.table_of bytes.now) }
+{
+    match text_of(bytes) {
+        Some(text) => parsed(alloc, text),
+        None => Ok(None),
+    }
+}
+
+fn parsed(alloc: Global, text: &str) -> Result<Option<Table>, NoMemory>
+    ensures { IfOk result (λ table. option_map table_view table ≡ parse_document text.now) }
+{
+    match toml::table_from_str(alloc, text) {
+        Ok(table) => Ok(Some(table)),
+        Err(error) if error.is_memory() => Err(NoMemory),
+        Err(_) => Ok(None),
+    }
+}
+
+/// Returns the bytes as a text, if they are UTF-8.
+fn text_of(bytes: &[u8]) -> Option<&str>
+    ensures { option_copied result ≡ spec.text_of bytes.now }
+{
+    match str::from_utf8(bytes) {
+        Ok(text) => Some(text),
+        Err(_) => None,
+    }
+}
