@@ -1,12 +1,12 @@
 -- The loop that collects the lines of the command `uncovered`.
 use Rattle.std.proofs.Common.{◌≡◌, ◌∙◌, ℕ, ◌+◌, ◌<◌, List, [], ◌∷◌, ◌++◌, flat_map, length, drop, get_or, drop-cons, add-one, Ok, Err, refl, suc, sym, ap, append_assoc, Option, Some, None, MatchOption, IsErrAnd}
 use Rattle.sv_text.specs.Steps.{◌>>=◌}
-use Rattle.sv_descriptor.specs.Server.{server_of}
-use Rattle.sv_descriptor.specs.Descriptor.{descriptor_of}
+use Rattle.sv_descriptor.specs.Server.{located_server}
+use Rattle.sv_descriptor.specs.Descriptor.{located_descriptor}
 use Rattle.sv_program.specs.CommandFault.{command_fault}
 use Rattle.sv_program.specs.Configuration.{Step, descriptor_in, each, server_in, text_of}
 use Rattle.sv_program.specs.ConfigurationFiles.{ReadsServer}
-use Rattle.sv_program.specs.FileStore.{Giving}
+use Rattle.sv_program.specs.FileStore.{FileText, Giving}
 use Rattle.sv_program.specs.Printed.{FindsText}
 use Rattle.sv_program.specs.Uncovered.{AreLines, context_lines, lines_for, uncovered_lines}
 use Rattle.sv_program.specs.declared.command_fault.CommandFault.{CommandFault}
@@ -47,12 +47,12 @@ one_context_more texts i at b lines next whole within is gives pushed known =
 lines_asked : (texts : List ContextTexts) → FaultsAreAsked (uncovered_lines texts)
 lines_asked texts =
     then (each context_lines texts) _
-    (each_asked context_lines (λ at. then (descriptor_in at) _ (then (text_of at.context.descriptor at.descriptor) _ (text_asked at.context.descriptor at.descriptor) (λ text. descriptor_asked at.context.path at.context.descriptor (descriptor_of text))) (λ descriptor. done _)) texts)
+    (each_asked context_lines (λ at. then (descriptor_in at) _ (then (text_of at.context.descriptor at.descriptor) _ (text_asked at.context.descriptor at.descriptor) (λ text. descriptor_asked at.context.path at.context.descriptor text (located_descriptor text))) (λ descriptor. done _)) texts)
     (λ lines. done _)
 
-run_asked : (config : List ℕ) (file : Option (List ℕ)) (texts : List ContextTexts) → FaultsAreAsked (lines_for config file texts)
+run_asked : (config : List ℕ) (file : FileText) (texts : List ContextTexts) → FaultsAreAsked (lines_for config file texts)
 run_asked config file texts =
-    then (server_in config file) _ (then (text_of config file) _ (text_asked config file) (λ text. server_asked config (server_of text)))
+    then (server_in config file) _ (then (text_of config file) _ (text_asked config file) (λ text. server_asked config text (located_server text)))
     (λ server. lines_asked texts)
 
 module _ {S : Type 0} (gives : Giving S) (config : List ℕ) where
@@ -67,7 +67,7 @@ module _ {S : Type 0} (gives : Giving S) (config : List ℕ) where
   without_server fault (Err e) before after read same = rw same (at (command_fault fault) read)
     where
       at : (found : Option CommandFault)
-          → MatchOption found (Unit {0}) (λ _. (file : Option (List ℕ)) × gives before config file after × MatchOption found (Unit {0}) (λ f. server_in config file ≡ Err f))
+          → MatchOption found (Unit {0}) (λ _. (file : FileText) × gives before config file after × MatchOption found (Unit {0}) (λ f. server_in config file ≡ Err f))
           → MatchOption found (Unit {0}) (λ _. (lines : Step (List ℕ)) × AreLines gives config lines before after × MatchOption found (Unit {0}) (λ f. lines ≡ Err f))
       at None h = tt
       at (Some f) h =

@@ -12,17 +12,17 @@ ends : (fault : CommandFault) (text : Step (List ℕ)) (old : Option (List ℕ))
     → MatchOption (command_fault fault) (Unit {0}) (λ _. EndsBy text (Err fault) old old)
 ends Input text old asked h = absurd (asked Input h)
 ends Output text old asked h = absurd (asked Output h)
-ends (File name) text old asked h = h
-ends (Server found) text old asked h = h
-ends (Descriptor context found) text old asked h = h
-ends (Users context found) text old asked h = h
-ends (Class name) text old asked h = h
-ends (Files context code) text old asked h = h
+ends (File name why) text old asked h = h
+ends (Server faulty) text old asked h = h
+ends (Descriptor context faulty) text old asked h = h
+ends (Users context faulty) text old asked h = h
+ends (Class name known) text old asked h = h
+ends (Files context found) text old asked h = h
 ends (Start code context) text old asked h = h
-ends Socket text old asked h = h
+ends (Socket found) text old asked h = h
 ends (Script at) text old asked h = h
-ends User text old asked h = h
-ends Method text old asked h = h
+ends (User shown) text old asked h = h
+ends (Method shown) text old asked h = h
 ends NoMemory text old asked h = tt
 
 module _ {S : Type 0} (Is : Printing S) (are_asked : (text : Step (List ℕ)) (before after : S) → Is text before after → FaultsAreAsked text) where

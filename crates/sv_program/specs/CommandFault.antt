@@ -5,6 +5,7 @@ use Rattle.std.specs.Str.{bytes_eq}
 use Rattle.sv_journal.specs.StartCode.{new_code_number}
 use Rattle.sv_descriptor.specs.Fault.{number}
 use Rattle.sv_descriptor.specs.declared.fault.DescriptorFault.{DescriptorFault}
+use Rattle.sv_files.specs.Fault.{fault_number as files_number}
 use Rattle.sv_uri.specs.ContextPath.{shown_context}
 use Rattle.sv_program.specs.declared.command_fault.CommandFault.{CommandFault}
 use Rattle.sv_program.specs.declared.command_fault.CommandFault.TheVariants.{Input, Output, File, Server, Descriptor, Users, Class, Files, Start, Socket, Script, User, Method, NoMemory}
@@ -21,34 +22,34 @@ fault_text fault = decimal (number fault.code) ++ codes " " ++ key_text fault.ke
 abbrev pub fault_line : CommandFault → List ℕ
 fault_line Input = codes "sv: file stdin"
 fault_line Output = codes "sv: file stdout"
-fault_line (File name) = codes "sv: file " ++ name
-fault_line (Server found) = codes "sv: server " ++ fault_text found.fault
-fault_line (Descriptor context found) = codes "sv: descriptor " ++ shown_context context ++ codes " " ++ fault_text found.fault
-fault_line (Users context found) = codes "sv: users " ++ shown_context context ++ codes " " ++ fault_text found.fault
-fault_line (Class name) = codes "sv: class " ++ name
-fault_line (Files context code) = codes "sv: files " ++ shown_context context ++ codes " " ++ decimal code
+fault_line (File name why) = codes "sv: file " ++ name
+fault_line (Server faulty) = codes "sv: server " ++ fault_text faulty.found.fault
+fault_line (Descriptor context faulty) = codes "sv: descriptor " ++ shown_context context ++ codes " " ++ fault_text faulty.found.fault
+fault_line (Users context faulty) = codes "sv: users " ++ shown_context context ++ codes " " ++ fault_text faulty.found.fault
+fault_line (Class name known) = codes "sv: class " ++ name
+fault_line (Files context found) = codes "sv: files " ++ shown_context context ++ codes " " ++ decimal (files_number found)
 fault_line (Start code context) = codes "sv: start " ++ decimal (new_code_number code) ++ codes " " ++ shown_context context
-fault_line Socket = codes "sv: socket"
+fault_line (Socket found) = codes "sv: socket"
 fault_line (Script line) = codes "sv: script " ++ decimal line
-fault_line User = codes "sv: user"
-fault_line Method = codes "sv: method"
+fault_line (User shown) = codes "sv: user"
+fault_line (Method shown) = codes "sv: method"
 fault_line NoMemory = codes "sv: no memory"
 
 -- the exit status: 1 for the configuration and the system, 2 for arguments and scripts, 3 if memory ran out
 abbrev pub status_of : CommandFault → ℕ
 status_of Input = 1
 status_of Output = 1
-status_of (File name) = 1
-status_of (Server found) = 1
-status_of (Descriptor context found) = 1
-status_of (Users context found) = 1
-status_of (Class name) = 1
-status_of (Files context code) = 1
+status_of (File name why) = 1
+status_of (Server faulty) = 1
+status_of (Descriptor context faulty) = 1
+status_of (Users context faulty) = 1
+status_of (Class name known) = 1
+status_of (Files context found) = 1
 status_of (Start code context) = 1
-status_of Socket = 1
+status_of (Socket found) = 1
 status_of (Script line) = 2
-status_of User = 2
-status_of Method = 2
+status_of (User shown) = 2
+status_of (Method shown) = 2
 status_of NoMemory = 3
 
 -- the fault, unless memory ran out

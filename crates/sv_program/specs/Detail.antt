@@ -1,22 +1,20 @@
 -- The second line of a fault: the file, the place if it is known, the problem and the offending value.
 use Rattle.std.specs.Prelude.{◌≡◌, ◌≤◌, ℕ, ◌+◌, List, ◌++◌, codes, length, take, Option, Some, None, MatchOption}
 use Rattle.std.specs.Fmt.{decimal}
+use Rattle.std.specs.Net.Text.{socket_text}
 use Rattle.std.specs.Option.{option_and_then}
 use Rattle.toml.specs.Parse.{parse_document}
 use Rattle.sv_journal.specs.declared.calls.Place.{Place}
 use Rattle.sv_journal.specs.declared.calls.Place.TheVariants.{Filter, Servlet}
-use Rattle.sv_journal.specs.declared.start_code.NewCode.{NewCode}
-use Rattle.sv_journal.specs.declared.start_code.NewCode.TheVariants as new
-use Rattle.sv_journal.specs.declared.start_code.StartCode.TheVariants as start
 use Rattle.sv_descriptor.specs.declared.fault.DescriptorFault.{DescriptorFault}
 use Rattle.sv_descriptor.specs.declared.fault.FaultCode.{FaultCode}
 use Rattle.sv_descriptor.specs.declared.fault.FaultCode.TheVariants.{NotToml}
 use Rattle.sv_descriptor.specs.declared.fault.LocatedFault.{LocatedFault}
-use Rattle.sv_descriptor.specs.declared.fault.ValueStep.{ValueStep}
 use Rattle.sv_program.specs.FileLine.{IsFileLine}
 use Rattle.sv_program.specs.Offending.{offending}
 use Rattle.sv_program.specs.Place.{line_behind, column_behind}
 use Rattle.sv_program.specs.Sentence.{sentence}
+use Rattle.sv_program.specs.Unavailable.{reason_text}
 use Rattle.sv_program.specs.declared.detail.Detail.{Detail}
 use Rattle.sv_program.specs.declared.detail.Detail.TheVariants as detail
 
@@ -60,25 +58,35 @@ IsLineOf other name text found line = IsProblemLine name text found line
 abbrev pub IsLine : List ℕ → List ℕ → LocatedFault → List ℕ → Type 0
 IsLine name text found line = IsLineOf found.fault.code name text found line
 
--- a fault, and the name of the file that has it
-pub record NamedFault : Type 0 where
+-- a fault with its place, and the name and the text of the file that has it
+pub record FaultInFile : Type 0 where
   pub file : List ℕ
-  pub fault : DescriptorFault
+  pub text : List ℕ
+  pub found : LocatedFault
 
--- the line is the one for a file of this name and some text in which the fault has some place
-abbrev pub IsDetail : NamedFault → List ℕ → Type 0
-IsDetail found line = (text : List ℕ) × (steps : List ValueStep) × IsLine found.file text (record { fault = found.fault; steps = steps }) line
+-- the line is the one for this fault
+abbrev pub IsDetail : FaultInFile → List ℕ → Type 0
+IsDetail faulty line = IsLine faulty.file faulty.text faulty.found line
 
 -- a component, by its place from 1 among those of its kind in the descriptor
-abbrev pub place_text : Place → List ℕ
-place_text (Servlet place) = codes "servlet " ++ decimal (place + 1)
-place_text (Filter place) = codes "filter " ++ decimal (place + 1)
+abbrev pub place_kind : Place → List ℕ
+place_kind (Servlet place) = codes "servlet"
+place_kind (Filter place) = codes "filter"
 
+abbrev pub place_number : Place → ℕ
+place_number (Servlet place) = place + 1
+place_number (Filter place) = place + 1
+
+abbrev pub place_text : Place → List ℕ
+place_text place = place_kind place ++ codes " " ++ decimal (place_number place)
+
+-- two spaces and the reason
 abbrev pub detail_text : Detail → List ℕ
 detail_text (detail.Line line) = line.now
+detail_text (detail.Named name why) = codes "  " ++ name.now ++ codes ": " ++ reason_text why
+detail_text (detail.Address address why) = codes "  " ++ socket_text address ++ codes ": " ++ reason_text why
 detail_text (detail.Component place) = codes "  " ++ place_text place ++ codes " of its descriptor: init failed"
-
--- the component that did not start, if that is the reason
-abbrev pub failed_component : NewCode → Option Place
-failed_component (new.Start (start.InitFailed place)) = Some place
-failed_component other = None
+detail_text (detail.Classes classes) = codes "  the program has " ++ classes.now
+detail_text (detail.User shown) = codes "  the context has no user " ++ shown.now
+detail_text (detail.Method shown) = codes "  a method is a token, unlike " ++ shown.now
+detail_text (detail.Sentence sentence) = codes "  " ++ sentence.now

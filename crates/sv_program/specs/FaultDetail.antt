@@ -1,20 +1,66 @@
--- The second line of the fault of a command.
-use Rattle.std.specs.Prelude.{◌≡◌, Option, Some, None, option_map}
-use Rattle.sv_program.specs.Detail.{IsDetail, NamedFault, failed_component}
+-- The second line of the fault of a command: why the first line is printed.
+use Rattle.std.specs.Prelude.{◌≡◌, ℕ, List, ◌++◌, codes, Option, Some, None}
+use Rattle.std.specs.Net.Text.{socket_text}
+use Rattle.sv_files.specs.declared.fault.FilesFault.{FilesFault}
+use Rattle.sv_files.specs.declared.fault.FilesFault.TheVariants as files
+use Rattle.sv_journal.specs.declared.start_code.NewCode.{NewCode}
+use Rattle.sv_journal.specs.declared.start_code.NewCode.TheVariants as new
+use Rattle.sv_journal.specs.declared.start_code.StartCode.TheVariants as start
+use Rattle.sv_program.specs.Detail.{FaultInFile, IsDetail, detail_text, place_text}
+use Rattle.sv_program.specs.Unavailable.{reason_text}
 use Rattle.sv_program.specs.declared.command_fault.CommandFault.{CommandFault}
 use Rattle.sv_program.specs.declared.command_fault.CommandFault.TheVariants as fault
 use Rattle.sv_program.specs.declared.detail.Detail.{Detail}
 use Rattle.sv_program.specs.declared.detail.Detail.TheVariants as detail
+use Rattle.sv_program.specs.declared.socket_fault.SocketFault.{SocketFault}
+use Rattle.sv_program.specs.declared.socket_fault.SocketFault.TheVariants as socket
 
--- there is a line, and it is one for this fault of a file
-abbrev pub HasLine : NamedFault → Option Detail → Type 0
-HasLine found (Some (detail.Line line)) = IsDetail found line.now
-HasLine found other = ⊥
+-- why the static files of a context are refused
+abbrev pub files_reason : FilesFault → List ℕ
+files_reason files.BadPath = codes "a file has a path that no request target can name"
+files_reason files.Duplicate = codes "two files have the same path"
+files_reason files.TooMany = codes "there are more than 10,000 files"
+files_reason files.TooLarge = codes "a file has more than 1,048,576 bytes"
+files_reason files.NoMemory = codes "memory ran out"
 
--- a fault of a configuration file has its line; a start that failed at a component has that component
+-- why a container does not start
+abbrev pub start_reason : NewCode → List ℕ
+start_reason (new.Start start.PartsMismatch) = codes "its components are not those of its descriptor"
+start_reason (new.Start (start.InitFailed place)) = place_text place ++ codes " of its descriptor: init failed"
+start_reason (new.Start start.NoMemory) = codes "memory ran out"
+start_reason new.DuplicateContext = codes "another context has this path"
+start_reason new.TooManyContexts = codes "there are more than 64 contexts"
+
+-- what failed of a socket
+abbrev pub socket_reason : SocketFault → List ℕ
+socket_reason (socket.Address address why) = socket_text address ++ codes ": " ++ reason_text why
+socket_reason socket.Accept = codes "no connection can be accepted"
+socket_reason socket.Connection = codes "the connection of the program to itself failed"
+socket_reason socket.Poll = codes "the system reports no more events of connections"
+
+-- there is a second line: two spaces and this text
+abbrev pub Says : List ℕ → Option Detail → Type 0
+Says text (Some given) = detail_text given ≡ codes "  " ++ text
+Says text None = ⊥
+
+-- there is a second line, and it is the one for this fault of a file
+abbrev pub HasLine : FaultInFile → Option Detail → Type 0
+HasLine faulty (Some (detail.Line line)) = IsDetail faulty line.now
+HasLine faulty other = ⊥
+
+-- the second line of a fault; standard streams and memory have none
 abbrev pub IsFaultDetail : CommandFault → Option Detail → Type 0
-IsFaultDetail (fault.Server found) given = HasLine found given
-IsFaultDetail (fault.Descriptor context found) given = HasLine found given
-IsFaultDetail (fault.Users context found) given = HasLine found given
-IsFaultDetail (fault.Start code context) given = given ≡ option_map detail.Component (failed_component code)
-IsFaultDetail other given = given ≡ None
+IsFaultDetail (fault.File name why) given = Says (name ++ codes ": " ++ reason_text why) given
+IsFaultDetail (fault.Server faulty) given = HasLine faulty given
+IsFaultDetail (fault.Descriptor context faulty) given = HasLine faulty given
+IsFaultDetail (fault.Users context faulty) given = HasLine faulty given
+IsFaultDetail (fault.Class name known) given = Says (codes "the program has " ++ known.now) given
+IsFaultDetail (fault.Files context found) given = Says (files_reason found) given
+IsFaultDetail (fault.Start code context) given = Says (start_reason code) given
+IsFaultDetail (fault.Socket found) given = Says (socket_reason found) given
+IsFaultDetail (fault.Script line) given = Says (codes "the line is malformed, or the container refuses what it requests") given
+IsFaultDetail (fault.User shown) given = Says (codes "the context has no user " ++ shown) given
+IsFaultDetail (fault.Method shown) given = Says (codes "a method is a token, unlike " ++ shown) given
+IsFaultDetail fault.Input given = given ≡ None
+IsFaultDetail fault.Output given = given ≡ None
+IsFaultDetail fault.NoMemory given = given ≡ None

@@ -4,6 +4,7 @@ pub mod FileLine
 pub mod Place
 pub mod Sentence
 pub mod Shown
+pub mod Unavailable
 pub mod Offending
 pub mod Arguments
 pub mod CommandFault

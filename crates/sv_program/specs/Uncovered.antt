@@ -10,7 +10,7 @@ use Rattle.sv_policy.specs.declared.gaps.Gap.{Gap}
 use Rattle.sv_descriptor.specs.declared.server.ContextEntry.{ContextEntry}
 use Rattle.sv_program.specs.Configuration.{Step, descriptor_in, each, server_in}
 use Rattle.sv_program.specs.ConfigurationFiles.{contexts_in, readings}
-use Rattle.sv_program.specs.FileStore.{AreRead, Giving}
+use Rattle.sv_program.specs.FileStore.{AreRead, FileText, Giving}
 use Rattle.sv_program.specs.Printed.{Printing}
 use Rattle.sv_program.specs.declared.configuration.ContextTexts.{ContextTexts}
 
@@ -51,7 +51,7 @@ uncovered_lines texts = do
   Ok (flat_map (λ line. line) lines)
 
 -- the lines for a server file with this text, if it could be read, and contexts with these texts
-abbrev pub lines_for : List ℕ → Option (List ℕ) → List ContextTexts → Step (List ℕ)
+abbrev pub lines_for : List ℕ → FileText → List ContextTexts → Step (List ℕ)
 lines_for config file texts = do
   server ← server_in config file
   uncovered_lines texts
@@ -63,7 +63,7 @@ without_users context = record { path = context.path; descriptor = context.descr
 -- the lines are those for the server file and the descriptors that the store gives; no other file is read
 abbrev pub AreLines : {S : Type 0} → Giving S → List ℕ → Printing S
 AreLines gives config lines before after =
-    (file : Option (List ℕ)) × (texts : List ContextTexts)
+    (file : FileText) × (texts : List ContextTexts)
     × (map (λ text. text.context) texts ≡ map without_users (contexts_in (server_in config file)))
     × AreRead gives before (readings config file texts) after
     × (lines ≡ lines_for config file texts)

@@ -5,12 +5,15 @@ ghost use Rattle.sv_program.specs.CommandFault.{fault_line, fault_text, key_text
 ghost use Rattle.sv_program.specs.FaultDetail.{IsFaultDetail};
 ghost use Rattle.sv_program.specs.FaultLine.{line_text, shown_text};
 
-use crate::detail::{Detail, failed_component};
+use crate::detail::{Detail, files_detail, socket_detail, start_detail};
 use crate::file_fault::FileFault;
+use crate::socket_fault::SocketFault;
+use crate::unavailable::Unavailable;
 use std::alloc::{AllocError, AllocFailed};
 use std::error::Error;
 use std::fmt;
 use sv_descriptor::DescriptorFault;
+use sv_files::FilesFault;
 use sv_journal::NewCode;
 use sv_text::{NoMemory, Text};
 use sv_uri::shown_context;
@@ -24,9 +27,9 @@ pub enum CommandFault {
     Input,
     /// Standard output could not be written: `sv: file stdout`, status 1. A part of the output may have been written.
     Output,
-    /// A configuration file is missing, could not be read or is not UTF-8: `sv: file NAME`, status 1. The name is the
-    /// one in the arguments or in the server file.
-    File(Text),
+    /// A file or a directory of this name is not available: `sv: file NAME`, status 1. The name is the one in the
+    /// arguments or in the server file, or `random` for the system's random source.
+    File(Text, Unavailable),
     /// The server file does not have the required format: `sv: server CODE KEY`, status 1.
     Server(FileFault),
     /// The deployment descriptor of the context does not have the required format: `sv: descriptor CONTEXT CODE KEY`,
@@ -45,13 +48,18 @@ pub enum CommandFault {
         fault: FileFault,
     },
     /// The program has no such class for a component of its kind: `sv: class NAME`, status 1.
-    Class(Text),
+    Class {
+        /// The class.
+        name: Text,
+        /// The classes that the program has.
+        known: &'static str,
+    },
     /// The files of the context are refused: `sv: files CONTEXT CODE`, status 1.
     Files {
         /// The context path.
         context: Text,
-        /// The number of the fault, from 1 to 4.
-        code: u8,
+        /// The reason.
+        fault: FilesFault,
     },
     /// The container does not start: `sv: start CODE CONTEXT`, status 1.
     Start {
@@ -61,16 +69,16 @@ pub enum CommandFault {
         context: Text,
     },
     /// A socket is not available, or failed: `sv: socket`, status 1.
-    Socket,
+    Socket(SocketFault),
     /// A line of a script is malformed, or requests something that the container refuses: `sv: script LINE`, status 2.
     Script {
         /// The number of the line, from 1.
         line: u64,
     },
-    /// The context has no user of this name: `sv: user`, status 2.
-    User,
-    /// The method is not a token: `sv: method`, status 2.
-    Method,
+    /// The context has no user of this name: `sv: user`, status 2. The name is a TOML basic string.
+    User(Text),
+    /// The text is not a method: `sv: method`, status 2. It is a TOML basic string.
+    Method(Text),
     /// Memory ran out: `sv: no memory`, status 3.
     NoMemory,
 }
@@ -83,47 +91,47 @@ impl CommandFault {
         match self {
             CommandFault::Input
             | CommandFault::Output
-            | CommandFault::File(_)
+            | CommandFault::File(_, _)
             | CommandFault::Server(_)
             | CommandFault::Descriptor { .. }
             | CommandFault::Users { .. }
-            | CommandFault::Class(_)
+            | CommandFault::Class { .. }
             | CommandFault::Files { .. }
             | CommandFault::Start { .. }
-            | CommandFault::Socket => 1,
-            CommandFault::Script { .. } | CommandFault::User | CommandFault::Method => 2,
+            | CommandFault::Socket(_) => 1,
+            CommandFault::Script { .. } | CommandFault::User(_) | CommandFault::Method(_) => 2,
             CommandFault::NoMemory => 3,
         }
     }
 }
 
 impl CommandFault {
-    /// Returns the second line on standard error, if there is one: where the fault of a configuration file is, or which
-    /// component did not start.
+    /// Returns the second line on standard error, which says why the first one is printed. Faults of standard streams
+    /// and of memory have none.
     pub fn detail(&self) -> Option<Detail<'_>>
         ensures { IsFaultDetail self.now result }
     {
         match self {
+            CommandFault::File(name, why) => Some(Detail::Named(name.as_str(), *why)),
             CommandFault::Server(fault) => Some(Detail::Line(fault.detail())),
             CommandFault::Descriptor { fault, .. } => Some(Detail::Line(fault.detail())),
             CommandFault::Users { fault, .. } => Some(Detail::Line(fault.detail())),
-            CommandFault::Start { code, .. } => match failed_component(*code) {
-                Some(place) => Some(Detail::Component(place)),
-                None => None,
-            },
+            CommandFault::Class { known, .. } => Some(Detail::Classes(known)),
+            CommandFault::Files { fault, .. } => Some(files_detail(*fault)),
+            CommandFault::Start { code, .. } => Some(start_detail(*code)),
+            CommandFault::Socket(fault) => Some(socket_detail(*fault)),
+            CommandFault::Script { .. } => Some(Detail::Sentence(SCRIPT_REASON)),
+            CommandFault::User(shown) => Some(Detail::User(shown.as_str())),
+            CommandFault::Method(shown) => Some(Detail::Method(shown.as_str())),
             CommandFault::Input => None,
             CommandFault::Output => None,
-            CommandFault::File(_) => None,
-            CommandFault::Class(_) => None,
-            CommandFault::Files { .. } => None,
-            CommandFault::Socket => None,
-            CommandFault::Script { .. } => None,
-            CommandFault::User => None,
-            CommandFault::Method => None,
             CommandFault::NoMemory => None,
         }
     }
 }
+
+/// Why a script ends at a line.
+const SCRIPT_REASON: &str = "the line is malformed, or the container refuses what it requests";
 
 impl fmt::Display for CommandFault {
     ghost output = { λ fault. Some (fault_line fault) };
@@ -141,7 +149,7 @@ impl CommandFault {
         match self {
             CommandFault::Input => plain("sv: file stdin"),
             CommandFault::Output => plain("sv: file stdout"),
-            CommandFault::File(name) => named("sv: file ", name.as_str()),
+            CommandFault::File(name, _) => named("sv: file ", name.as_str()),
             CommandFault::Server(fault) => Line {
                 front: "sv: server",
                 place: "",
@@ -157,11 +165,11 @@ impl CommandFault {
                 place: shown_context(context.as_str()),
                 end: LineEnd::Shown(numbered(fault.fault())),
             },
-            CommandFault::Class(name) => named("sv: class ", name.as_str()),
-            CommandFault::Files { context, code } => Line {
+            CommandFault::Class { name, .. } => named("sv: class ", name.as_str()),
+            CommandFault::Files { context, fault } => Line {
                 front: "sv: files ",
                 place: shown_context(context.as_str()),
-                end: LineEnd::Number(u64::from(*code)),
+                end: LineEnd::Number(u64::from(fault.number())),
             },
             CommandFault::Start { code, context } => Line {
                 front: "sv: start",
@@ -171,14 +179,14 @@ impl CommandFault {
                     key: shown_context(context.as_str()),
                 }),
             },
-            CommandFault::Socket => plain("sv: socket"),
+            CommandFault::Socket(_) => plain("sv: socket"),
             CommandFault::Script { line } => Line {
                 front: "sv: script",
                 place: "",
                 end: LineEnd::Number(*line),
             },
-            CommandFault::User => plain("sv: user"),
-            CommandFault::Method => plain("sv: method"),
+            CommandFault::User(_) => plain("sv: user"),
+            CommandFault::Method(_) => plain("sv: method"),
             CommandFault::NoMemory => plain("sv: no memory"),
         }
     }

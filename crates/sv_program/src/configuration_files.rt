@@ -7,7 +7,8 @@ ghost use Rattle.sv_program.specs.ConfigurationFiles.{ReadsContext, ReadsContext
 
 use crate::command_fault::CommandFault;
 use crate::configuration::{ContextTexts, server_in};
-use crate::disk::FileStore;
+use crate::disk::{FileStore, FileText};
+use crate::unavailable::Unavailable;
 use std::alloc::Global;
 use std::path::Path;
 use sv_descriptor::{ContextEntry, Server};
@@ -26,7 +27,7 @@ pub fn read_server_file<S: FileStore>(
     ensures well_formed { IfOk result IsWellFormedServer }
 {
     let text = store.read_text(alloc, config)?;
-    server_in(alloc, config, text.as_ref())
+    server_in(alloc, config, &text)
 }
 
 /// Reads the files of the contexts of the server file `config`, in order: the descriptor of each context, then its
@@ -63,18 +64,18 @@ fn read_context<S: FileStore>(
     })
 }
 
-/// Reads the file of this name, if there is a name.
+/// Reads the file of this name. Without a name no file is read, and none is available.
 fn read_named<S: FileStore>(
     alloc: Global,
     store: &mut S,
     config: &str,
     name: &Option<Text>,
-) -> Result<Option<Text>, NoMemory>
+) -> Result<FileText, NoMemory>
     ensures { IfOk result (λ text. ReadsNamed S.gives_text config.now name.now store.old text store.new) }
 {
     match name {
         Some(name) => read_beside(alloc, store, config, name.as_str()),
-        None => Ok(None),
+        None => Ok(Err(Unavailable::Missing)),
     }
 }
 
@@ -84,7 +85,7 @@ fn read_beside<S: FileStore>(
     store: &mut S,
     config: &str,
     name: &str,
-) -> Result<Option<Text>, NoMemory>
+) -> Result<FileText, NoMemory>
     ensures { IfOk result (λ text. S.gives_text store.old (path_with_file_name config.now name.now) text store.new) }
 {
     let path = Path::new(config).with_file_name(alloc, name)?;

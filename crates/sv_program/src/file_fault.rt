@@ -5,23 +5,25 @@ use std::alloc::Global;
 use std::marker::Model;
 use sv_descriptor::{DescriptorFault, LocatedFault};
 use sv_text::{NoMemory, Text};
+use sv_wire::{History, Piece};
 
-/// The fault of a configuration file. Contracts see the name of the file and the fault.
+/// The fault of a configuration file. Contracts see the name and the text of the file, and the fault with its place.
 #[derive(Drop)]
 pub struct FileFault {
     file: Text,
-    fault: DescriptorFault,
+    found: LocatedFault,
     detail: Text,
+    text: History,
 }
 
 impl Model for FileFault {
-    ghost use Rattle.sv_program.specs.Detail.{IsDetail, NamedFault};
+    ghost use Rattle.sv_program.specs.Detail.{FaultInFile, IsDetail};
 
-    ghost Value = { NamedFault };
+    ghost Value = { FaultInFile };
 
-    ghost view = { λ found. record { file = found.file; fault = found.fault } };
+    ghost view = { λ faulty. record { file = faulty.file; text = faulty.text.bytes; found = faulty.found } };
 
-    ghost invariant = { λ found. IsDetail (record { file = found.file; fault = found.fault }) found.detail };
+    ghost invariant = { λ faulty. IsDetail (record { file = faulty.file; text = faulty.text.bytes; found = faulty.found }) faulty.detail };
 }
 
 impl FileFault {
@@ -36,23 +38,26 @@ impl FileFault {
         text: &str,
         found: LocatedFault,
     ) -> Result<FileFault, NoMemory>
-        ensures { GivesAnswer result (record { file = file.now; fault = found.fault }) }
+        ensures { GivesAnswer result (record { file = file.now; text = text.now; found = found }) }
     {
         let detail = detail_line(alloc, file, text, &found)?;
         let file = Text::copy_of(alloc, file)?;
-        let LocatedFault { fault, .. } = found;
+        let text = History::new().and(&Piece {
+            bytes: text.as_bytes(),
+        });
         Ok(FileFault {
             file,
-            fault,
+            found,
             detail,
+            text,
         })
     }
 
     /// Returns the fault.
     pub fn fault(&self) -> &DescriptorFault
-        ensures { result.now ≡ self.now.fault }
+        ensures { result.now ≡ self.now.found.fault }
     {
-        &self.fault
+        &self.found.fault
     }
 
     /// Returns the line that says where the fault is, without its line feed: `  FILE:LINE: PROBLEM: VALUE`. The number

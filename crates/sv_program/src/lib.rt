@@ -17,20 +17,25 @@ mod offending_value;
 mod output;
 mod place;
 mod sentence;
+mod socket_fault;
 mod toml_value;
+mod unavailable;
 mod uncovered_command;
 
 pub use command_fault::CommandFault;
 pub use configuration::{ContextTexts, descriptor_in, realm_in, server_in};
 pub use configuration_files::{read_contexts, read_server_file};
 pub use detail::Detail;
-pub use disk::{Disk, FileStore};
+pub use disk::{Disk, FileStore, FileText};
 pub use file_fault::FileFault;
 pub use first_command::{denies_uncovered, first, first_line};
 pub use limits::{
-    MAX_INPUT_BYTES, MAX_LOCATED_BYTES, MAX_SHOWN_CHARACTERS, limits_are_as_stated,
+    MAX_FILE_BYTES, MAX_INPUT_BYTES, MAX_LOCATED_BYTES, MAX_SHOWN_CHARACTERS, limits_are_as_stated,
     limits_of_the_second_line,
 };
 pub use output::{print_line, print_text};
+pub use socket_fault::SocketFault;
 pub use sv_constraints::{OwnedDecision, OwnedWhy};
+pub use toml_value::quoted;
+pub use unavailable::Unavailable;
 pub use uncovered_command::{gap_lines, uncovered, uncovered_lines};

@@ -5,6 +5,9 @@ ghost use Rattle.std.specs.Prelude.{◌≡◌};
 /// Maximum number of bytes that the command `first` reads: the limit of a request's head.
 pub const MAX_INPUT_BYTES: u64 = 65_536;
 
+/// Maximum number of bytes of a configuration file: 128 MiB.
+pub const MAX_FILE_BYTES: u64 = 134_217_728;
+
 /// Maximum number of characters shown of a text.
 pub const MAX_SHOWN_CHARACTERS: usize = 80;
 
@@ -14,6 +17,7 @@ pub const MAX_LOCATED_BYTES: usize = 65_536;
 /// The limits of this crate as numbers.
 pub fn limits_are_as_stated()
     ensures input { MAX_INPUT_BYTES ≡ 65536 }
+    ensures file { MAX_FILE_BYTES ≡ 134217728 }
 {}
 
 /// At most 80 characters of a text are shown. The line of a fault is searched for in files of at most 64 KiB.

@@ -38,7 +38,7 @@ fn truth_text(alloc: Global, holds: bool) -> Result<Text, NoMemory>
 }
 
 /// Returns a text as a basic string, cut after its first [`MAX_SHOWN_CHARACTERS`] characters.
-pub(crate) fn quoted(alloc: Global, text: &str) -> Result<Text, NoMemory>
+pub fn quoted(alloc: Global, text: &str) -> Result<Text, NoMemory>
     ensures { GivesAnswer result (spec.quoted text.now) }
 {
     let characters = characters(alloc, text)?;
