@@ -1,6 +1,6 @@
 -- The command `policy`: explains what a server would do with a request.
 use Rattle.std.specs.Prelude.{◌≡◌, ℕ, List, [], ◌∷◌, ◌++◌, Option, Result, Ok, Err}
-use Rattle.std.specs.Option.{option_copied}
+use Rattle.std.specs.Option.{option_copied, unwrap_or}
 use Rattle.sv_deployments.specs.declared.program_filter.ProgramFilter.{ProgramFilter}
 use Rattle.sv_deployments.specs.declared.program_listener.ProgramListener.{ProgramListener}
 use Rattle.sv_deployments.specs.declared.program_servlet.ProgramServlet.{ProgramServlet}
@@ -19,6 +19,7 @@ use Rattle.sv.specs.declared.question.Question.{Question}
 use Rattle.sv_program.specs.CommandFault.{UnlessNoMemory}
 use Rattle.sv_program.specs.Configuration.{Step}
 use Rattle.sv_program.specs.FileStore.{Giving}
+use Rattle.sv_program.specs.Shown.{quoted}
 use Rattle.sv_program.specs.declared.command_fault.CommandFault.{CommandFault}
 use Rattle.sv_program.specs.declared.command_fault.CommandFault.TheVariants as fault
 use Rattle.sv_container.specs.SeededStart.{StartsWith}
@@ -26,20 +27,20 @@ use Rattle.sv_run.specs.declared.seeded_words.SeededWords.{SeededWords}
 use Rattle.sv.specs.Printed.{Shows}
 
 -- the command's fault if there is no explanation
-abbrev pub fault_of : ExplainFault → CommandFault
-fault_of explain.BadMethod = fault.Method
-fault_of explain.NoSuchUser = fault.User
-fault_of explain.NoMemory = fault.NoMemory
+abbrev pub fault_of : Question → ExplainFault → CommandFault
+fault_of question explain.BadMethod = fault.Method (quoted question.method.now)
+fault_of question explain.NoSuchUser = fault.User (quoted (unwrap_or (option_copied question.user) []))
+fault_of question explain.NoMemory = fault.NoMemory
 
 -- the line of an explanation
-abbrev pub line_of : explained.Answer → Step (List ℕ)
-line_of (Ok explanation) = Ok (explanation_text explanation ++ 10 ∷ [])
-line_of (Err found) = Err (fault_of found)
+abbrev pub line_of : Question → explained.Answer → Step (List ℕ)
+line_of question (Ok explanation) = Ok (explanation_text explanation ++ 10 ∷ [])
+line_of question (Err found) = Err (fault_of question found)
 
 -- the line for these deployments
 abbrev pub policy_line : List ProgramDeployment → Question → Step (List ℕ)
 policy_line deployments question =
-    line_of (explained.explanation (policies_of deployments) question.method.now question.target.now (option_copied question.user))
+    line_of question (explained.explanation (policies_of deployments) question.method.now question.target.now (option_copied question.user))
 
 -- the line is written, or its fault is the result
 abbrev pub Ends : Step (List ℕ) → Result (Unit {0}) CommandFault → Option (List ℕ) → Option (List ℕ) → Type 0

@@ -1,12 +1,13 @@
 //! The command `policy`: explains what a server would do with a request.
 
 ghost use Rattle.sv_component.specs.Steps.{steps_of};
-ghost use Rattle.std.specs.Prelude.{◌≡◌, ◌≢◌, [], ◌∷◌, ◌++◌, IfErr};
+ghost use Rattle.std.specs.Prelude.{◌≡◌, ◌≢◌, Err, [], ◌∷◌, ◌++◌, IfErr};
 ghost use Rattle.std.specs.Option.{option_copied};
 ghost use Rattle.sv_container.specs.Container.{state_of};
 ghost use Rattle.sv_container.specs.Explaining.{explanation_of};
 ghost use Rattle.sv_policy.specs.Text.{explanation_text};
-ghost use Rattle.sv_program.specs.CommandFault.{UnlessNoMemory};
+ghost use Rattle.sv_program.specs.CommandFault.{UnlessNoMemory, command_fault};
+ghost use Rattle.sv_text.specs.Gives.{Gives};
 ghost use Rattle.sv.specs.Policy as spec;
 ghost use Rattle.sv.specs.Printed.{Shows};
 
@@ -20,7 +21,7 @@ use sv_container::{
 use sv_deployments::{
     Configuration, FolderStore, ProgramFilter, ProgramListener, ProgramServlet, read_deployments,
 };
-use sv_program::{CommandFault, FileStore, print_line};
+use sv_program::{CommandFault, FileStore, print_line, quoted};
 
 /// Reads the server file of the question and all files that it names, and starts a container with them. Asks the
 /// container what would happen to the request, shuts it down, and writes the line of the explanation.
@@ -61,7 +62,7 @@ fn answer<S: Servlet, F: Filter, L: Listener, D: Drop, W: Write>(
     writer: &mut W,
     question: &Question<'_>,
 ) -> Result<(), CommandFault>
-    ensures answers { UnlessNoMemory result (spec.Ends (spec.line_of (explanation_of (state_of container).world.contexts
+    ensures answers { UnlessNoMemory result (spec.Ends (spec.line_of question.now (explanation_of (state_of container).world.contexts
         question.now.method.now question.now.target.now (option_copied question.now.user)))
         result (W.contents writer.old) (W.contents writer.new)) }
     ensures untouched { IfErr result (λ fault. fault ≢ CommandFault.Output → writer.new ≡ writer.old) }
@@ -70,7 +71,7 @@ fn answer<S: Servlet, F: Filter, L: Listener, D: Drop, W: Write>(
     container.shutdown().let_go();
     match explained {
         Ok(explanation) => print_explanation(alloc, &explanation, writer),
-        Err(fault) => Err(fault_of(fault)),
+        Err(fault) => refused(alloc, question, fault),
     }
 }
 
@@ -86,12 +87,20 @@ fn print_explanation<W: Write>(
     print_line(writer, line.as_str())
 }
 
-fn fault_of(fault: ExplainFault) -> CommandFault
-    ensures { result ≡ spec.fault_of fault }
+// Returns the fault for a question that has no explanation.
+fn refused(
+    alloc: Global,
+    question: &Question<'_>,
+    fault: ExplainFault,
+) -> Result<(), CommandFault>
+    ensures { Gives command_fault result (Err (spec.fault_of question.now fault)) }
 {
     match fault {
-        ExplainFault::BadMethod => CommandFault::Method,
-        ExplainFault::NoSuchUser => CommandFault::User,
-        ExplainFault::NoMemory => CommandFault::NoMemory,
+        ExplainFault::BadMethod => Err(CommandFault::Method(quoted(alloc, question.method)?)),
+        ExplainFault::NoSuchUser => {
+            let name = question.user.unwrap_or("");
+            Err(CommandFault::User(quoted(alloc, name)?))
+        }
+        ExplainFault::NoMemory => Err(CommandFault::NoMemory),
     }
 }

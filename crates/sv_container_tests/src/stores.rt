@@ -1,9 +1,9 @@
 //! A store of files and folders in memory.
 
 use std::alloc::Global;
-use sv_deployments::FolderStore;
+use sv_deployments::{FolderFiles, FolderStore};
 use sv_files::File;
-use sv_program::FileStore;
+use sv_program::{FileStore, FileText, Unavailable};
 use sv_text::{Bytes, Listed, NoMemory, Text};
 
 /// The store of a server with a root context and the context `/two`.
@@ -50,23 +50,23 @@ impl Store<'_> {
 }
 
 impl FileStore for Store<'_> {
-    fn read_text(&mut self, alloc: Global, name: &str) -> Result<Option<Text>, NoMemory> {
+    fn read_text(&mut self, alloc: Global, name: &str) -> Result<FileText, NoMemory> {
         if !self.note(name)? {
-            return Ok(None);
+            return Ok(Err(Unavailable::Missing));
         }
         match name {
-            "in/server.toml" => Ok(Some(Text::copy_of(alloc, SERVER)?)),
-            "in/users.toml" => Ok(Some(Text::copy_of(alloc, USERS)?)),
-            "in/root.toml" | "in/two.toml" => Ok(Some(Text::copy_of(alloc, DESCRIPTOR)?)),
-            _ => Ok(None),
+            "in/server.toml" => Ok(Ok(Text::copy_of(alloc, SERVER)?)),
+            "in/users.toml" => Ok(Ok(Text::copy_of(alloc, USERS)?)),
+            "in/root.toml" | "in/two.toml" => Ok(Ok(Text::copy_of(alloc, DESCRIPTOR)?)),
+            _ => Ok(Err(Unavailable::Missing)),
         }
     }
 }
 
 impl FolderStore for Store<'_> {
-    fn read_files(&mut self, alloc: Global, name: &str) -> Result<Option<Listed<File>>, NoMemory> {
+    fn read_files(&mut self, alloc: Global, name: &str) -> Result<FolderFiles, NoMemory> {
         if !self.note(name)? {
-            return Ok(None);
+            return Ok(Err(Unavailable::Missing));
         }
         let mut files = Vec::new(alloc);
         for path in self.files.split(' ') {
@@ -75,6 +75,6 @@ impl FolderStore for Store<'_> {
                 bytes: Bytes::copy_of(alloc, path.as_bytes())?,
             })?;
         }
-        Ok(Some(Listed::from_vec(files)))
+        Ok(Ok(Listed::from_vec(files)))
     }
 }

@@ -4,7 +4,7 @@ use Rattle.sv_descriptor.specs.declared.server.Server.{Server}
 use Rattle.sv_program.specs.CommandFault.{command_fault}
 use Rattle.sv_program.specs.Configuration.{Step, each, server_in}
 use Rattle.sv_program.specs.ConfigurationFiles.{ReadsContexts, ReadsServer}
-use Rattle.sv_program.specs.FileStore.{Giving}
+use Rattle.sv_program.specs.FileStore.{FileText, Giving}
 use Rattle.sv_program.specs.declared.command_fault.CommandFault.{CommandFault}
 use Rattle.sv_program.specs.declared.configuration.ContextTexts.{ContextTexts}
 use Rattle.sv_deployments.specs.Configuration.{AreGiven, Configured, FindsConfiguration, IsConfiguration, configured}
@@ -26,7 +26,7 @@ module _ {S : Type 0} (gives_text : Giving S) (gives_files : FolderGiving S) (co
   without_server fault (Err e) before after read same = rw same (at (command_fault fault) read)
     where
       at : (seen : Option CommandFault)
-          → MatchOption seen (Unit {0}) (λ _. (file : Option (List ℕ)) × gives_text before config file after × MatchOption seen (Unit {0}) (λ f. server_in config file ≡ Err f))
+          → MatchOption seen (Unit {0}) (λ _. (file : FileText) × gives_text before config file after × MatchOption seen (Unit {0}) (λ f. server_in config file ≡ Err f))
           → MatchOption seen (Unit {0}) (λ _. (configuration : Step Configured) × IsConfiguration gives_text gives_files config configuration before after × MatchOption seen (Unit {0}) (λ f. configuration ≡ Err f))
       at None h = tt
       at (Some f) h =
@@ -34,7 +34,7 @@ module _ {S : Type 0} (gives_text : Giving S) (gives_files : FolderGiving S) (co
           (Err f, (h.0, [], (after, rw failed refl, (after, h.1, refl), refl), rw failed refl), refl)
 
   -- the files were read in order
-  are_given : (file : Option (List ℕ)) (server : Server) (texts : List ContextTexts) (found : List FoundContext) (a b c d : S)
+  are_given : (file : FileText) (server : Server) (texts : List ContextTexts) (found : List FoundContext) (a b c d : S)
       → gives_text a config file b → server_in config file ≡ Ok server
       → ReadsContexts gives_text config server.contexts b texts c → ReadsFolders gives_files config texts c found d
       → AreGiven gives_text gives_files config file found a d

@@ -1,13 +1,13 @@
 -- The deployment of a context, from its readings in order.
-use Rattle.std.proofs.Common.{◌≡◌, List, Option, Ok, Err, refl}
+use Rattle.std.proofs.Common.{◌≡◌, List, Ok, Err, refl}
 use Rattle.sv_text.specs.Steps.{◌>>=◌}
 use Rattle.sv_deployments.specs.Results.{both}
-use Rattle.sv_files.specs.declared.files.File.{File}
 use Rattle.sv_program.specs.Configuration.{Step, descriptor_in, users_in}
 use Rattle.sv_program.specs.declared.command_fault.CommandFault.{CommandFault}
 use Rattle.sv_program.specs.declared.configuration.ContextTexts.{ContextTexts}
 use Rattle.sv_deployments.specs.Deployments.{components_in, deployment_for, read_of}
 use Rattle.sv_deployments.specs.Files.{files_in}
+use Rattle.sv_deployments.specs.Folders.{FolderFiles}
 
 in_turn : {A B C D : Type 0} (one : Step A) (other : Step B) (last : Step C) (next : A → B → C → Step D)
     → (one >>= λ a. other >>= λ b. last >>= λ c. next a b c) ≡ (both (both one other) last >>= λ read. next read.0.0 read.0.1 read.1)
@@ -17,7 +17,7 @@ in_turn (Ok a) (Err fault) last next = refl
 in_turn (Err fault) other last next = refl
 
 -- the deployment consists of the readings and the components made from them
-pub as_read : (texts : ContextTexts) (found : Option (List File))
+pub as_read : (texts : ContextTexts) (found : FolderFiles)
     → deployment_for texts found ≡ (read_of texts found >>= λ read. components_in read.0.0 >>= λ parts.
     Ok (record { path = texts.context.path; descriptor = read.0.0; files = read.1; users = read.0.1; parts = parts }))
 as_read texts found =

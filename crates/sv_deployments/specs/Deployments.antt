@@ -1,5 +1,5 @@
 -- The deployments of a server's contexts.
-use Rattle.std.specs.Prelude.{ℕ, List, map, Option, Ok, Err}
+use Rattle.std.specs.Prelude.{ℕ, List, map, Ok, Err}
 use Rattle.sv_text.specs.Steps.{◌>>=◌}
 use Rattle.sv_deployments.specs.Parts.{Components, Made, components, components_of}
 use Rattle.sv_deployments.specs.Results.{both}
@@ -14,6 +14,8 @@ use Rattle.sv_program.specs.Configuration.{Step, descriptor_in, users_in}
 use Rattle.sv_program.specs.declared.command_fault.CommandFault.TheVariants as fault
 use Rattle.sv_program.specs.declared.configuration.ContextTexts.{ContextTexts}
 use Rattle.sv_deployments.specs.Files.{files_in}
+use Rattle.sv_deployments.specs.Folders.{FolderFiles}
+use Rattle.sv_deployments.specs.declared.class_fault.TheConstants.{CLASSES}
 use Rattle.sv_deployments.specs.declared.folders.FoundContext.{FoundContext}
 
 -- the deployment of a context, with its components as lists
@@ -42,18 +44,18 @@ deployments = map deployment
 -- the components, or the fault of a class that the program does not have
 abbrev pub known : Made Components → Step Components
 known (Ok made) = Ok made
-known (Err class) = Err (fault.Class class)
+known (Err class) = Err (fault.Class class CLASSES)
 
 abbrev pub components_in : WebApp → Step Components
 components_in app = known (components_of app)
 
 -- the descriptor, users and files of a context, or the first fault among them
-abbrev pub read_of : ContextTexts → Option (List File) → Step ((WebApp × List User) × List File)
+abbrev pub read_of : ContextTexts → FolderFiles → Step ((WebApp × List User) × List File)
 read_of texts found = both (both (descriptor_in texts) (users_in texts)) (files_in texts.context found)
 
 -- the deployment of a context with these texts and files; faults are found in the order descriptor, users, files and
 -- classes
-abbrev pub deployment_for : ContextTexts → Option (List File) → Step Deployed
+abbrev pub deployment_for : ContextTexts → FolderFiles → Step Deployed
 deployment_for texts found = do
   its_descriptor ← descriptor_in texts
   its_users ← users_in texts

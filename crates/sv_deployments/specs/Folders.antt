@@ -1,18 +1,23 @@
 -- The folders of a server's static files, in the order of their readings.
-use Rattle.std.specs.Prelude.{◌≡◌, ℕ, List, [], ◌∷◌, map, flat_map, Option}
+use Rattle.std.specs.Prelude.{◌≡◌, ℕ, List, [], ◌∷◌, map, flat_map, Result}
 use Rattle.std.specs.Path.{path_with_file_name}
 use Rattle.sv_files.specs.declared.files.File.{File}
 use Rattle.sv_program.specs.declared.configuration.ContextTexts.{ContextTexts}
+use Rattle.sv_program.specs.declared.unavailable.Unavailable.{Unavailable}
 use Rattle.sv_deployments.specs.declared.folders.FoundContext.{FoundContext}
 
--- the requested name, and the files of the folder, if they were available
+-- the files of a folder, or why it is not available
+abbrev pub FolderFiles : Type 0
+FolderFiles = Result (List File) Unavailable
+
+-- the requested name, and what a reading of the folder gave
 pub record FolderReading : Type 0 where
   pub name : List ℕ
-  pub files : Option (List File)
+  pub files : FolderFiles
 
 -- the model of a reading in stores of this type: the store before it, the name, the files, and the store after it
 abbrev pub FolderGiving : Type 0 → Type 1
-FolderGiving S = S → List ℕ → Option (List File) → S → Type 0
+FolderGiving S = S → List ℕ → FolderFiles → S → Type 0
 
 -- the store gives these readings in order, each for its name, and is then in this state
 abbrev pub AreFound : {S : Type 0} → FolderGiving S → S → List FolderReading → S → Type 0
@@ -21,7 +26,7 @@ AreFound {S} gives before (reading ∷ rest) after = (between : S) × gives befo
 
 -- the reading of a folder that the server file names; the name replaces the last segment of the server file's name,
 -- unless it begins with a slash; an empty name gives no reading
-abbrev pub folder_readings : List ℕ → List ℕ → Option (List File) → List FolderReading
+abbrev pub folder_readings : List ℕ → List ℕ → FolderFiles → List FolderReading
 folder_readings config [] files = []
 folder_readings config (first ∷ rest) files = record { name = path_with_file_name config (first ∷ rest); files = files } ∷ []
 
@@ -29,7 +34,7 @@ abbrev pub context_readings : List ℕ → FoundContext → List FolderReading
 context_readings config found = folder_readings config found.texts.context.files found.files
 
 -- the folder is read if it has a name
-abbrev pub ReadsFolder : {S : Type 0} → FolderGiving S → List ℕ → List ℕ → S → Option (List File) → S → Type 0
+abbrev pub ReadsFolder : {S : Type 0} → FolderGiving S → List ℕ → List ℕ → S → FolderFiles → S → Type 0
 ReadsFolder gives config name before files after = AreFound gives before (folder_readings config name files) after
 
 -- the folders of the contexts are read

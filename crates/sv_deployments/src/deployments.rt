@@ -9,9 +9,9 @@ ghost use Rattle.sv_program.specs.CommandFault.{command_fault};
 ghost use Rattle.sv_program.specs.Configuration.{each};
 ghost use Rattle.sv_text.specs.Gives.{Gives};
 
-use crate::class_fault::ClassFault;
+use crate::class_fault::{CLASSES, ClassFault};
 use crate::files::files_of;
-use crate::folders::FoundContext;
+use crate::folders::{FolderFiles, FoundContext};
 use crate::parts::parts_of;
 use crate::program_filter::ProgramFilter;
 use crate::program_listener::ProgramListener;
@@ -57,7 +57,7 @@ fn deployment_in(alloc: Global, context: FoundContext) -> Result<ProgramDeployme
 fn deployment_for(
     alloc: Global,
     texts: &ContextTexts,
-    files: Option<Listed<File>>,
+    files: FolderFiles,
 ) -> Result<ProgramDeployment, CommandFault>
     ensures { Gives command_fault (seen spec.deployment result) (spec.deployment_for texts.now files) }
 {
@@ -79,7 +79,7 @@ fn deployment_for(
 fn read(
     alloc: Global,
     texts: &ContextTexts,
-    files: Option<Listed<File>>,
+    files: FolderFiles,
 ) -> Result<((Descriptor, Realm), Files), CommandFault>
     ensures { Gives command_fault result (spec.read_of texts.now files) }
 {
@@ -91,7 +91,7 @@ fn read(
 fn files_in(
     alloc: Global,
     context: &ContextEntry,
-    files: Option<Listed<File>>,
+    files: FolderFiles,
 ) -> Result<Files, CommandFault>
     ensures { Gives command_fault result (files_in context.now files) }
 {
@@ -103,7 +103,7 @@ fn files_in(
 fn listed_files(
     alloc: Global,
     name: &str,
-    files: Option<Listed<File>>,
+    files: FolderFiles,
 ) -> Result<Listed<File>, CommandFault>
     ensures { Gives command_fault result (listed_files name.now files) }
 {
@@ -111,8 +111,8 @@ fn listed_files(
         return Ok(Listed::from_vec(Vec::new(alloc)));
     }
     match files {
-        Some(files) => Ok(files),
-        None => Err(CommandFault::File(Text::copy_of(alloc, name)?)),
+        Ok(files) => Ok(files),
+        Err(why) => Err(CommandFault::File(Text::copy_of(alloc, name)?, why)),
     }
 }
 
@@ -125,7 +125,10 @@ fn parts_in(
 {
     match parts_of(alloc, descriptor) {
         Ok(parts) => Ok(parts),
-        Err(ClassFault::UnknownClass(class)) => Err(CommandFault::Class(class)),
+        Err(ClassFault::UnknownClass(name)) => Err(CommandFault::Class {
+            name,
+            known: CLASSES,
+        }),
         Err(ClassFault::NoMemory) => Err(CommandFault::NoMemory),
     }
 }

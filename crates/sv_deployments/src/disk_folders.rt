@@ -1,20 +1,20 @@
 //! The folders of the operating system. No contract describes their contents, only how much of them is read.
 
-ghost use Rattle.std.specs.Prelude.{◌≡◌, ◌+◌, ◌≤◌, IfOk, IfSome, length, nat_lt};
+ghost use Rattle.std.specs.Prelude.{◌≡◌, ◌+◌, ◌≤◌, IfOk, length, nat_lt};
 ghost use Rattle.sv_files.specs.declared.files.TheConstants.{MAX_FILES};
 
-use crate::folders::FolderStore;
+use crate::folders::{FolderFiles, FolderStore};
 use std::alloc::Global;
 use std::fs::{DirEntry, read_dir};
 use std::io::{ErrorKind, Read};
 use std::rt::Files;
 use std::{fs, io};
 use sv_files::{File, MAX_FILE_BYTES, MAX_FILES};
-use sv_program::Disk;
+use sv_program::{Disk, Unavailable};
 use sv_text::{Bytes, Listed, NoMemory, Text};
 
 impl<F: Files + AllocGlobal + Clone + Drop> FolderStore for Disk<'_, F> {
-    fn read_files(&mut self, alloc: Global, name: &str) -> Result<Option<Listed<File>>, NoMemory> {
+    fn read_files(&mut self, alloc: Global, name: &str) -> Result<FolderFiles, NoMemory> {
         read_folder(alloc, self.handle(), name)
     }
 }
@@ -24,8 +24,8 @@ fn read_folder<F: Files + AllocGlobal + Clone + Drop>(
     alloc: Global,
     files: &F,
     name: &str,
-) -> Result<Option<Listed<File>>, NoMemory>
-    ensures { IfOk result (λ found. IfSome found (λ list. length list ≤ MAX_FILES + 1)) }
+) -> Result<FolderFiles, NoMemory>
+    ensures { IfOk result (λ found. IfOk found (λ list. length list ≤ MAX_FILES + 1)) }
 {
     let mut walk = Walk {
         folder: name,
@@ -33,9 +33,9 @@ fn read_folder<F: Files + AllocGlobal + Clone + Drop>(
         files: Vec::new(alloc),
     };
     match walk.read_all(alloc, files) {
-        Ok(()) => Ok(Some(Listed::from_vec(walk.files))),
+        Ok(()) => Ok(Ok(Listed::from_vec(walk.files))),
         Err(error) if error.kind() == ErrorKind::OutOfMemory => Err(NoMemory),
-        Err(_) => Ok(None),
+        Err(error) => Ok(Err(Unavailable::of(error.kind()))),
     }
 }
 

@@ -34,6 +34,6 @@ fn refused<T>(alloc: Global, path: &str, fault: FilesFault) -> Result<T, Command
     }
     Err(CommandFault::Files {
         context: Text::copy_of(alloc, path)?,
-        code: fault as u8,
+        fault,
     })
 }

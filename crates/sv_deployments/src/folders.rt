@@ -6,7 +6,7 @@ ghost use Rattle.sv_deployments.specs.Folders.{ReadsFolder, ReadsFolders};
 use std::alloc::Global;
 use std::path::Path;
 use sv_files::File;
-use sv_program::ContextTexts;
+use sv_program::{ContextTexts, Unavailable};
 use sv_text::{Listed, NoMemory};
 
 /// A context of a server file, with everything that the store gave for it.
@@ -14,8 +14,8 @@ use sv_text::{Listed, NoMemory};
 pub(crate) struct FoundContext {
     /// The context and the texts of its files.
     pub(crate) texts: ContextTexts,
-    /// Its static files, or none if their folder is not available. They are ignored if the context names no folder.
-    pub(crate) files: Option<Listed<File>>,
+    /// Its static files, or why their folder is not available. They are ignored if the context names no folder.
+    pub(crate) files: FolderFiles,
 }
 
 /// Reads the folder of each context of the server file `config` that names one, in order.
@@ -36,36 +36,40 @@ pub(crate) fn read_folders<S: FolderStore>(
 }
 
 // Reads a folder that the server file `config` names. The name is relative to the folder of the server file. An empty
-// name means no folder.
+// name means no folder, and none is available.
 fn read_folder<S: FolderStore>(
     alloc: Global,
     store: &mut S,
     config: &str,
     name: &str,
-) -> Result<Option<Listed<File>>, NoMemory>
+) -> Result<FolderFiles, NoMemory>
     ensures { IfOk result (λ files. ReadsFolder S.gives_files config.now name.now store.old files store.new) }
 {
     if name.is_empty() {
-        return Ok(None);
+        return Ok(Err(Unavailable::Missing));
     }
     let path = Path::new(config).with_file_name(alloc, name)?;
     store.read_files(alloc, path.as_str())
 }
 
+/// The files of a folder, or why it is not available.
+pub type FolderFiles = Result<Listed<File>, Unavailable>;
+
 /// Reads folders of static files by name. A folder may have different files at each reading.
 pub trait FolderStore {
-    ghost use Rattle.std.specs.Prelude.{ℕ, List, Option, IfOk};
+    ghost use Rattle.std.specs.Prelude.{ℕ, List, Result, IfOk};
+    ghost use Rattle.sv_program.specs.declared.unavailable.Unavailable.{Unavailable};
     ghost use Rattle.sv_files.specs.declared.files.File.{File};
 
-    /// The model of a reading: the store before it, the requested name, the files, if the folder is available, and the
-    /// store after it. By default a reading may give anything.
-    ghost gives_files: { Self → List ℕ → Option (List File) → Self → Type 0 } = { λ _ _ _ _. Unit {0} };
+    /// The model of a reading: the store before it, the requested name, the files or why the folder is not
+    /// available, and the store after it. By default a reading may give anything.
+    ghost gives_files: { Self → List ℕ → Result (List File) Unavailable → Self → Type 0 } = { λ _ _ _ _. Unit {0} };
 
     /// Returns the regular files in the folder of this name and in the folders below it. The path of each file is
-    /// relative to the folder and begins with `/`. Returns none if one of the folders cannot be read, or if an entry is
-    /// neither a regular file nor a folder, or has a name that is not UTF-8. A file of more than
+    /// relative to the folder and begins with `/`. Returns why, if one of the folders or files cannot be
+    /// read, or if an entry is neither a regular file nor a folder, or has a name that is not UTF-8. A file of more than
     /// [`MAX_FILE_BYTES`](sv_files::MAX_FILE_BYTES) bytes may be cut after one byte more, and a list of more than
     /// [`MAX_FILES`](sv_files::MAX_FILES) files after one file more.
-    fn read_files(&mut self, alloc: Global, name: &str) -> Result<Option<Listed<File>>, NoMemory>
+    fn read_files(&mut self, alloc: Global, name: &str) -> Result<FolderFiles, NoMemory>
         ensures { IfOk result (λ files. gives_files self.old name.now files self.new) };
 }

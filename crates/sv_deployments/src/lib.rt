@@ -33,13 +33,13 @@ mod who;
 
 pub use bad::Bad;
 pub use bye::Bye;
-pub use class_fault::ClassFault;
+pub use class_fault::{CLASSES, ClassFault};
 pub use configuration::{Configuration, read_deployments};
 pub use deployments::{ProgramDeployment, both};
 pub use error::ErrorCode;
 pub use fail::Fail;
 pub use files::files_of;
-pub use folders::FolderStore;
+pub use folders::{FolderFiles, FolderStore};
 pub use go::Go;
 pub use gone::Gone;
 pub use halt::Halt;

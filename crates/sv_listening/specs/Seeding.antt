@@ -8,7 +8,7 @@ use Rattle.sv_listening.specs.declared.seed.TheConstants.{RANDOM_SOURCE}
 
 -- The system's random source failed, or memory ran out.
 abbrev pub IsRandomFault : CommandFault → Type 0
-IsRandomFault (File name) = name ≡ RANDOM_SOURCE.now
+IsRandomFault (File name why) = name ≡ RANDOM_SOURCE.now
 IsRandomFault NoMemory = Unit {0}
 IsRandomFault other = ⊥
 

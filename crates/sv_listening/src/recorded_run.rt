@@ -31,8 +31,9 @@ pub fn run_recorded<H: Net + Clock + Files + Eprint, W: Write, R: EventHandler +
     name: &str,
     handler: R,
 ) -> (Result<(), CommandFault>, R) {
-    let Ok(file) = open_to_append(host, name) else {
-        return (Err(file_fault(alloc, name)), handler);
+    let file = match open_to_append(host, name) {
+        Ok(file) => file,
+        Err(error) => return (Err(file_fault(alloc, name, error)), handler),
     };
     let record = Record::new(alloc, WriteSink::new(file), StandardError { host });
     let recorder = Recorder::new(handler, record);

@@ -5,7 +5,7 @@ ghost use Rattle.sv_listening.specs.Seeding.{GivesSeed, HasSeedLength, IsRandomF
 
 use std::alloc::Global;
 use std::random::RandomSource;
-use sv_program::CommandFault;
+use sv_program::{CommandFault, Unavailable};
 use sv_text::{NoMemory, Text};
 
 /// The name of the system's random source in a fault.
@@ -55,7 +55,7 @@ fn fresh_seed<H: RandomSource>(
     let mut bytes = [0; 32];
     match host.fill_bytes(&mut bytes) {
         Ok(()) => Ok(mixed(key_of(configured), &bytes)),
-        Err(_) => Err(random_fault(alloc)),
+        Err(error) => Err(random_fault(alloc, Unavailable::of(error.kind()))),
     }
 }
 
@@ -81,11 +81,11 @@ fn mixed(key: [u8; 32], bytes: &[u8]) -> [u8; 32]
 }
 
 // Returns the fault of a random source that fails.
-fn random_fault(alloc: Global) -> CommandFault
+fn random_fault(alloc: Global, why: Unavailable) -> CommandFault
     ensures { IsRandomFault result }
 {
     match Text::copy_of(alloc, RANDOM_SOURCE) {
-        Ok(name) => CommandFault::File(name),
+        Ok(name) => CommandFault::File(name, why),
         Err(NoMemory) => CommandFault::NoMemory,
     }
 }

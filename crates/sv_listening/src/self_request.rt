@@ -9,7 +9,7 @@ use std::io::ErrorKind;
 use std::net::{Net, OpenListener, OpenStream, SocketAddr};
 use std::time::Clock;
 use sv_connection::{READ_BYTES, serve_connections};
-use sv_program::CommandFault;
+use sv_program::{CommandFault, SocketFault};
 use sv_run::EventHandler;
 use sv_streams::SystemClock;
 
@@ -24,11 +24,9 @@ pub fn own_answer<H: Net + Clock, R: EventHandler>(
     port: u16,
     handler: &mut R,
 ) -> Result<Vec<u8>, CommandFault> {
-    let Ok(listener) = listen(host, port) else {
-        return Err(CommandFault::Socket);
-    };
+    let listener = listen(host, port)?;
     let Ok((client, address)) = connected(host, &listener) else {
-        return Err(CommandFault::Socket);
+        return Err(CommandFault::Socket(SocketFault::Connection));
     };
     let mut acceptor = OwnAcceptor::new(&listener, host, address);
     let mut clock = SystemClock::new(host);
@@ -51,6 +49,6 @@ fn answered<T: io::Read + Drop>(alloc: Global, client: T) -> Result<Vec<u8>, Com
     match first_line(alloc, client) {
         Ok(line) => Ok(line),
         Err(error) if error.kind() == ErrorKind::OutOfMemory => Err(CommandFault::NoMemory),
-        Err(_) => Err(CommandFault::Socket),
+        Err(_) => Err(CommandFault::Socket(SocketFault::Connection)),
     }
 }

@@ -23,9 +23,7 @@ pub fn listen_and_serve<H: Net + Clock, W: Write, R: EventHandler>(
     count: u64,
     handler: &mut R,
 ) -> Result<(), CommandFault> {
-    let Ok(listener) = listen(host, port) else {
-        return Err(CommandFault::Socket);
-    };
+    let listener = listen(host, port)?;
     let mut clock = SystemClock::new(host);
     let mut output = WriteSink::new(writer);
     match serve_on(

@@ -1,6 +1,6 @@
 //! Serving all connections of an address at once.
 
-use crate::sockets::{fault_of_run, file_fault};
+use crate::sockets::{address_fault, fault_of_run, file_fault};
 use std::alloc::Global;
 use std::cell::Cell;
 use std::io::Write;
@@ -8,7 +8,7 @@ use std::net::{Net, SocketAddr};
 use std::rt::Files;
 use std::time::Clock;
 use sv_connection::{Limits, LoopEnd, Queries, WithoutQueries, run_event_loop};
-use sv_program::{CommandFault, print_line};
+use sv_program::{CommandFault, SocketFault, print_line};
 use sv_readiness::{Listening, RoundClock, Sockets};
 use sv_run::{EventHandler, RunFault};
 
@@ -36,8 +36,9 @@ pub fn listen_and_run<H: Net + Clock, W: Write, R: EventHandler>(
     address: SocketAddr,
     handler: R,
 ) -> (Result<(), CommandFault>, R) {
-    let Ok(listening) = Listening::at(host, address) else {
-        return (Err(CommandFault::Socket), handler);
+    let listening = match Listening::at(host, address) {
+        Ok(listening) => listening,
+        Err(error) => return (Err(address_fault(address, error)), handler),
     };
     let limits = Limits::standard();
     let without_queries = WithoutQueries::new(handler);
@@ -59,8 +60,9 @@ pub fn run_controlled<H: Net + Clock + Files, W: Write, R: EventHandler + Querie
     options: ListenOptions<'_>,
     handler: R,
 ) -> (Result<(), CommandFault>, R) {
-    let Ok(mut listening) = Listening::at(host, options.address) else {
-        return (Err(CommandFault::Socket), handler);
+    let mut listening = match Listening::at(host, options.address) {
+        Ok(listening) => listening,
+        Err(error) => return (Err(address_fault(options.address, error)), handler),
     };
     match take_lines(alloc, host, &mut listening, options.control) {
         Ok(()) => tell_and_run(alloc, host, writer, listening, options.limits, handler),
@@ -95,7 +97,7 @@ fn take_lines<H: Net + Files>(
     };
     match listening.take_lines_at(host, name) {
         Ok(()) => Ok(()),
-        Err(_) => Err(file_fault(alloc, name)),
+        Err(error) => Err(file_fault(alloc, name, error)),
     }
 }
 
@@ -106,7 +108,7 @@ fn tell_address<W: Write>(
     listening: &Listening,
 ) -> Result<(), CommandFault> {
     let Ok(address) = listening.address() else {
-        return Err(CommandFault::Socket);
+        return Err(CommandFault::Socket(SocketFault::Poll));
     };
     let line = format!(in alloc; "listening {address}")?;
     print_line(writer, line.as_str())
@@ -121,7 +123,7 @@ fn run_listening<H: Net + Clock, R: EventHandler + Queries>(
     handler: R,
 ) -> (Result<(), CommandFault>, R) {
     let Ok(registry) = listening.registry() else {
-        return (Err(CommandFault::Socket), handler);
+        return (Err(CommandFault::Socket(SocketFault::Poll)), handler);
     };
     let moment = Cell::new(0);
     match Sockets::new(alloc, host, &registry, listening, &moment) {
@@ -146,7 +148,7 @@ fn run_sockets<H: Clock, R: EventHandler + Queries>(
     } = run_event_loop(alloc, limits, handler, sockets, RoundClock::new(moment));
     poller.read_out();
     let served = match result {
-        Ok(()) if poller.has_failed() => Err(CommandFault::Socket),
+        Ok(()) if poller.has_failed() => Err(CommandFault::Socket(SocketFault::Poll)),
         Ok(()) => Ok(()),
         Err(fault) => Err(fault_of_run(RunFault::of_step(fault))),
     };

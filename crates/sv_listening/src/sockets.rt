@@ -5,14 +5,18 @@ ghost use Rattle.sv_listening.specs.RunFault.{fault_of_run};
 
 use std::alloc::Global;
 use std::io;
-use std::net::{Ipv4Addr, Net, TcpListener};
-use sv_program::CommandFault;
+use std::net::{Ipv4Addr, Net, SocketAddr, SocketAddrV4, TcpListener};
+use sv_program::{CommandFault, SocketFault, Unavailable};
 use sv_run::RunFault;
 use sv_text::{NoMemory, Text};
 
 /// Listens at the port, only for connections of this machine.
-pub(crate) fn listen<H: Net>(host: &H, port: u16) -> io::Result<H::Listener> {
-    TcpListener::bind(host, (Ipv4Addr::LOCALHOST, port))
+pub(crate) fn listen<H: Net>(host: &H, port: u16) -> Result<H::Listener, CommandFault> {
+    let address = SocketAddr::V4(SocketAddrV4::new(Ipv4Addr::LOCALHOST, port));
+    match TcpListener::bind(host, address) {
+        Ok(listener) => Ok(listener),
+        Err(error) => Err(address_fault(address, error)),
+    }
 }
 
 /// Returns the fault of a command for the fault of its run.
@@ -24,14 +28,19 @@ pub fn fault_of_run(fault: RunFault) -> CommandFault
         RunFault::Start(code, context) => CommandFault::Start { code, context },
         RunFault::Output => CommandFault::Output,
         RunFault::NoMemory => CommandFault::NoMemory,
-        RunFault::Connection => CommandFault::Socket,
+        RunFault::Connection => CommandFault::Socket(SocketFault::Accept),
     }
 }
 
+/// Returns the fault for an address that is not available.
+pub(crate) fn address_fault(address: SocketAddr, error: io::Error) -> CommandFault {
+    CommandFault::Socket(SocketFault::Address(address, Unavailable::of(error.kind())))
+}
+
 /// Returns the fault for a file that cannot be used.
-pub(crate) fn file_fault(alloc: Global, name: &str) -> CommandFault {
+pub(crate) fn file_fault(alloc: Global, name: &str, error: io::Error) -> CommandFault {
     match Text::copy_of(alloc, name) {
-        Ok(name) => CommandFault::File(name),
+        Ok(name) => CommandFault::File(name, Unavailable::of(error.kind())),
         Err(NoMemory) => CommandFault::NoMemory,
     }
 }

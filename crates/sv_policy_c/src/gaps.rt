@@ -6,7 +6,7 @@ ghost use Rattle.sv_text.specs.Gives.{Gives, GivesAnswer};
 
 use std::alloc::Global;
 use sv_descriptor::ContextEntry;
-use sv_program::{CommandFault, ContextTexts, uncovered_lines};
+use sv_program::{CommandFault, ContextTexts, Unavailable, uncovered_lines};
 use sv_text::{NoMemory, Text};
 
 /// Returns the lines that `sv uncovered` prints for a server with one context, of this path and with this descriptor.
@@ -31,7 +31,7 @@ fn texts_of(alloc: Global, path: &str, descriptor: &str) -> Result<ContextTexts,
             files: Text::from_string(String::new(alloc)),
             users: None,
         },
-        descriptor: Some(Text::copy_of(alloc, descriptor)?),
-        users: None,
+        descriptor: Ok(Text::copy_of(alloc, descriptor)?),
+        users: Err(Unavailable::Missing),
     })
 }

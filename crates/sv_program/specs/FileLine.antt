@@ -1,5 +1,5 @@
--- The line of a file on which a value begins: the line after the last whole lines that are TOML by themselves and lack
--- the value.
+-- The line of a file on which a value begins: the line after first lines that are TOML by themselves and lack the value,
+-- if the next first lines that are TOML have it.
 use Rattle.std.specs.Prelude.{◌≡◌, ℕ, ◌+◌, ◌<◌, ◌≤◌, List, [], ◌∷◌, length, take, slice_index_or, Option, Some, None, is_some, if◌then◌else◌}
 use Rattle.std.specs.Option.{option_and_then}
 use Rattle.std.specs.Str.{is_utf8}

@@ -1,8 +1,8 @@
 //! The line of a file on which a value begins.
 //!
-//! The TOML reader gives no places. So the text is cut after whole lines, and each front is read: the value begins on
-//! the line after the longest front that is TOML and lacks it. Fronts that end inside a value are not TOML, and are
-//! passed over.
+//! The TOML reader gives no places. So the text is cut after whole lines, and fronts are read: the value begins on the
+//! line after a front that lacks it, if the next front that is TOML has it. Fronts that end inside a value are not TOML,
+//! and are skipped.
 
 ghost use Rattle.std.specs.Prelude.{◌≡◌, IfOk, Some, option_copied, option_map, take};
 ghost use Rattle.sv_text.specs.Gives.{GivesAnswer};

@@ -25,8 +25,8 @@ users_name (first ∷ rest) = Some (codes "users")
 abbrev pub texts_of : List ℕ → List ℕ → List ℕ → ContextTexts
 texts_of path descriptor users = record {
   context = record { path = path; descriptor = codes "descriptor"; files = []; users = users_name users };
-  descriptor = Some descriptor;
-  users = Some users;
+  descriptor = Ok descriptor;
+  users = Ok users;
 }
 
 -- the descriptor and the users that these texts give

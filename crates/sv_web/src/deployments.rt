@@ -105,8 +105,8 @@ fn texts_of(
             files: Text::from_string(String::new(alloc)),
             users: name,
         },
-        descriptor: Some(descriptor),
-        users: Some(users),
+        descriptor: Ok(descriptor),
+        users: Ok(users),
     })
 }
 
