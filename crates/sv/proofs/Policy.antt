@@ -7,17 +7,17 @@ use Rattle.sv_policy.specs.declared.explain_fault.ExplainFault.{ExplainFault}
 use Rattle.sv_policy.specs.declared.explain_fault.ExplainFault.TheVariants as explain
 use Rattle.sv_program.specs.CommandFault.{command_fault}
 use Rattle.sv_program.specs.declared.command_fault.CommandFault.{CommandFault}
-use Rattle.sv_program.specs.declared.command_fault.CommandFault.TheVariants as fault
+use Rattle.sv.specs.declared.question.Question.{Question}
 use Rattle.sv.specs.Policy.{Ends, fault_of, line_of}
 
-abbrev pub Told : explained.Answer → Option (List ℕ) → CommandFault → Type 0
-Told answer text found = MatchOption (command_fault found) (Unit {0}) (λ _. Ends (line_of answer) (Err found) text text)
+abbrev pub Told : Question → explained.Answer → Option (List ℕ) → CommandFault → Type 0
+Told question answer text found = MatchOption (command_fault found) (Unit {0}) (λ _. Ends (line_of question answer) (Err found) text text)
 
 -- the command's fault is that of the explanation, unless memory ran out
-pub fault_told : (found : ExplainFault) (answer : explained.Answer) (text : Option (List ℕ)) (told : CommandFault)
-    → MatchOption (explain_fault found) (Unit {0}) (λ f. answer ≡ Err f) → told ≡ fault_of found → Told answer text told
-fault_told explain.BadMethod answer text told is same =
-    subst (Told answer text) (sym same) (subst (λ a. Ends (line_of a) (Err fault.Method) text text) (sym is) refl)
-fault_told explain.NoSuchUser answer text told is same =
-    subst (Told answer text) (sym same) (subst (λ a. Ends (line_of a) (Err fault.User) text text) (sym is) refl)
-fault_told explain.NoMemory answer text told is same = subst (Told answer text) (sym same) tt
+pub fault_told : (question : Question) (found : ExplainFault) (answer : explained.Answer) (text : Option (List ℕ)) (told : CommandFault)
+    → MatchOption (explain_fault found) (Unit {0}) (λ f. answer ≡ Err f) → told ≡ fault_of question found → Told question answer text told
+fault_told question explain.BadMethod answer text told is same =
+    subst (Told question answer text) (sym same) (subst (λ a. Ends (line_of question a) (Err (fault_of question explain.BadMethod)) text text) (sym is) refl)
+fault_told question explain.NoSuchUser answer text told is same =
+    subst (Told question answer text) (sym same) (subst (λ a. Ends (line_of question a) (Err (fault_of question explain.NoSuchUser)) text text) (sym is) refl)
+fault_told question explain.NoMemory answer text told is same = subst (Told question answer text) (sym same) tt

@@ -1,13 +1,13 @@
 //! The command `policy`: explains what a server would do with a request.
 
 ghost use Rattle.sv_component.specs.Steps.{steps_of};
-ghost use Rattle.std.specs.Prelude.{◌≡◌, ◌≢◌, Err, [], ◌∷◌, ◌++◌, IfErr};
+ghost use Rattle.std.specs.Prelude.{◌≡◌, ◌≢◌, [], ◌∷◌, ◌++◌, IfErr};
 ghost use Rattle.std.specs.Option.{option_copied};
 ghost use Rattle.sv_container.specs.Container.{state_of};
 ghost use Rattle.sv_container.specs.Explaining.{explanation_of};
 ghost use Rattle.sv_policy.specs.Text.{explanation_text};
-ghost use Rattle.sv_program.specs.CommandFault.{UnlessNoMemory, command_fault};
-ghost use Rattle.sv_text.specs.Gives.{Gives};
+ghost use Rattle.sv_program.specs.CommandFault.{UnlessNoMemory};
+ghost use Rattle.sv_text.specs.Gives.{GivesAnswer};
 ghost use Rattle.sv.specs.Policy as spec;
 ghost use Rattle.sv.specs.Printed.{Shows};
 
@@ -22,6 +22,7 @@ use sv_deployments::{
     Configuration, FolderStore, ProgramFilter, ProgramListener, ProgramServlet, read_deployments,
 };
 use sv_program::{CommandFault, FileStore, print_line, quoted};
+use sv_text::NoMemory;
 
 /// Reads the server file of the question and all files that it names, and starts a container with them. Asks the
 /// container what would happen to the request, shuts it down, and writes the line of the explanation.
@@ -71,7 +72,7 @@ fn answer<S: Servlet, F: Filter, L: Listener, D: Drop, W: Write>(
     container.shutdown().let_go();
     match explained {
         Ok(explanation) => print_explanation(alloc, &explanation, writer),
-        Err(fault) => refused(alloc, question, fault),
+        Err(fault) => Err(fault_of(alloc, question, fault)?),
     }
 }
 
@@ -88,19 +89,19 @@ fn print_explanation<W: Write>(
 }
 
 // Returns the fault for a question that has no explanation.
-fn refused(
+fn fault_of(
     alloc: Global,
     question: &Question<'_>,
     fault: ExplainFault,
-) -> Result<(), CommandFault>
-    ensures { Gives command_fault result (Err (spec.fault_of question.now fault)) }
+) -> Result<CommandFault, NoMemory>
+    ensures { GivesAnswer result (spec.fault_of question.now fault) }
 {
     match fault {
-        ExplainFault::BadMethod => Err(CommandFault::Method(quoted(alloc, question.method)?)),
+        ExplainFault::BadMethod => Ok(CommandFault::Method(quoted(alloc, question.method)?)),
         ExplainFault::NoSuchUser => {
             let name = question.user.unwrap_or("");
-            Err(CommandFault::User(quoted(alloc, name)?))
+            Ok(CommandFault::User(quoted(alloc, name)?))
         }
-        ExplainFault::NoMemory => Err(CommandFault::NoMemory),
+        ExplainFault::NoMemory => Ok(CommandFault::NoMemory),
     }
 }

@@ -1,5 +1,5 @@
 -- The deployment of a context, from its readings in order.
-use Rattle.std.proofs.Common.{◌≡◌, List, Ok, Err, refl}
+use Rattle.std.proofs.Common.{◌≡◌, Ok, Err, refl}
 use Rattle.sv_text.specs.Steps.{◌>>=◌}
 use Rattle.sv_deployments.specs.Results.{both}
 use Rattle.sv_program.specs.Configuration.{Step, descriptor_in, users_in}

@@ -44,7 +44,7 @@ deployments = map deployment
 -- the components, or the fault of a class that the program does not have
 abbrev pub known : Made Components → Step Components
 known (Ok made) = Ok made
-known (Err class) = Err (fault.Class class CLASSES)
+known (Err class) = Err (fault.Class class CLASSES.now)
 
 abbrev pub components_in : WebApp → Step Components
 components_in app = known (components_of app)

@@ -100,11 +100,7 @@ fn files_in(
 }
 
 // Returns the files in the folder of this name, or none if the name is empty.
-fn listed_files(
-    alloc: Global,
-    name: &str,
-    files: FolderFiles,
-) -> Result<Listed<File>, CommandFault>
+fn listed_files(alloc: Global, name: &str, files: FolderFiles) -> Result<Listed<File>, CommandFault>
     ensures { Gives command_fault result (listed_files name.now files) }
 {
     if name.is_empty() {
@@ -127,7 +123,7 @@ fn parts_in(
         Ok(parts) => Ok(parts),
         Err(ClassFault::UnknownClass(name)) => Err(CommandFault::Class {
             name,
-            known: CLASSES,
+            known: Text::copy_of(alloc, CLASSES)?,
         }),
         Err(ClassFault::NoMemory) => Err(CommandFault::NoMemory),
     }

@@ -52,7 +52,7 @@ pub enum CommandFault {
         /// The class.
         name: Text,
         /// The classes that the program has.
-        known: &'static str,
+        known: Text,
     },
     /// The files of the context are refused: `sv: files CONTEXT CODE`, status 1.
     Files {
@@ -116,7 +116,7 @@ impl CommandFault {
             CommandFault::Server(fault) => Some(Detail::Line(fault.detail())),
             CommandFault::Descriptor { fault, .. } => Some(Detail::Line(fault.detail())),
             CommandFault::Users { fault, .. } => Some(Detail::Line(fault.detail())),
-            CommandFault::Class { known, .. } => Some(Detail::Classes(known)),
+            CommandFault::Class { known, .. } => Some(Detail::Classes(known.as_str())),
             CommandFault::Files { fault, .. } => Some(files_detail(*fault)),
             CommandFault::Start { code, .. } => Some(start_detail(*code)),
             CommandFault::Socket(fault) => Some(socket_detail(*fault)),

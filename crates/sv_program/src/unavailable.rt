@@ -61,7 +61,8 @@ impl Unavailable {
             Unavailable::Denied => "permission denied",
             Unavailable::IsDirectory => "it is a directory",
             Unavailable::NotDirectory => "it is not a directory",
-            Unavailable::SpecialFile => "it is not a regular file, or has an entry that is neither a file nor a directory",
+            Unavailable::SpecialFile =>
+                "it is not a regular file, or has an entry that is neither a file nor a directory",
             Unavailable::TooLarge => "it is too large",
             Unavailable::NotUtf8 => "it is not UTF-8",
             Unavailable::ReadOnly => "the file system is read-only",

@@ -17,7 +17,7 @@ returns-in-Ok-start-clause-run g c =
       (
         Ok c.in-Ok-start.container,
         (starts.0, subst (λ (seed : List ℕ). AreWordsOf seed starts.0) c.as_slice.ensures starts.1, starts.2),
-        subst (λ policies. UnlessNoMemory c.answer.result (Ends (line_of (explained.explanation policies c.args.question.now.method.now c.args.question.now.target.now (option_copied c.args.question.now.user)))
+        subst (λ policies. UnlessNoMemory c.answer.result (Ends (line_of c.args.question.now (explained.explanation policies c.args.question.now.method.now c.args.question.now.target.now (option_copied c.args.question.now.user)))
             c.answer.result (g.W.Write.contents c.args.writer.now) (g.W.Write.contents c.answer.new.writer))) same c.answer.ensures.answers,
       ),
     )
