@@ -1,0 +1,5 @@
+pub mod Filters
+pub mod Equal
+pub mod Said
+pub mod RowCells
+pub mod Found

@@ -1,0 +1,4 @@
+pub mod Same
+pub mod Access
+pub mod Rows
+pub mod Reading
