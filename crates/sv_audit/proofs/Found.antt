@@ -39,7 +39,7 @@ split_at true false = refl
 split_at false true = refl
 split_at false false = refl
 
-ordered_lists : (patterns : List (List ℕ)) (text : List ℕ) → lists (in_row_order patterns) text ≡ lists patterns text
+pub ordered_lists : (patterns : List (List ℕ)) (text : List ℕ) → lists (in_row_order patterns) text ≡ lists patterns text
 ordered_lists patterns text =
     list_any-append (λ listed. bytes_eq listed text) (filter (λ p. not (is_extension_pattern p)) (rising patterns)) (filter is_extension_pattern (rising patterns))
     ∙ ap₂ (λ a b. a || b) (passing_lists (λ p. not (is_extension_pattern p)) (rising patterns) text) (passing_lists is_extension_pattern (rising patterns) text)

@@ -3,3 +3,5 @@ pub mod Equal
 pub mod Said
 pub mod RowCells
 pub mod Found
+pub mod CellLemmas
+pub mod Made

@@ -3,9 +3,17 @@
 #![tactic(auto)]
 
 mod access;
+mod cells;
+mod coverage;
+mod groups;
 mod laws;
+mod members;
+mod roles;
 mod rows;
+mod sorted;
+mod tables;
 
 pub use access::{Access, Cell};
 pub use laws::tables_are_right;
 pub use rows::{ContextTable, Group, Row, Table};
+pub use tables::table_of;
