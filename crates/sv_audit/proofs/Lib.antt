@@ -5,3 +5,4 @@ pub mod RowCells
 pub mod Found
 pub mod CellLemmas
 pub mod Made
+pub mod JsonLemmas

@@ -19,7 +19,7 @@ strings texts = array (items_of (map string texts))
 
 -- A word that depends on whether callers can log in.
 abbrev pub by_login : Bool → List ℕ → List ℕ → List ℕ
-by_login has_login yes no = if has_login then yes else no
+by_login has_login word other = if has_login then word else other
 
 -- Who enters, in one word.
 abbrev pub enters : Bool → Access → List ℕ

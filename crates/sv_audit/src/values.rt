@@ -1,15 +1,15 @@
 //! Access tables as JSON.
 
-ghost use Rattle.std.specs.Prelude.{◌≡◌, ◌==◌, IfOk, if◌then◌else◌, length, map};
-ghost use Rattle.serde_json.specs.Data.{array};
-ghost use Rattle.serde_json.specs.View.{items_of, view};
+ghost use Rattle.std.specs.Prelude.{◌≡◌, ◌==◌, IfOk, OnOk, if◌then◌else◌, length, map};
+ghost use Rattle.serde_json.specs.Data.{array, boolean, put as with_member, string};
+ghost use Rattle.serde_json.specs.View.{items_of, members_view, view};
 ghost use Rattle.sv_policy.specs.Covering.{method_names};
 ghost use Rattle.sv_text.specs.Gives.{GivesAnswer};
 ghost use Rattle.sv_audit.specs.Json as spec;
 
 use crate::access::Access;
 use crate::rows::{ContextTable, Group, Row};
-use serde_json::{Value, json};
+use serde_json::{Map, Value, json, put};
 use std::alloc::Global;
 use sv_constraints::Methods;
 use sv_text::{NoMemory, Text};
@@ -86,15 +86,61 @@ fn group_values(alloc: Global, has_login: bool, groups: &[Group]) -> Result<Valu
 fn group_value(alloc: Global, has_login: bool, group: &Group) -> Result<Value, NoMemory>
     ensures { IfOk result (λ value. view value ≡ spec.group_value has_login group.now) }
 {
-    let methods = strings(alloc, names_in(&group.methods))?;
-    let roles = strings(alloc, roles_in(&group.cell.access))?;
-    let number = number_value(group.cell.constraint);
-    let because = because(has_login, &group.cell.access);
-    let enters = enters(has_login, &group.cell.access);
-    let others = are_excepted(&group.methods);
-    Ok(json!(in alloc; {
-        "because": because, "constraint": number, "enters": enters, "methods": methods, "others": others, "roles": roles
-    })?)
+    let access = &group.cell.access;
+    let mut members = Map::new(alloc);
+    put_text(&mut members, alloc, "because", because(has_login, access))?;
+    put_number(&mut members, alloc, "constraint", group.cell.constraint)?;
+    put_text(&mut members, alloc, "enters", enters(has_login, access))?;
+    put_texts(&mut members, alloc, "methods", names_in(&group.methods))?;
+    put_truth(&mut members, alloc, "others", are_excepted(&group.methods))?;
+    put_texts(&mut members, alloc, "roles", roles_in(access))?;
+    Ok(Value::Object(members))
+}
+
+fn put_text(
+    members: &mut Map<String, Value>,
+    alloc: Global,
+    name: &str,
+    text: &str,
+) -> Result<(), NoMemory>
+    ensures { OnOk result (members_view members.new.entries ≡ with_member name.now (string text.now) (members_view members.old.entries)) }
+{
+    let value = Value::try_from_str(alloc, text)?;
+    Ok(put(members, alloc, name, value)?)
+}
+
+fn put_number(
+    members: &mut Map<String, Value>,
+    alloc: Global,
+    name: &str,
+    number: Option<u64>,
+) -> Result<(), NoMemory>
+    ensures { OnOk result (members_view members.new.entries ≡ with_member name.now (spec.number_value number) (members_view members.old.entries)) }
+{
+    Ok(put(members, alloc, name, number_value(number))?)
+}
+
+fn put_texts(
+    members: &mut Map<String, Value>,
+    alloc: Global,
+    name: &str,
+    texts: &[Text],
+) -> Result<(), NoMemory>
+    ensures { OnOk result (members_view members.new.entries ≡ with_member name.now (spec.strings texts.now) (members_view members.old.entries)) }
+{
+    let value = strings(alloc, texts)?;
+    Ok(put(members, alloc, name, value)?)
+}
+
+fn put_truth(
+    members: &mut Map<String, Value>,
+    alloc: Global,
+    name: &str,
+    holds: bool,
+) -> Result<(), NoMemory>
+    ensures { OnOk result (members_view members.new.entries ≡ with_member name.now (boolean holds) (members_view members.old.entries)) }
+{
+    Ok(put(members, alloc, name, Value::Bool(holds))?)
 }
 
 fn strings(alloc: Global, texts: &[Text]) -> Result<Value, NoMemory>
