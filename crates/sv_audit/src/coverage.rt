@@ -11,7 +11,7 @@ use sv_mapping::Pattern;
 use sv_text::{NoMemory, Text};
 
 /// Returns whether a pattern with this text is among the patterns.
-pub fn lists_pattern(patterns: &[Pattern], text: &str) -> bool
+fn lists_pattern(patterns: &[Pattern], text: &str) -> bool
     ensures { result ≡ lists patterns.now text.now }
 {
     patterns.iter().any(|listed| listed.text() == text)

@@ -1,16 +1,19 @@
 //! The access table of constraints.
 
-ghost use Rattle.std.specs.Prelude.{◌≡◌, ◌++◌, ◌∷◌, [], IfOk, OnOk, filter, if◌then◌else◌, map, not};
+ghost use Rattle.std.specs.Prelude.{◌≡◌, ◌++◌, ◌∷◌, [], IfOk, List, OnOk, filter, if◌then◌else◌, map, not};
 ghost use Rattle.std.specs.List.{list_any};
 ghost use Rattle.std.specs.Str.{bytes_eq};
 ghost use Rattle.sv_constraints.specs.Covering.{all_patterns};
+ghost use Rattle.sv_constraints.specs.declared.constraint.Constraint.{Constraint};
 ghost use Rattle.sv_mapping.specs.Pattern.{is_extension_pattern};
+ghost use Rattle.sv_policy.specs.Groups.{members_in};
+ghost use Rattle.sv_policy.specs.Patterns.{lists_pattern};
 ghost use Rattle.sv_text.specs.Gives.{GivesAnswer};
 ghost use Rattle.sv_audit.specs.Rows.{in_row_order, match_every_path, other_paths, row_at, table_of};
 
 use crate::access::{Access, Cell};
 use crate::groups::row_at;
-use crate::members::{all_patterns, members_on};
+use crate::members::{Members, all_patterns};
 use crate::rows::{Group, Row, Table};
 use crate::sorted::sorted;
 use std::alloc::Global;
@@ -106,9 +109,10 @@ fn pattern_rows(
 ) -> Result<Vec<Row>, NoMemory>
     ensures { IfOk result (λ rows. rows.items ≡ map (row_at constraints.now rules.now) (map (λ pattern. pattern.now) patterns.now)) }
 {
+    let members = Members::of(alloc, constraints)?;
     let mut rows = Vec::with_capacity(alloc, patterns.len())?;
     for pattern in patterns {
-        rows.push(row_among(alloc, constraints, rules, *pattern)?)?;
+        rows.push(row_among(alloc, rules, &members, *pattern)?)?;
     }
     Ok(rows)
 }
@@ -116,14 +120,17 @@ fn pattern_rows(
 /// Returns the row of a pattern.
 fn row_among(
     alloc: Global,
-    constraints: &[Constraint],
     rules: &Rules,
+    members: &Members<'_>,
     pattern: &str,
 ) -> Result<Row, NoMemory>
-    ensures { GivesAnswer result (row_at constraints.now rules.now pattern.now) }
+    ensures { (constraints : List Constraint) → members_in members.now.groups pattern.now ≡ filter (λ constraint. lists_pattern constraint pattern.now) constraints →
+        GivesAnswer result (row_at constraints rules.now pattern.now) }
 {
-    let members = members_on(alloc, constraints, pattern)?;
-    row_at(alloc, rules, pattern, members.as_slice())
+    match members.on(pattern) {
+        Some(members) => row_at(alloc, rules, pattern, members.as_slice()),
+        None => row_at(alloc, rules, pattern, &[]),
+    }
 }
 
 /// Appends the row of the paths that no pattern matches, unless each path matches one of the patterns.
