@@ -1,0 +1,26 @@
+//! Theorems about access tables, each the contract of a function that only calls other theorems.
+
+ghost use Rattle.sv_audit.specs.Reading.{NumbersAreRight, TablesAreRight};
+ghost use Rattle.sv_audit.specs.Secure.{SecureTablesAreRight};
+
+use sv_mapping::laws::{best_exists, best_is_a_match};
+use sv_policy::best_is_of_texts;
+
+/// For every path that begins with a slash, every method and every caller, a table has exactly one cell, and it says
+/// what the constraints decide. The number in the cell is that of the constraint that decides the request without a
+/// caller.
+pub fn tables_are_right()
+    ensures answers { TablesAreRight }
+    ensures numbers { NumbersAreRight }
+{
+    best_exists();
+    best_is_a_match();
+    best_is_of_texts();
+}
+
+/// The table of constraints without transport requirements says what those constraints decide.
+pub fn secure_tables_are_right()
+    ensures { SecureTablesAreRight }
+{
+    tables_are_right();
+}

@@ -1,0 +1,27 @@
+//! Access tables: which methods the security constraints of a context open to whom, by URL pattern (Jakarta Servlet
+//! 6.0, section 13.8). A table says of every path, method and caller what the constraints decide.
+#![tactic(auto)]
+
+mod access;
+mod cells;
+mod coverage;
+mod escaped;
+mod groups;
+mod laws;
+mod lines;
+mod members;
+mod roles;
+mod rows;
+mod secure;
+mod sorted;
+mod tables;
+mod values;
+mod words;
+
+pub use access::{Access, Cell};
+pub use laws::{secure_tables_are_right, tables_are_right};
+pub use lines::{METHODS_WIDTH, PATTERN_WIDTH, WHO_WIDTH, audit_text};
+pub use rows::{ContextTable, Group, Row, Table};
+pub use secure::without_transport;
+pub use tables::table_of;
+pub use values::audit_json;

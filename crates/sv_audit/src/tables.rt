@@ -1,0 +1,167 @@
+//! The access table of constraints.
+
+ghost use Rattle.std.specs.Prelude.{◌≡◌, ◌++◌, ◌∷◌, [], IfOk, List, OnOk, filter, if◌then◌else◌, map, not};
+ghost use Rattle.std.specs.List.{list_any};
+ghost use Rattle.std.specs.Str.{bytes_eq};
+ghost use Rattle.sv_constraints.specs.Covering.{all_patterns};
+ghost use Rattle.sv_constraints.specs.declared.constraint.Constraint.{Constraint};
+ghost use Rattle.sv_mapping.specs.Pattern.{is_extension_pattern};
+ghost use Rattle.sv_policy.specs.Groups.{members_in};
+ghost use Rattle.sv_policy.specs.Patterns.{lists_pattern};
+ghost use Rattle.sv_text.specs.Gives.{GivesAnswer};
+ghost use Rattle.sv_audit.specs.Rows.{in_row_order, match_every_path, other_paths, row_at, table_of};
+
+use crate::access::{Access, Cell};
+use crate::groups::row_at;
+use crate::members::{Members, all_patterns};
+use crate::rows::{Group, Row, Table};
+use crate::sorted::sorted;
+use std::alloc::Global;
+use sv_constraints::{Constraint, Methods, Rules};
+use sv_text::{Listed, NoMemory};
+
+/// Returns the access table of constraints and their rules (Jakarta Servlet 6.0, section 13.8). The constraints may be
+/// in any order and have any numbers.
+///
+/// # Errors
+/// `NoMemory` if memory runs out.
+pub fn table_of(
+    alloc: Global,
+    constraints: &[Constraint],
+    rules: &Rules,
+) -> Result<Table, NoMemory>
+    ensures { GivesAnswer result (table_of constraints.now rules.now) }
+{
+    let patterns = in_row_order(alloc, constraints)?;
+    let mut rows = pattern_rows(alloc, constraints, rules, patterns.as_slice())?;
+    push_other_paths(&mut rows, alloc, patterns.as_slice())?;
+    Ok(Table {
+        rows: Listed::from_vec(rows),
+    })
+}
+
+/// Returns the patterns of constraints in the order of their rows: extension patterns last.
+fn in_row_order(alloc: Global, constraints: &[Constraint]) -> Result<Vec<&str>, NoMemory>
+    ensures { IfOk result (λ patterns. map (λ pattern. pattern.now) patterns.items ≡ in_row_order (all_patterns constraints.now)) }
+{
+    let patterns = sorted(alloc, all_patterns(alloc, constraints)?.as_slice())?;
+    let mut ordered = Vec::with_capacity(alloc, patterns.len())?;
+    push_path_patterns(&mut ordered, patterns.as_slice())?;
+    push_extension_patterns(&mut ordered, patterns.as_slice())?;
+    Ok(ordered)
+}
+
+/// Appends the patterns that are no extension patterns.
+fn push_path_patterns<'a>(ordered: &mut Vec<&'a str>, patterns: &[&'a str]) -> Result<(), NoMemory>
+    ensures { OnOk result (map (λ pattern. pattern.now) ordered.new.items ≡ map (λ pattern. pattern.now) ordered.old.items ++
+        filter (λ pattern. not (is_extension_pattern pattern)) (map (λ pattern. pattern.now) patterns.now)) }
+{
+    for pattern in patterns {
+        if !is_extension_pattern(*pattern) {
+            ordered.push(*pattern)?;
+        }
+    }
+    Ok(())
+}
+
+/// Appends the extension patterns.
+fn push_extension_patterns<'a>(
+    ordered: &mut Vec<&'a str>,
+    patterns: &[&'a str],
+) -> Result<(), NoMemory>
+    ensures { OnOk result (map (λ pattern. pattern.now) ordered.new.items ≡ map (λ pattern. pattern.now) ordered.old.items ++
+        filter is_extension_pattern (map (λ pattern. pattern.now) patterns.now)) }
+{
+    for pattern in patterns {
+        if is_extension_pattern(*pattern) {
+            ordered.push(*pattern)?;
+        }
+    }
+    Ok(())
+}
+
+/// Returns whether the text is an extension pattern (Jakarta Servlet 6.0, section 12.2).
+fn is_extension_pattern(text: &str) -> bool
+    ensures { result ≡ is_extension_pattern text.now }
+{
+    text.starts_with("*.") && !text.as_bytes().contains(&b'/')
+}
+
+/// Returns whether each path matches one of the patterns.
+fn match_every_path(patterns: &[&str]) -> bool
+    ensures { result ≡ match_every_path (map (λ pattern. pattern.now) patterns.now) }
+{
+    is_among(patterns, "/") || is_among(patterns, "/*")
+}
+
+fn is_among(patterns: &[&str], text: &str) -> bool
+    ensures { result ≡ list_any (λ pattern. bytes_eq pattern.now text.now) patterns.now }
+{
+    patterns.iter().any(|pattern| *pattern == text)
+}
+
+/// Returns the rows of the patterns, in order.
+fn pattern_rows(
+    alloc: Global,
+    constraints: &[Constraint],
+    rules: &Rules,
+    patterns: &[&str],
+) -> Result<Vec<Row>, NoMemory>
+    ensures { IfOk result (λ rows. rows.items ≡ map (row_at constraints.now rules.now) (map (λ pattern. pattern.now) patterns.now)) }
+{
+    let members = Members::of(alloc, constraints)?;
+    let mut rows = Vec::with_capacity(alloc, patterns.len())?;
+    for pattern in patterns {
+        rows.push(row_among(alloc, rules, &members, *pattern)?)?;
+    }
+    Ok(rows)
+}
+
+/// Returns the row of a pattern.
+fn row_among(
+    alloc: Global,
+    rules: &Rules,
+    members: &Members<'_>,
+    pattern: &str,
+) -> Result<Row, NoMemory>
+    ensures { (constraints : List Constraint) → members_in members.now.groups pattern.now ≡ filter (λ constraint. lists_pattern constraint pattern.now) constraints →
+        GivesAnswer result (row_at constraints rules.now pattern.now) }
+{
+    match members.on(pattern) {
+        Some(members) => row_at(alloc, rules, pattern, members.as_slice()),
+        None => row_at(alloc, rules, pattern, &[]),
+    }
+}
+
+/// Appends the row of the paths that no pattern matches, unless each path matches one of the patterns.
+fn push_other_paths(
+    rows: &mut Vec<Row>,
+    alloc: Global,
+    patterns: &[&str],
+) -> Result<(), NoMemory>
+    ensures { OnOk result (rows.new.items ≡ rows.old.items ++ (if match_every_path (map (λ pattern. pattern.now) patterns.now) then [] else other_paths ∷ [])) }
+{
+    if match_every_path(patterns) {
+        return Ok(());
+    }
+    rows.push(other_paths(alloc)?)?;
+    Ok(())
+}
+
+/// Returns the row of the paths that no pattern matches.
+fn other_paths(alloc: Global) -> Result<Row, NoMemory>
+    ensures { GivesAnswer result other_paths }
+{
+    let mut groups = Vec::new(alloc);
+    groups.push(Group {
+        methods: Methods::Except(Listed::from_vec(Vec::new(alloc))),
+        cell: Cell {
+            access: Access::Unconstrained,
+            constraint: None,
+        },
+    })?;
+    Ok(Row {
+        pattern: None,
+        groups: Listed::from_vec(groups),
+    })
+}
