@@ -7,4 +7,5 @@ mod FirstRead
 mod Lines
 mod PrintedRun
 mod Readings
+mod Reported
 mod Steps

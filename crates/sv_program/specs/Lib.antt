@@ -16,3 +16,5 @@ pub mod ExamplePolicy
 pub mod FirstLine
 pub mod Printed
 pub mod Uncovered
+pub mod AccessReport
+pub mod Report

@@ -1,4 +1,4 @@
--- The lines of the command `uncovered`: the methods that security constraints leave uncovered (Jakarta Servlet 6.0,
+-- The report `uncovered`: the methods that security constraints leave uncovered (Jakarta Servlet 6.0,
 -- section 13.8.4).
 use Rattle.std.specs.Prelude.{◌≡◌, ℕ, List, [], ◌∷◌, ◌++◌, codes, flat_map, map, None, Ok}
 use Rattle.sv_text.specs.Steps.{◌>>=◌}
@@ -7,11 +7,7 @@ use Rattle.sv_constraints.specs.declared.constraint.Methods.TheVariants.{All, On
 use Rattle.sv_uri.specs.ContextPath.{shown_context}
 use Rattle.sv_policy.specs.Gaps.{gaps}
 use Rattle.sv_policy.specs.declared.gaps.Gap.{Gap}
-use Rattle.sv_descriptor.specs.declared.server.ContextEntry.{ContextEntry}
-use Rattle.sv_program.specs.Configuration.{Step, descriptor_in, each, server_in}
-use Rattle.sv_program.specs.ConfigurationFiles.{contexts_in, readings}
-use Rattle.sv_program.specs.FileStore.{AreRead, FileText, Giving}
-use Rattle.sv_program.specs.Printed.{Printing}
+use Rattle.sv_program.specs.Configuration.{Step, descriptor_in, each}
 use Rattle.sv_program.specs.declared.configuration.ContextTexts.{ContextTexts}
 
 -- names, each after a comma
@@ -49,21 +45,3 @@ abbrev pub uncovered_lines : List ContextTexts → Step (List ℕ)
 uncovered_lines texts = do
   lines ← each context_lines texts
   Ok (flat_map (λ line. line) lines)
-
--- the lines for a server file with this text, if it could be read, and contexts with these texts
-abbrev pub lines_for : List ℕ → FileText → List ContextTexts → Step (List ℕ)
-lines_for config file texts = do
-  server ← server_in config file
-  uncovered_lines texts
-
--- a context without its users file
-abbrev pub without_users : ContextEntry → ContextEntry
-without_users context = record { path = context.path; descriptor = context.descriptor; files = context.files; users = None }
-
--- the lines are those for the server file and the descriptors that the store gives; no other file is read
-abbrev pub AreLines : {S : Type 0} → Giving S → List ℕ → Printing S
-AreLines gives config lines before after =
-    (file : FileText) × (texts : List ContextTexts)
-    × (map (λ text. text.context) texts ≡ map without_users (contexts_in (server_in config file)))
-    × AreRead gives before (readings config file texts) after
-    × (lines ≡ lines_for config file texts)

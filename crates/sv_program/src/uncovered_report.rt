@@ -1,72 +1,20 @@
-//! The command `uncovered`: the methods that the security constraints of a server's contexts leave uncovered.
+//! The report on uncovered methods: those that the security constraints of a server's contexts leave uncovered.
 
-ghost use Rattle.std.specs.Prelude.{◌≡◌, ◌≢◌, ◌++◌, flat_map, map, IfErr, IfOk, OnOk};
+ghost use Rattle.std.specs.Prelude.{◌≡◌, ◌++◌, flat_map, IfOk, OnOk};
 ghost use Rattle.std.specs.String.{string_bytes};
 ghost use Rattle.sv_policy.specs.Gaps.{gaps};
 ghost use Rattle.sv_text.specs.Gives.{Gives, GivesAnswer};
 ghost use Rattle.sv_program.specs.CommandFault.{command_fault};
-ghost use Rattle.sv_program.specs.Printed.{FindsText, Prints};
 ghost use Rattle.sv_program.specs.Uncovered as spec;
 
 use crate::command_fault::CommandFault;
 use crate::configuration::{ContextTexts, descriptor_in};
-use crate::configuration_files::{read_contexts, read_server_file};
-use crate::disk::FileStore;
-use crate::output::print_text;
 use std::alloc::Global;
-use std::io::Write;
 use sv_constraints::Methods;
-use sv_descriptor::{ContextEntry, Descriptor};
+use sv_descriptor::Descriptor;
 use sv_policy::{Gap, Policy};
-use sv_text::{Listed, NoMemory, Text};
+use sv_text::{NoMemory, Text};
 use sv_uri::shown_context;
-
-/// Reads the server file of this name, then the descriptor of each of its contexts, and writes the lines that
-/// `uncovered_lines` returns. Names in the server file are relative to its folder. No other file is read.
-///
-/// # Errors
-/// The first fault: [`CommandFault::File`] or [`CommandFault::Server`] for the server file, then the faults of
-/// [`uncovered_lines`]. After [`CommandFault::Output`] a part of the lines may have been written, after any other fault
-/// none.
-pub fn uncovered<S: FileStore, W: Write>(
-    alloc: Global,
-    store: &mut S,
-    writer: &mut W,
-    config: &str,
-) -> Result<(), CommandFault>
-    ensures run { Prints (spec.AreLines S.gives_text config.now) result store.old store.new (W.contents writer.old) (W.contents writer.new) }
-    ensures untouched { IfErr result (λ fault. fault ≢ CommandFault.Output → writer.new ≡ writer.old) }
-{
-    let lines = lines_of(alloc, store, config)?;
-    print_text(writer, lines.as_str())
-}
-
-/// Returns the lines of the server, from the files that the store gives.
-fn lines_of<S: FileStore>(alloc: Global, store: &mut S, config: &str) -> Result<Text, CommandFault>
-    ensures { FindsText (spec.AreLines S.gives_text config.now) result store.old store.new }
-{
-    let server = read_server_file(alloc, store, config)?;
-    let contexts = without_users(alloc, server.contexts)?;
-    let texts = read_contexts(alloc, store, config, contexts)?;
-    uncovered_lines(alloc, texts.as_slice())
-}
-
-/// Removes the users files from the contexts.
-fn without_users(
-    alloc: Global,
-    contexts: Listed<ContextEntry>,
-) -> Result<Listed<ContextEntry>, NoMemory>
-    ensures { GivesAnswer result (map spec.without_users contexts) }
-{
-    let mut bare = Vec::new(alloc);
-    for context in contexts.into_vec() {
-        bare.push(ContextEntry {
-            users: None,
-            ..context
-        })?;
-    }
-    Ok(Listed::from_vec(bare))
-}
 
 /// Returns the lines that the command `uncovered` prints for contexts whose descriptors have these texts. Each pattern
 /// that leaves methods uncovered has one line, and the patterns of a context are in the order of their bytes.

@@ -3,7 +3,7 @@ use Rattle.std.specs.String.{string_bytes}
 use Rattle.sv_uri.specs.ContextPath.{shown_context}
 use Rattle.sv_program.specs.Uncovered.{methods_text}
 use Rattle.sv_program.proofs.Lines.{seven}
-use Rattle.sv_program.proofs.uncovered_command.push_gap.Goals as goal
+use Rattle.sv_program.proofs.uncovered_report.push_gap.Goals as goal
 
 pub returns : goal.returns
 returns c =

@@ -1,0 +1,10 @@
+use Rattle.std.proofs.Common.{◌≡◌, ◌++◌, drop, Ok}
+use Rattle.sv_text.specs.Steps.{◌>>=◌}
+use Rattle.sv_program.specs.AccessReport.{context_table}
+use Rattle.sv_program.specs.Configuration.{each}
+use Rattle.sv_program.proofs.access_report.tables_of.Given as goal
+
+-- the remaining texts give the remaining tables
+abbrev pub invariant-loop-texts : goal.invariant-loop-texts
+invariant-loop-texts l =
+    (each (context_table l.is_secure) (drop l.texts-index l.texts) >>= λ rest. Ok (l.tables.items ++ rest)) ≡ each (context_table l.is_secure) l.texts
