@@ -1,19 +1,19 @@
 -- The cell by the findings is that of the constraints.
-use Rattle.std.proofs.Common.{◌≡◌, ℕ, Bool, true, false, not, List, [], ◌∷◌, length, refl, ap, ap₂, sym, ◌∙◌, cond, Option, None, Some, is_none, is_some, ◌==◌}
+use Rattle.std.proofs.Common.{◌≡◌, ℕ, Bool, true, false, not, List, length, refl, ap, ap₂, sym, ◌∙◌, cond, Option, None, Some, ◌==◌}
 use Rattle.std.specs.List.{list_any}
 use Rattle.sv_constraints.proofs.Least.{none_number, some_where}
 use Rattle.sv_constraints.specs.Decision.{why_of}
 use Rattle.sv_constraints.specs.Findings.{findings_of}
-use Rattle.sv_constraints.specs.Verdict.{admits_caller, because, is_open, least_number, least_where, permits_plain, precludes, uncovered}
+use Rattle.sv_constraints.specs.Verdict.{because, is_open, least_number, least_where, permits_plain, precludes, uncovered}
 use Rattle.sv_constraints.specs.declared.cause.Cause.TheVariants as cause
 use Rattle.sv_constraints.specs.declared.constraint.Constraint.{Constraint}
 use Rattle.sv_constraints.specs.declared.constraint.Rules.{Rules}
 use Rattle.sv_constraints.specs.declared.findings.Findings.{Findings}
 use Rattle.sv_constraints.specs.declared.owned_decision.OwnedDecision.{OwnedDecision}
-use Rattle.sv_constraints.specs.declared.owned_decision.OwnedDecision.TheVariants.{Open, Login, Denied}
-use Rattle.sv_audit.specs.Access.{access_at, cell_at, found_cell, login_access, uncovered_access}
+use Rattle.sv_constraints.specs.declared.owned_decision.OwnedDecision.TheVariants.{Open, Denied}
+use Rattle.sv_audit.specs.Access.{cell_at, found_cell, login_access, uncovered_access}
 use Rattle.sv_audit.specs.declared.access.Access.{Access}
-use Rattle.sv_audit.specs.declared.access.Access.TheVariants.{Unconstrained, Uncovered, UncoveredDenied, Precluded, NeedsTls, Everyone, AnyLogin, Roles}
+use Rattle.sv_audit.specs.declared.access.Access.TheVariants.{Uncovered, UncoveredDenied, Precluded, NeedsTls, Everyone}
 use Rattle.sv_audit.specs.declared.access.Cell.{Cell}
 
 abbrev cell_with : Access → Option ℕ → Cell

@@ -1,7 +1,6 @@
 -- Filters of mapped and filtered lists.
-use Rattle.std.proofs.Common.{◌≡◌, ℕ, Bool, true, false, not, ◌||◌, ◌&&◌, List, [], ◌∷◌, ◌++◌, map, refl, ap, ap₂, sym, ◌∙◌, cond}
+use Rattle.std.proofs.Common.{◌≡◌, Bool, true, false, ◌&&◌, List, [], ◌∷◌, map, refl, ap, sym, ◌∙◌, cond}
 use Rattle.std.specs.Prelude.{filter}
-use Rattle.std.specs.List.{list_any}
 
 map_cond : {A B : Type 0} (f : A → B) (b : Bool) (x : A) (xs : List A) (ys : List B) → map f xs ≡ ys → map f (cond b (x ∷ xs) xs) ≡ cond b (f x ∷ ys) ys
 map_cond f true x xs ys is = ap (λ rest. f x ∷ rest) is

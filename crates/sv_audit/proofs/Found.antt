@@ -1,11 +1,10 @@
 -- A table has exactly one cell for each method and path.
 use Rattle.std.proofs.lemmas.Bool.{false≢true, or_parts}
-use Rattle.std.proofs.Common.{arith, ◌≡◌, ℕ, zero, suc, ◌+◌, ◌<◌, length, get_or, Bool, true, false, not, ◌||◌, ◌&&◌, List, [], ◌∷◌, ◌++◌, map, refl, ap, ap₂, sym, subst, ◌∙◌, cond, append-nil, Option, None, Some, is_some, nat_cmp, codes}
-use Rattle.std.specs.Prelude.{Contains, IsTrue, filter}
+use Rattle.std.proofs.Common.{arith, ◌≡◌, ℕ, zero, suc, Bool, true, false, not, ◌||◌, ◌&&◌, List, [], ◌∷◌, ◌++◌, map, refl, ap, ap₂, sym, ◌∙◌, cond, append-nil, Option, None, Some, is_some, nat_cmp, codes}
+use Rattle.std.specs.Prelude.{Contains, filter}
 use Rattle.std.specs.Cmp.Lexicographic.{slice_cmp}
 use Rattle.std.specs.List.{flat_map, list_any}
 use Rattle.std.specs.List.Sorted.{IsStrictlySortedBy}
-use Rattle.std.specs.Option.{option_to_list}
 use Rattle.std.specs.Str.{bytes_eq}
 use Rattle.std.proofs.lemmas.List.Elements.{filter-append}
 use Rattle.std.proofs.lemmas.List.Folds.{list_any-append}
@@ -14,20 +13,17 @@ use Rattle.std.proofs.lemmas.Slice.Eq.{bytes_eq-Decides}
 use Rattle.sv_mapping.specs.BestMatch.{BestExists, BestIsAMatch, best_pattern}
 use Rattle.sv_mapping.specs.Pattern.{form, is_extension_pattern, matches}
 use Rattle.sv_mapping.specs.Segments.{is_rooted}
-use Rattle.sv_realm.specs.declared.caller.Caller.{Caller}
 use Rattle.sv_constraints.specs.Covering.{all_patterns, covering, lists}
-use Rattle.sv_constraints.specs.Decision.{why_of}
-use Rattle.sv_constraints.specs.Verdict.{verdict, verdict_at}
 use Rattle.sv_constraints.specs.declared.constraint.Constraint.{Constraint}
 use Rattle.sv_constraints.specs.declared.constraint.Rules.{Rules}
-use Rattle.sv_policy.proofs.Rising.{passing_lists, rising_lists, rising_rises, rising_same, same_text}
+use Rattle.sv_policy.proofs.Rising.{passing_lists, rising_lists, rising_rises, rising_same}
 use Rattle.sv_policy.specs.Patterns.{BestIsOfTexts}
 use Rattle.sv_policy.specs.Uncovered.{IsRising, rising}
 use Rattle.sv_audit.proofs.Filters.{filter_map, filter_none, filter_twice}
 use Rattle.sv_audit.proofs.RowCells.{row_cell}
 use Rattle.sv_audit.proofs.Said.{said}
 use Rattle.sv_audit.specs.Access.{access_at, cell_at}
-use Rattle.sv_audit.specs.Reading.{NumbersAreRight, TablesAreRight, cells_for, cells_in, is_same, kind_and_cause, row_patterns, rows_for, said_to}
+use Rattle.sv_audit.specs.Reading.{NumbersAreRight, TablesAreRight, cells_for, cells_in, is_same, row_patterns, said_to}
 use Rattle.sv_audit.specs.Rows.{in_row_order, match_every_path, other_paths, row_at, table_of}
 use Rattle.sv_audit.specs.declared.access.Cell.{Cell}
 use Rattle.sv_audit.specs.declared.rows.Row.{Row}

@@ -1,6 +1,6 @@
 -- Loop steps of sorted texts, cells and rows.
-use Rattle.std.proofs.lemmas.Bool.{false≢true, or_parts}
-use Rattle.std.proofs.Common.{arith, Option, None, Some, Result, Ok, Err, codes, ◌≡◌, ℕ, ◌+◌, ◌<◌, Bool, true, false, not, ◌||◌, ◌&&◌, List, [], ◌∷◌, ◌++◌, length, take, get_or, map, refl, ap, ap₂, sym, ◌∙◌, cond, append-nil, Ordering, Less, Equal, Greater, nat_cmp}
+use Rattle.std.proofs.lemmas.Bool.{or_parts}
+use Rattle.std.proofs.Common.{None, Some, Result, Ok, Err, codes, ◌≡◌, ℕ, ◌+◌, ◌<◌, Bool, true, false, not, ◌||◌, List, [], ◌∷◌, ◌++◌, length, take, get_or, map, refl, ap, ap₂, sym, ◌∙◌, cond, append-nil, Ordering, Less, Equal, Greater, nat_cmp}
 use Rattle.std.specs.Borrow.{Bor}
 use Rattle.std.specs.Prelude.{filter}
 use Rattle.std.specs.BTreeSet.{insert_key}
@@ -9,16 +9,14 @@ use Rattle.std.specs.List.{flat_map, list_any}
 use Rattle.std.specs.Ordering.{match_ordering}
 use Rattle.std.proofs.lemmas.List.{map-append, take_more}
 use Rattle.std.proofs.lemmas.List.Elements.{filter-append}
-use Rattle.std.proofs.lemmas.List.Folds.{list_any-append}
 use Rattle.std.proofs.lemmas.List.Sums.{fold-append}
 use Rattle.sv_text.specs.Gives.{GivesAnswer}
 use Rattle.sv_text.specs.declared.no_memory.NoMemory.{NoMemory}
-use Rattle.sv_constraints.specs.Covering.{all_patterns, covering, covers, lists}
+use Rattle.sv_constraints.specs.Covering.{all_patterns, covers, lists}
 use Rattle.sv_constraints.specs.declared.constraint.Collection.{Collection}
 use Rattle.sv_constraints.specs.declared.constraint.Constraint.{Constraint}
 use Rattle.sv_constraints.specs.declared.constraint.Methods.{Methods}
 use Rattle.sv_constraints.specs.declared.constraint.Rules.{Rules}
-use Rattle.sv_policy.proofs.Joined.{seen_more}
 use Rattle.sv_policy.proofs.Listed.{covers_listed, filter_within}
 use Rattle.sv_policy.specs.Covering.{collection_covers_unnamed, covers_at, covers_unnamed, leaves_others_open, listed_methods, method_names, named_methods}
 use Rattle.sv_policy.specs.Patterns.{lists_pattern}

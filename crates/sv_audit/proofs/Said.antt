@@ -1,6 +1,6 @@
 -- The access says what the verdict is.
 use Rattle.std.proofs.lemmas.Bool.{false≢true}
-use Rattle.std.proofs.Common.{arith, ◌≡◌, ℕ, Bool, true, false, not, ◌||◌, ◌&&◌, List, [], ◌∷◌, ◌++◌, length, map, refl, ap, ap₂, sym, ◌∙◌, cond, Option, None, Some, is_none, codes, ◌==◌}
+use Rattle.std.proofs.Common.{◌≡◌, ℕ, Bool, true, false, not, ◌||◌, List, [], ◌∷◌, length, refl, ap, ap₂, sym, ◌∙◌, cond, Option, None, Some, is_none, ◌==◌}
 use Rattle.std.specs.Cmp.{both_ways}
 use Rattle.std.specs.List.{flat_map, list_any}
 use Rattle.std.specs.Str.{bytes_eq}
@@ -24,7 +24,7 @@ use Rattle.sv_policy.specs.Uncovered.{rising}
 use Rattle.sv_audit.specs.Access.{access_at, roles_meant, roles_of, uncovered_access}
 use Rattle.sv_audit.specs.Reading.{kind_and_cause, said_to}
 use Rattle.sv_audit.specs.declared.access.Access.{Access}
-use Rattle.sv_audit.specs.declared.access.Access.TheVariants.{Unconstrained, Uncovered, UncoveredDenied, Precluded, NeedsTls, Everyone, AnyLogin, Roles}
+use Rattle.sv_audit.specs.declared.access.Access.TheVariants.{Uncovered, UncoveredDenied, Precluded, NeedsTls, Everyone, AnyLogin, Roles}
 
 or_right : (a b : Bool) → b ≡ true → (a || b) ≡ true
 or_right true b h = refl

@@ -1,5 +1,5 @@
 -- The rows of an access table (Jakarta Servlet 6.0, sections 12.1 and 13.8).
-use Rattle.std.specs.Prelude.{ℕ, Bool, not, ◌||◌, List, [], ◌∷◌, ◌++◌, filter, map, codes, Option, None, Some, if◌then◌else◌}
+use Rattle.std.specs.Prelude.{ℕ, Bool, not, ◌||◌, List, [], ◌∷◌, ◌++◌, filter, map, codes, None, Some, if◌then◌else◌}
 use Rattle.sv_mapping.specs.Pattern.{is_extension_pattern}
 use Rattle.sv_constraints.specs.Covering.{all_patterns, covering, lists}
 use Rattle.sv_constraints.specs.declared.constraint.Constraint.{Constraint}

@@ -76,11 +76,7 @@ fn push_exception(
 }
 
 /// Returns a group for each different cell of the named methods, and one for all other methods.
-fn groups_of(
-    alloc: Global,
-    named: &[NamedCell],
-    others: Cell,
-) -> Result<Listed<Group>, NoMemory>
+fn groups_of(alloc: Global, named: &[NamedCell], others: Cell) -> Result<Listed<Group>, NoMemory>
     ensures { GivesAnswer result (groups_of named.now others) }
 {
     let mut groups = Vec::new(alloc);

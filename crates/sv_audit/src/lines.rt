@@ -90,7 +90,12 @@ fn push_context(text: &mut String, alloc: Global, context: &ContextTable) -> Res
     text.push_str(path.as_str())?;
     text.push_str("\n")?;
     push_title(text)?;
-    push_rows(text, alloc, context.has_login, context.table.rows.as_slice())?;
+    push_rows(
+        text,
+        alloc,
+        context.has_login,
+        context.table.rows.as_slice(),
+    )?;
     push_hidden(text)?;
     push_login(text, context.has_login)
 }
@@ -98,23 +103,29 @@ fn push_context(text: &mut String, alloc: Global, context: &ContextTable) -> Res
 fn push_title(text: &mut String) -> Result<(), NoMemory>
     ensures { OnOk result (string_bytes text.new ≡ string_bytes text.old ++ spec.title_line) }
 {
-    push_line(text, Columns {
-        pattern: "pattern",
-        methods: "methods",
-        who: "who may enter",
-        constraint: "constraint",
-    })
+    push_line(
+        text,
+        Columns {
+            pattern: "pattern",
+            methods: "methods",
+            who: "who may enter",
+            constraint: "constraint",
+        },
+    )
 }
 
 fn push_hidden(text: &mut String) -> Result<(), NoMemory>
     ensures { OnOk result (string_bytes text.new ≡ string_bytes text.old ++ spec.hidden_line) }
 {
-    push_line(text, Columns {
-        pattern: "/WEB-INF/*, /META-INF/*",
-        methods: "all",
-        who: "nobody (hidden)",
-        constraint: "-",
-    })
+    push_line(
+        text,
+        Columns {
+            pattern: "/WEB-INF/*, /META-INF/*",
+            methods: "all",
+            who: "nobody (hidden)",
+            constraint: "-",
+        },
+    )
 }
 
 fn push_login(text: &mut String, has_login: bool) -> Result<(), NoMemory>
@@ -123,12 +134,15 @@ fn push_login(text: &mut String, has_login: bool) -> Result<(), NoMemory>
     if !has_login {
         return Ok(());
     }
-    push_line(text, Columns {
-        pattern: "*/j_security_check",
-        methods: "POST",
-        who: "login post",
-        constraint: "-",
-    })
+    push_line(
+        text,
+        Columns {
+            pattern: "*/j_security_check",
+            methods: "POST",
+            who: "login post",
+            constraint: "-",
+        },
+    )
 }
 
 fn push_rows(
@@ -183,12 +197,15 @@ fn push_group(
     let methods = methods_text(alloc, &group.methods)?;
     let who = who_text(alloc, has_login, &group.cell.access)?;
     let constraint = number_text(alloc, group.cell.constraint)?;
-    push_line(text, Columns {
-        pattern,
-        methods: methods.as_str(),
-        who: who.as_str(),
-        constraint: constraint.as_str(),
-    })
+    push_line(
+        text,
+        Columns {
+            pattern,
+            methods: methods.as_str(),
+            who: who.as_str(),
+            constraint: constraint.as_str(),
+        },
+    )
 }
 
 #[tactic(auto, unfolding(crate::specs::Text::line_text))]

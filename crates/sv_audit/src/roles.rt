@@ -46,11 +46,7 @@ pub fn login_access(
 }
 
 /// Returns the roles that the constraints mean, in ascending byte order.
-fn roles_of(
-    alloc: Global,
-    rules: &Rules,
-    members: &[&Constraint],
-) -> Result<Listed<Text>, NoMemory>
+fn roles_of(alloc: Global, rules: &Rules, members: &[&Constraint]) -> Result<Listed<Text>, NoMemory>
     ensures { GivesAnswer result (roles_of rules.now (map (λ member. member.now) members.now)) }
 {
     let roles = all_roles(alloc, rules.declared.as_slice(), members)?;

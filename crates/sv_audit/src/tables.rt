@@ -25,11 +25,7 @@ use sv_text::{Listed, NoMemory};
 ///
 /// # Errors
 /// `NoMemory` if memory runs out.
-pub fn table_of(
-    alloc: Global,
-    constraints: &[Constraint],
-    rules: &Rules,
-) -> Result<Table, NoMemory>
+pub fn table_of(alloc: Global, constraints: &[Constraint], rules: &Rules) -> Result<Table, NoMemory>
     ensures { GivesAnswer result (table_of constraints.now rules.now) }
 {
     let patterns = in_row_order(alloc, constraints)?;
@@ -134,11 +130,7 @@ fn row_among(
 }
 
 /// Appends the row of the paths that no pattern matches, unless each path matches one of the patterns.
-fn push_other_paths(
-    rows: &mut Vec<Row>,
-    alloc: Global,
-    patterns: &[&str],
-) -> Result<(), NoMemory>
+fn push_other_paths(rows: &mut Vec<Row>, alloc: Global, patterns: &[&str]) -> Result<(), NoMemory>
     ensures { OnOk result (rows.new.items ≡ rows.old.items ++ (if match_every_path (map (λ pattern. pattern.now) patterns.now) then [] else other_paths ∷ [])) }
 {
     if match_every_path(patterns) {

@@ -209,7 +209,11 @@ fn enters(has_login: bool, access: &Access) -> &'static str
         Access::NeedsTls => "tls",
         Access::Everyone => "everyone",
         Access::AnyLogin => by_login(has_login, "any-login", "nobody"),
-        Access::Roles(roles) => role_word(roles.as_slice(), "nobody", by_login(has_login, "roles", "nobody")),
+        Access::Roles(roles) => role_word(
+            roles.as_slice(),
+            "nobody",
+            by_login(has_login, "roles", "nobody"),
+        ),
     }
 }
 
@@ -225,7 +229,11 @@ fn because(has_login: bool, access: &Access) -> &'static str
         Access::NeedsTls => "transport",
         Access::Everyone => "open",
         Access::AnyLogin => by_login(has_login, "login", "no-login"),
-        Access::Roles(roles) => role_word(roles.as_slice(), "no-role", by_login(has_login, "role", "no-login")),
+        Access::Roles(roles) => role_word(
+            roles.as_slice(),
+            "no-role",
+            by_login(has_login, "role", "no-login"),
+        ),
     }
 }
 

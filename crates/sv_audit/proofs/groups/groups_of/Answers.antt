@@ -1,10 +1,9 @@
-use Rattle.std.proofs.Common.{List, map, ap, ap₂, ◌∙◌, [], ◌∷◌, ◌++◌}
+use Rattle.std.proofs.Common.{map, ap, ap₂, ◌∙◌, [], ◌∷◌, ◌++◌}
 use Rattle.std.specs.Borrow.{Bor}
 use Rattle.std.proofs.lemmas.List.{take_all}
 use Rattle.sv_constraints.specs.declared.constraint.Methods.TheVariants.{Except}
 use Rattle.sv_audit.specs.Rows.{group_with, groups_of}
 use Rattle.sv_audit.specs.declared.access.Cell.{Cell}
-use Rattle.sv_audit.specs.declared.rows.Group.{Group}
 use Rattle.sv_audit.proofs.Made.{group_made}
 use Rattle.sv_audit.proofs.groups.groups_of.Goals as goal
 

@@ -1,4 +1,4 @@
-use Rattle.std.proofs.Common.{ℕ, List, ap, codes, map, sym, true, ◌||◌, ◌∙◌}
+use Rattle.std.proofs.Common.{ℕ, List, ap, codes, map, sym, ◌||◌, ◌∙◌}
 use Rattle.std.specs.Borrow.{Bor}
 use Rattle.std.specs.Str.{bytes_eq}
 use Rattle.sv_constraints.specs.Covering.{lists}

@@ -1,4 +1,4 @@
-use Rattle.std.proofs.Common.{[], List, map, ap, sym, ◌∙◌}
+use Rattle.std.proofs.Common.{[], map, ap, sym, ◌∙◌}
 use Rattle.std.specs.Borrow.{Bor}
 use Rattle.sv_constraints.specs.declared.constraint.Constraint.{Constraint}
 use Rattle.sv_audit.proofs.Made.{gives_along, row_of_all}

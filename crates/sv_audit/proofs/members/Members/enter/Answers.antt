@@ -1,5 +1,4 @@
-use Rattle.std.proofs.Common.{[], get_or}
-use Rattle.std.specs.Borrow.{Bor}
+use Rattle.std.proofs.Common.{[]}
 use Rattle.sv_constraints.specs.Covering.{patterns_in}
 use Rattle.sv_policy.specs.Groups.{members_in}
 use Rattle.sv_audit.proofs.Entered.{entered_all, entered_next}
