@@ -1,5 +1,5 @@
 -- The loop that collects the lines of uncovered methods.
-use Rattle.std.proofs.Common.{◌≡◌, ◌∙◌, ℕ, ◌+◌, ◌<◌, List, [], ◌∷◌, ◌++◌, flat_map, length, drop, get_or, drop-cons, add-one, Ok, Err, refl, suc, sym, ap, append_assoc}
+use Rattle.std.proofs.Common.{◌≡◌, ◌∙◌, ℕ, ◌+◌, ◌<◌, List, ◌∷◌, ◌++◌, flat_map, length, drop, get_or, drop-cons, add-one, Ok, Err, refl, suc, sym, ap, append_assoc}
 use Rattle.sv_text.specs.Steps.{◌>>=◌}
 use Rattle.sv_program.specs.Configuration.{Step, each}
 use Rattle.sv_program.specs.Uncovered.{context_lines, uncovered_lines}

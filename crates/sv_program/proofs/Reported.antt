@@ -2,14 +2,14 @@
 use Rattle.std.proofs.Common.{◌≡◌, ℕ, List, [], Ok, Err, refl, Option, Some, None, MatchOption, IsErrAnd}
 use Rattle.sv_descriptor.specs.Server.{located_server}
 use Rattle.sv_descriptor.specs.Descriptor.{located_descriptor}
-use Rattle.sv_program.specs.AccessReport.{access_text, context_table}
+use Rattle.sv_program.specs.AccessReport.{context_table}
 use Rattle.sv_program.specs.CommandFault.{command_fault}
 use Rattle.sv_program.specs.Configuration.{Step, descriptor_in, each, server_in, text_of}
 use Rattle.sv_program.specs.ConfigurationFiles.{ReadsServer}
 use Rattle.sv_program.specs.FileStore.{FileText, Giving}
 use Rattle.sv_program.specs.Printed.{FindsText}
 use Rattle.sv_program.specs.Report.{IsReported, report_for, report_text}
-use Rattle.sv_program.specs.Uncovered.{context_lines, uncovered_lines}
+use Rattle.sv_program.specs.Uncovered.{context_lines}
 use Rattle.sv_program.specs.declared.command_fault.CommandFault.{CommandFault}
 use Rattle.sv_program.specs.declared.configuration.ContextTexts.{ContextTexts}
 use Rattle.sv_program.specs.declared.report.Report.{Report}

@@ -1,6 +1,6 @@
 -- The report `uncovered`: the methods that security constraints leave uncovered (Jakarta Servlet 6.0,
 -- section 13.8.4).
-use Rattle.std.specs.Prelude.{◌≡◌, ℕ, List, [], ◌∷◌, ◌++◌, codes, flat_map, map, None, Ok}
+use Rattle.std.specs.Prelude.{ℕ, List, [], ◌∷◌, ◌++◌, codes, flat_map, Ok}
 use Rattle.sv_text.specs.Steps.{◌>>=◌}
 use Rattle.sv_constraints.specs.declared.constraint.Methods.{Methods}
 use Rattle.sv_constraints.specs.declared.constraint.Methods.TheVariants.{All, Only, Except}

@@ -81,11 +81,7 @@ fn without_users(
 }
 
 /// Returns the report on contexts whose descriptors have these texts.
-fn report_text(
-    alloc: Global,
-    texts: &[ContextTexts],
-    report: Report,
-) -> Result<Text, CommandFault>
+fn report_text(alloc: Global, texts: &[ContextTexts], report: Report) -> Result<Text, CommandFault>
     ensures { Gives command_fault result (spec.report_text report texts.now) }
 {
     match report {
