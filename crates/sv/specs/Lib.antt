@@ -15,3 +15,7 @@ pub mod Replay
 pub mod Serving
 pub mod ServerStart
 pub mod Site
+pub mod Near
+pub mod OptionFault
+pub mod Topics
+pub mod Usage

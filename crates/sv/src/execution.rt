@@ -5,12 +5,13 @@ ghost use Rattle.std.specs.Prelude.{◌≡◌, ◌≢◌, IfErr};
 ghost use Rattle.sv.specs.Execution.{ReadsFiles, RunsCommand, ServesNothing};
 
 use crate::command::Command;
+use crate::help_command::help;
 use crate::policy_command::policy;
 use crate::replay_command::replay;
 use crate::run_command::run;
 use crate::self_test_command::self_test;
 use crate::serve_command::serve;
-use crate::texts::{HELP, VERSION};
+use crate::texts::VERSION;
 use std::alloc::Global;
 use std::io::{Read, Write};
 use std::net::Net;
@@ -53,7 +54,7 @@ pub fn carry_out<
         }
         Command::Run(options) => run(alloc, store, host, writer, &options),
         Command::SelfTest { config } => self_test(alloc, store, host, writer, config),
-        Command::Help => print_text(writer, HELP),
+        Command::Help(topic) => help(alloc, writer, topic),
         Command::Version => print_text(writer, VERSION),
     }
 }
