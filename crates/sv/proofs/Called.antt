@@ -27,7 +27,7 @@ pub not_named : (word : List ℕ) → named word ≡ None → (topic : Topic) �
 not_named word none topic same = let Is : List ℕ → Type 0 = λ name. named name ≡ None in found topic (subst Is same none)
 
 -- a command is called by its name
-by_name : (word : List ℕ) (topic : Topic) → word ≡ topic_name topic → IsCalled word topic
+pub by_name : (word : List ℕ) (topic : Topic) → word ≡ topic_name topic → IsCalled word topic
 by_name word Help same = inl same
 by_name word Version same = inl same
 by_name word other same = same

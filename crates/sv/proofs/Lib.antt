@@ -11,4 +11,7 @@ pub mod Saying
 pub mod Setting
 pub mod Words
 pub mod Wrong
+pub mod OneLine
+pub mod Nearest
+pub mod OneTopic
 mod Policy

@@ -37,23 +37,6 @@ set_once Connections words more word options set = says_once _ words more word o
 set_once IdleSeconds words more word options set = says_once _ words more word options.idle_seconds set
 set_once HeldMebibytes words more word options set = says_once _ words more word options.held_mebibytes set
 
--- settings whose words begin with an option
-keyed_first : (key : Key) (after : List (List ℕ)) (more : List Setting) → key_word key ∷ after ≡ flat_map setting_words more
-    → (value : List ℕ) × (others : List Setting) × (after ≡ value ∷ flat_map setting_words others) × (more ≡ Keyed key value ∷ others)
-keyed_first key after [] same = absurd (some_word (key_word key) after (sym same))
-keyed_first key after (SameSeed ∷ more) same =
-    absurd (no_key_is_same_seed key (same_heads (key_word key) (codes "--same-seed") after (flat_map setting_words more) same).0)
-keyed_first key after (Keyed other value ∷ more) same =
-    let heads = same_heads (key_word key) (key_word other) after (value ∷ flat_map setting_words more) same in
-    (value, more, heads.1, ap (λ (own : Key). Keyed own value ∷ more) (key_word_injective other key (sym heads.0)))
-
-seed_first : (after : List (List ℕ)) (more : List Setting) → codes "--same-seed" ∷ after ≡ flat_map setting_words more
-    → (others : List Setting) × (more ≡ SameSeed ∷ others)
-seed_first after [] same = absurd (some_word (codes "--same-seed") after (sym same))
-seed_first after (SameSeed ∷ more) same = (more, refl)
-seed_first after (Keyed key value ∷ more) same =
-    absurd (no_key_is_same_seed key (sym (same_heads (codes "--same-seed") (key_word key) after (value ∷ flat_map setting_words more) same).0))
-
 -- the words after a key that is set again
 behind_keyed : (key : Key) (value : List ℕ) (done more : List Setting)
     → words_behind key (done ++ Keyed key value ∷ more) ≡ words_behind key done ++ (value ∷ words_behind key more)
@@ -79,34 +62,53 @@ one_seed true (first ∷ second ∷ done) more is = cc
 one_seed false (first ∷ done) more is = cc
 
 module _ (done : List Setting) (asked : RunOptions) where
+  -- words with a fault do not begin with one more setting
+  pub not_next : (words : List (List ℕ)) (fault : OptionFault) → IsWrong done words fault → (setting : Setting) (more : List Setting) (rest : List (List ℕ))
+      → words ≡ setting_words setting ++ rest → AreSet (done ++ setting ∷ more) asked → ⊥
+  not_next words NoServer wrong setting more rest same sets = wrong
+  not_next words (Unknown word) (after, is, other) (Keyed key value) more rest same sets =
+      other (Keyed key value) (same_heads word.now (key_word key) after (value ∷ rest) (sym is ∙ same)).0
+  not_next words (Unknown word) (after, is, other) SameSeed more rest same sets =
+      other SameSeed (same_heads word.now (codes "--same-seed") after rest (sym is ∙ same)).0
+  not_next words (Twice key) (after, is, given) (Keyed other value) more rest same sets =
+      let own = key_word_injective other key (sym (same_heads (key_word key) (key_word other) after (value ∷ rest) (sym is ∙ same)).0) in
+      let Are : Key → Type 0 = λ first. AreSet (done ++ Keyed first value ∷ more) asked in
+      given (keyed_once key value done more asked (subst Are own sets)).0
+  not_next words (Twice key) (after, is, given) SameSeed more rest same sets =
+      no_key_is_same_seed key (same_heads (key_word key) (codes "--same-seed") after rest (sym is ∙ same)).0
+  not_next words SameSeedTwice (after, is, given) (Keyed key value) more rest same sets =
+      no_key_is_same_seed key (sym (same_heads (codes "--same-seed") (key_word key) after (value ∷ rest) (sym is ∙ same)).0)
+  not_next words SameSeedTwice (after, is, given) SameSeed more rest same sets =
+      given (one_seed asked.same_seed (filter is_same_seed done) (filter is_same_seed more)
+      (sym (filter-append is_same_seed done (SameSeed ∷ more)) ∙ sets.1))
+  not_next words (NoValue key) (is, free) (Keyed other value) more rest same sets =
+      some_word value rest (same_heads (key_word key) (key_word other) [] (value ∷ rest) (sym is ∙ same)).1
+  not_next words (NoValue key) (is, free) SameSeed more rest same sets =
+      no_key_is_same_seed key (same_heads (key_word key) (codes "--same-seed") [] rest (sym is ∙ same)).0
+  not_next words (BadValue key value) (after, is, free, bad) (Keyed other word) more rest same sets =
+      let heads = same_heads (key_word key) (key_word other) (value.now ∷ after) (word ∷ rest) (sym is ∙ same) in
+      let own = key_word_injective other key (sym heads.0) in
+      let Are : Key → Type 0 = λ first. AreSet (done ++ Keyed first word ∷ more) asked in
+      let Is : List ℕ → Type 0 = λ given. IsSet key (given ∷ []) asked in
+      bad asked (subst Is (sym (same_heads value.now word after rest heads.1).0) (keyed_once key word done more asked (subst Are own sets)).1)
+  not_next words (BadValue key value) (after, is, free, bad) SameSeed more rest same sets =
+      no_key_is_same_seed key (same_heads (key_word key) (codes "--same-seed") (value.now ∷ after) rest (sym is ∙ same)).0
+
+  none_wrong : (words : List (List ℕ)) (fault : OptionFault) → IsWrong done words fault → words ≡ [] → ⊥
+  none_wrong words NoServer wrong none = wrong
+  none_wrong words (Unknown word) (after, is, other) none = some_word word.now after (sym none ∙ is)
+  none_wrong words (Twice key) (after, is, given) none = some_word (key_word key) after (sym none ∙ is)
+  none_wrong words SameSeedTwice (after, is, given) none = some_word (codes "--same-seed") after (sym none ∙ is)
+  none_wrong words (NoValue key) (is, free) none = some_word (key_word key) [] (sym none ∙ is)
+  none_wrong words (BadValue key value) (after, is, free, bad) none = some_word (key_word key) (value.now ∷ after) (sym none ∙ is)
+
   -- words with a fault are not those of further settings
   not_more : (words : List (List ℕ)) (fault : OptionFault) → IsWrong done words fault → (more : List Setting) → words ≡ flat_map setting_words more
       → AreSet (done ++ more) asked → ⊥
-  not_more words NoServer wrong more same sets = wrong
-  not_more words (Unknown word) (after, is, other) [] same sets = some_word word.now after (sym (sym is ∙ same))
-  not_more words (Unknown word) (after, is, other) (Keyed key value ∷ more) same sets =
-      other (Keyed key value) (same_heads word.now (key_word key) after (value ∷ flat_map setting_words more) (sym is ∙ same)).0
-  not_more words (Unknown word) (after, is, other) (SameSeed ∷ more) same sets =
-      other SameSeed (same_heads word.now (codes "--same-seed") after (flat_map setting_words more) (sym is ∙ same)).0
-  not_more words (Twice key) (after, is, given) more same sets =
-      let first = keyed_first key after more (sym is ∙ same) in
-      let Are : List Setting → Type 0 = λ settings. AreSet (done ++ settings) asked in
-      given (keyed_once key first.0 done first.1 asked (subst Are first.3 sets)).0
-  not_more words SameSeedTwice (after, is, given) more same sets =
-      let first = seed_first after more (sym is ∙ same) in
-      let Are : List Setting → Type 0 = λ settings. AreSet (done ++ settings) asked in
-      given (one_seed asked.same_seed (filter is_same_seed done) (filter is_same_seed first.0)
-      (sym (filter-append is_same_seed done (SameSeed ∷ first.0)) ∙ (subst Are first.1 sets).1))
-  not_more words (NoValue key) (is, free) more same sets =
-      let first = keyed_first key [] more (sym is ∙ same) in some_word first.0 (flat_map setting_words first.1) first.2
-  not_more words (BadValue key value) (after, is, free, bad) more same sets =
-      let first = keyed_first key (value.now ∷ after) more (sym is ∙ same) in
-      let Are : List Setting → Type 0 = λ settings. AreSet (done ++ settings) asked in
-      let Is : List ℕ → Type 0 = λ word. IsSet key (word ∷ []) asked in
-      let word : first.0 ≡ value.now = sym (same_heads value.now first.0 after (flat_map setting_words first.1) first.2).0 in
-      bad asked (subst Is word (keyed_once key first.0 done first.1 asked (subst Are first.3 sets)).1)
+  not_more words fault wrong [] same sets = none_wrong words fault wrong same
+  not_more words fault wrong (setting ∷ more) same sets = not_next words fault wrong setting more (flat_map setting_words more) same sets
 
-abbrev IsStopped : List (List ℕ) → OptionFault → Type 0
+abbrev pub IsStopped : List (List ℕ) → OptionFault → Type 0
 IsStopped arguments fault =
     (options : RunOptions) × (settings : List Setting) × (rest : List (List ℕ))
     × (arguments ≡ options.config.now ∷ (flat_map setting_words settings ++ rest)) × AreSet settings options × IsWrong settings rest fault

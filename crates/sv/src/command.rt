@@ -2,6 +2,7 @@
 
 ghost use Rattle.std.specs.Prelude.{◌≡◌, ◌↔◌, [], ◌∷◌, true, IfSome, IsSome, codes, map, string_bytes};
 ghost use Rattle.sv.specs.Command.{AreWordsOf, AskAbout, AskForHelp, IsNamed};
+ghost use Rattle.sv.specs.Laws.{NameOne};
 ghost use Rattle.sv.specs.Topics.{IsCalled};
 ghost use Rattle.sv.specs.Values.{Finds};
 ghost use Rattle.sv_program.specs.Arguments.{Names, name_words};
@@ -171,3 +172,8 @@ fn alone<'a>(arguments: &[String], command: Command<'a>) -> Option<Command<'a>>
         None
     }
 }
+
+/// Arguments name only one command, or help on only one topic.
+pub fn arguments_name_one_command()
+    ensures { NameOne }
+{}

@@ -2,6 +2,7 @@
 
 ghost use Rattle.std.specs.Prelude.{◌≡◌, IfOk, map, nat_eq, option_copied};
 ghost use Rattle.std.specs.List.{find};
+ghost use Rattle.sv.specs.Laws.{NearIsNearest, OthersAreFar};
 ghost use Rattle.sv.specs.Near as spec;
 
 use std::alloc::Global;
@@ -48,3 +49,10 @@ fn name_at<'a>(
     }
     Ok(None)
 }
+
+/// A near name is among the names, at most two edits away, and no name is nearer. If there is none, all names are
+/// further away, or the word is empty.
+pub fn a_near_name_is_the_nearest()
+    ensures near { NearIsNearest }
+    ensures far { OthersAreFar }
+{}

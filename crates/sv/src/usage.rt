@@ -2,6 +2,7 @@
 
 ghost use Rattle.std.specs.Prelude.{◌≡◌, ◌++◌, IfOk, codes, map, option_copied, string_bytes};
 ghost use Rattle.sv.specs.Command.{NameNothing};
+ghost use Rattle.sv.specs.Laws.{HaveOneLine};
 ghost use Rattle.sv.specs.Near.{near};
 ghost use Rattle.sv.specs.Options.{IsAsked};
 ghost use Rattle.sv.specs.Settings.{key_word};
@@ -166,3 +167,8 @@ fn bad_value_line(alloc: Global, key: Key, value: &str) -> Result<Text, NoMemory
     let value = quoted(alloc, value)?;
     Ok(Text::from_string(format!(in alloc; "{needs}, not {value}")?))
 }
+
+/// Arguments that name no command have only one second line.
+pub fn wrong_arguments_have_one_line()
+    ensures { HaveOneLine }
+{}
