@@ -1,10 +1,9 @@
 -- The arguments read so far.
-use Rattle.std.proofs.Common.{◌≡◌, ℕ, List, [], ◌∷◌, ◌++◌, map, sym, ap, subst, ◌∙◌, append-nil, append_assoc}
+use Rattle.std.proofs.Common.{◌≡◌, ℕ, List, [], ◌∷◌, ◌++◌, map, sym, ap, ◌∙◌, append-nil, append_assoc}
 use denote.Ref.{Bor}
 use Rattle.std.proofs.lemmas.Grind.{flat_map-append}
 use Rattle.std.specs.List.{flat_map}
-use Rattle.sv.proofs.Decoding.{same_heads, split}
-use Rattle.sv.specs.Options.{AreSet, IsAsked}
+use Rattle.sv.specs.Options.{AreSet}
 use Rattle.sv.specs.Reading.{IsRead}
 use Rattle.sv.specs.Settings.{Setting, setting_words}
 use Rattle.sv.specs.declared.run_options.RunOptions.{RunOptions}
@@ -31,17 +30,6 @@ goes_on arguments words rest before after reached read = (
       ∙ ap (λ (name : Bor (List ℕ)). name.now ∷ (flat_map setting_words (reached.0 ++ read.0 ∷ []) ++ rest)) (sym read.2),
   read.3 reached.0 reached.2,
 )
-
--- if the arguments are valid, the next word is read
-pub is_read : (Told : Type 0) (arguments words : List (List ℕ)) (before asked : RunOptions) → IsReached arguments before words → IsAsked arguments asked
-    → ((done more : List Setting) (any : RunOptions) → AreSet done before → words ≡ flat_map setting_words more → AreSet (done ++ more) any → Told)
-    → Told
-is_read Told arguments words before asked reached is finds =
-    let all : flat_map setting_words is.0 ≡ flat_map setting_words reached.0 ++ words =
-    (same_heads asked.config.now before.config.now (flat_map setting_words is.0) (flat_map setting_words reached.0 ++ words) (sym is.1 ∙ reached.1)).1 in
-    let cut = split reached.0 is.0 words all in
-    let Are : List Setting → Type 0 = λ settings. AreSet settings asked in
-    finds reached.0 cut.0 asked reached.2 cut.2 (subst Are cut.1 is.2)
 
 -- the words of items after the first one
 pub behind_is : {A : Type 0} (text : A → List ℕ) (items : List A) (x : A) (rest : List A) (seen : List ℕ) → items ≡ x ∷ rest → seen ≡ text x

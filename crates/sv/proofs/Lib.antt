@@ -1,8 +1,17 @@
+pub mod Called
 pub mod Decoding
+pub mod Finding
 pub mod Going
+pub mod Joining
+pub mod Lines
 pub mod Naming
 pub mod Numbers
 pub mod One
 pub mod Saying
 pub mod Setting
+pub mod Words
+pub mod Wrong
+pub mod OneLine
+pub mod Nearest
+pub mod OneTopic
 mod Policy

@@ -1,28 +1,60 @@
--- Arguments that name the command `run`.
-use Rattle.std.proofs.Common.{ℕ, List, ◌∷◌, Some, None, codes, refl, sym, ap, subst, drop, true≢false}
-use Rattle.sv.specs.Command.{IsNamed}
+-- Arguments that name a command.
+use Rattle.std.proofs.Common.{◌≡◌, ℕ, List, ◌∷◌, Option, Some, None, codes, inl, inr, refl, sym, ap, subst, drop, ◌∙◌}
+use Rattle.sv.proofs.Decoding.{same_heads}
+use Rattle.sv.specs.Command.{AreWordsOf, AskForHelp, IsNamed}
 use Rattle.sv.specs.declared.command.Command.{Command}
-use Rattle.sv.specs.declared.command.Command.TheVariants.{First, Policy, Uncovered, Replay, Serve, Run, SelfTest, Help, Version}
+use Rattle.sv.specs.declared.command.Command.TheVariants.{First, Policy, Uncovered, Audit, Replay, Serve, Run, SelfTest, Help, Version}
+use Rattle.sv.specs.declared.topic.Topic.{Topic}
+use Rattle.sv.specs.declared.topic.Topic.TheVariants as topic
 use Rattle.sv.specs.Options.{IsAsked}
+use Rattle.sv.specs.Topics.{IsCalled, topic_name}
 use Rattle.sv.specs.Values.{Finds}
 use Rattle.sv.specs.declared.run_options.RunOptions.{RunOptions}
 
 module _ (words : List (List ℕ)) where
   -- no other command has these arguments
-  only_run : ((any : RunOptions) → IsAsked words any → ⊥) → (command : Command) → IsNamed (codes "run" ∷ words) command → ⊥
-  only_run none (First deny) named = cc
-  only_run none (Policy question) named = cc
-  only_run none (Uncovered config) named = cc
-  only_run none (Replay config) named = cc
-  only_run none (Serve service) named = cc
+  pub only_run : ((any : RunOptions) → IsAsked words any → ⊥) → (command : Command) → AreWordsOf (codes "run" ∷ words) command → ⊥
+  only_run none (First deny) is = cc
+  only_run none (Policy question) is = cc
+  only_run none (Uncovered config) is = cc
+  only_run none (Audit config options) is = cc
+  only_run none (Replay config) is = cc
+  only_run none (Serve service) is = cc
   only_run none (Run options) (rest, same, asked) =
       none options (subst (λ w. IsAsked w options) (sym (ap (drop 1) same)) asked)
-  only_run none (SelfTest config) named = cc
-  only_run none Help named = cc
-  only_run none Version named = cc
+  only_run none (SelfTest config) is = cc
+  only_run none (Help about) is = is
+  only_run none Version (word, same, inl is) = cc
+  only_run none Version (word, same, inr is) = cc
 
-  pub none_named : Finds (IsAsked words) None → Finds (IsNamed (codes "run" ∷ words)) None
-  none_named found = (tt, λ any named. absurd (only_run (λ options asked. true≢false (sym (found.1 options asked))) any named))
+module _ (word : List ℕ) (rest words : List (List ℕ)) (same : words ≡ word ∷ rest) (none : (topic : Topic) → IsCalled word topic → ⊥) where
+  begins : (name : List ℕ) (others : List (List ℕ)) → words ≡ name ∷ others → word ≡ name
+  begins name others is = (same_heads word name rest others (sym same ∙ is)).0
 
-  pub run_named : (options : RunOptions) → Finds (IsAsked words) (Some options) → Finds (IsNamed (codes "run" ∷ words)) (Some (Run options))
-  run_named options found = ((words, refl, found.0), λ any named. refl)
+  -- the words of a command begin with one that calls it
+  pub not_called : (command : Command) → AreWordsOf words command → ⊥
+  not_called (First deny) is = none topic.First (begins (topic_name topic.First) _ is)
+  not_called (Policy question) is = none topic.Policy (begins (topic_name topic.Policy) _ is)
+  not_called (Uncovered config) is = none topic.Uncovered (begins (topic_name topic.Uncovered) _ is)
+  not_called (Audit config options) is = none topic.Audit (begins (topic_name topic.Audit) _ is)
+  not_called (Replay config) is = none topic.Replay (begins (topic_name topic.Replay) _ is)
+  not_called (Serve service) is = none topic.Serve (begins (topic_name topic.Serve) _ is)
+  not_called (Run options) is = none topic.Run (begins (topic_name topic.Run) is.0 is.1)
+  not_called (SelfTest config) is = none topic.SelfTest (begins (topic_name topic.SelfTest) _ is)
+  not_called (Help about) is = is
+  not_called Version (only, is, calls) =
+      let Calls : List ℕ → Type 0 = λ name. IsCalled name topic.Version in none topic.Version (subst Calls (sym (begins only _ is)) calls)
+
+module _ (words : List (List ℕ)) (no_help : (about : Option Topic) → AskForHelp words about → ⊥) where
+  no_other : (command : Command) → IsNamed words command → AreWordsOf words command
+  no_other (Help about) named = no_help about named
+  no_other other named = named.0
+
+  is_named : (command : Command) → AreWordsOf words command → IsNamed words command
+  is_named (Help about) is = absurd is
+  is_named other is = (is, no_help)
+
+  -- arguments that ask for no help name the command whose words they are
+  pub named_by_words : (found : Option Command) → Finds (AreWordsOf words) found → Finds (IsNamed words) found
+  named_by_words None finds = (tt, λ any named. finds.1 any (no_other any named))
+  named_by_words (Some command) finds = (is_named command finds.0, λ any named. refl)

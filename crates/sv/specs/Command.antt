@@ -1,10 +1,14 @@
 -- The command that arguments name.
-use Rattle.std.specs.Prelude.{◌≡◌, ℕ, List, [], ◌∷◌, codes}
+use Rattle.std.specs.Prelude.{◌≡◌, ℕ, ◌⊎◌, List, [], ◌∷◌, codes, Option, Some, None}
+use Rattle.sv.specs.AuditOptions.{option_words}
 use Rattle.sv.specs.Options.{IsAsked}
 use Rattle.sv.specs.Question.{question_words}
 use Rattle.sv.specs.Service.{service_words}
+use Rattle.sv.specs.Topics.{IsCalled, IsHelpOption, topic_name}
 use Rattle.sv.specs.declared.command.Command.{Command}
-use Rattle.sv.specs.declared.command.Command.TheVariants.{First, Policy, Uncovered, Replay, Serve, Run, SelfTest, Help, Version}
+use Rattle.sv.specs.declared.command.Command.TheVariants.{First, Policy, Uncovered, Audit, Replay, Serve, Run, SelfTest, Help, Version}
+use Rattle.sv.specs.declared.topic.Topic.{Topic}
+use Rattle.sv.specs.declared.topic.Topic.TheVariants as topic
 use Rattle.sv_program.specs.Arguments.{name_words}
 use Rattle.sv_program.specs.FirstLine.{first_options}
 
@@ -12,14 +16,37 @@ use Rattle.sv_program.specs.FirstLine.{first_options}
 abbrev pub IsBehind : {A : Type 0} → List ℕ → (List (List ℕ) → A → Type 0) → List (List ℕ) → A → Type 0
 IsBehind word asks arguments asked = (rest : List (List ℕ)) × (arguments ≡ word ∷ rest) × asks rest asked
 
--- the arguments name the command
+-- the only argument calls the command
+abbrev pub IsAlone : List (List ℕ) → Topic → Type 0
+IsAlone arguments topic = (word : List ℕ) × (arguments ≡ word ∷ []) × IsCalled word topic
+
+-- `help` and the name of a command, or the name and an option for help
+abbrev pub AskAbout : List ℕ → List ℕ → Topic → Type 0
+AskAbout word next topic = ((word ≡ codes "help") × (next ≡ topic_name topic)) ⊎ ((word ≡ topic_name topic) × IsHelpOption next)
+
+-- the arguments ask for help on all commands or on one
+abbrev pub AskForHelp : List (List ℕ) → Option Topic → Type 0
+AskForHelp arguments None = IsAlone arguments topic.Help
+AskForHelp arguments (Some about) = (word next : List ℕ) × (arguments ≡ word ∷ next ∷ []) × AskAbout word next about
+
+-- the arguments are the words of a command other than `help`
+abbrev pub AreWordsOf : List (List ℕ) → Command → Type 0
+AreWordsOf arguments (First deny_uncovered) = arguments ≡ codes "first" ∷ first_options deny_uncovered
+AreWordsOf arguments (Policy question) = arguments ≡ codes "policy" ∷ question_words question
+AreWordsOf arguments (Uncovered config) = arguments ≡ codes "uncovered" ∷ name_words config
+AreWordsOf arguments (Audit config options) = arguments ≡ codes "audit" ∷ config.now ∷ option_words options
+AreWordsOf arguments (Replay config) = arguments ≡ codes "replay" ∷ name_words config
+AreWordsOf arguments (Serve service) = arguments ≡ codes "serve" ∷ service_words service
+AreWordsOf arguments (Run options) = IsBehind (codes "run") IsAsked arguments options
+AreWordsOf arguments (SelfTest config) = arguments ≡ codes "selftest" ∷ name_words config
+AreWordsOf arguments (Help about) = ⊥
+AreWordsOf arguments Version = IsAlone arguments topic.Version
+
+-- the arguments name the command: if they ask for help, they name no other
 abbrev pub IsNamed : List (List ℕ) → Command → Type 0
-IsNamed arguments (First deny_uncovered) = arguments ≡ codes "first" ∷ first_options deny_uncovered
-IsNamed arguments (Policy question) = arguments ≡ codes "policy" ∷ question_words question
-IsNamed arguments (Uncovered config) = arguments ≡ codes "uncovered" ∷ name_words config
-IsNamed arguments (Replay config) = arguments ≡ codes "replay" ∷ name_words config
-IsNamed arguments (Serve service) = arguments ≡ codes "serve" ∷ service_words service
-IsNamed arguments (Run options) = IsBehind (codes "run") IsAsked arguments options
-IsNamed arguments (SelfTest config) = arguments ≡ codes "selftest" ∷ name_words config
-IsNamed arguments Help = arguments ≡ codes "help" ∷ []
-IsNamed arguments Version = arguments ≡ codes "version" ∷ []
+IsNamed arguments (Help about) = AskForHelp arguments about
+IsNamed arguments command = AreWordsOf arguments command × ((about : Option Topic) → AskForHelp arguments about → ⊥)
+
+-- the arguments name no command
+abbrev pub NameNothing : List (List ℕ) → Type 0
+NameNothing arguments = (command : Command) → IsNamed arguments command → ⊥

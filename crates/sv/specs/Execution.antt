@@ -4,19 +4,23 @@ use Rattle.sv_deployments.specs.declared.program_filter.ProgramFilter.{ProgramFi
 use Rattle.sv_deployments.specs.declared.program_listener.ProgramListener.{ProgramListener}
 use Rattle.sv_deployments.specs.declared.program_servlet.ProgramServlet.{ProgramServlet}
 use Rattle.sv_component.specs.Steps.{ComponentSteps}
+use Rattle.sv_program.specs.CommandFault.{UnlessNoMemory}
 use Rattle.sv_program.specs.FileStore.{Giving}
 use Rattle.sv_program.specs.FirstLine.{RunsFirst}
 use Rattle.sv_program.specs.Printed.{Prints}
-use Rattle.sv_program.specs.Uncovered.{AreLines}
+use Rattle.sv_program.specs.Report.{IsReported}
 use Rattle.sv_program.specs.declared.command_fault.CommandFault.{CommandFault}
+use Rattle.sv_program.specs.declared.report.Report.TheVariants as report
 use Rattle.sv_deployments.specs.Configuration.{FindsConfiguration}
 use Rattle.sv_deployments.specs.Folders.{FolderGiving}
 use Rattle.sv_deployments.specs.declared.configuration.Configuration.{Configuration}
+use Rattle.sv.specs.AuditOptions.{access_options}
 use Rattle.sv.specs.Policy.{RunsPolicy}
 use Rattle.sv.specs.Printed.{Shows}
+use Rattle.sv.specs.Topics.{help_text}
 use Rattle.sv.specs.declared.command.Command.{Command}
-use Rattle.sv.specs.declared.command.Command.TheVariants.{First, Policy, Uncovered, Replay, Serve, Run, SelfTest, Help, Version}
-use Rattle.sv.specs.declared.texts.TheConstants.{HELP, VERSION}
+use Rattle.sv.specs.declared.command.Command.TheVariants.{First, Policy, Uncovered, Audit, Replay, Serve, Run, SelfTest, Help, Version}
+use Rattle.sv.specs.declared.texts.TheConstants.{VERSION}
 
 -- a fault in reading a server's files and folders is the command's fault
 abbrev pub EndsByFiles : Result Configuration CommandFault → Result (Unit {0}) CommandFault → Type 0
@@ -41,10 +45,12 @@ module _ (moving : ComponentSteps ProgramServlet ProgramFilter ProgramListener) 
   abbrev pub RunsCommand : {S : Type 0} → Giving S → FolderGiving S → Command → Result (Unit {0}) CommandFault → S → S → Option (List ℕ) → Option (List ℕ) → Option (List ℕ) → Type 0
   RunsCommand gives files (First deny_uncovered) result before after stream old new = (after ≡ before) × RunsFirst deny_uncovered result stream old new
   RunsCommand gives files (Policy question) result before after stream old new = RunsPolicy moving gives files question result before after old new
-  RunsCommand gives files (Uncovered config) result before after stream old new = Prints (AreLines gives config.now) result before after old new
+  RunsCommand gives files (Uncovered config) result before after stream old new = Prints (IsReported gives report.Uncovered config.now) result before after old new
+  RunsCommand gives files (Audit config options) result before after stream old new =
+      Prints (IsReported gives (report.Access (access_options options)) config.now) result before after old new
   RunsCommand gives files (Replay config) result before after stream old new = ReadsFiles gives files config.now result before after
   RunsCommand gives files (Serve service) result before after stream old new = ReadsFiles gives files service.config.now result before after
   RunsCommand gives files (Run options) result before after stream old new = ReadsFiles gives files options.config.now result before after
   RunsCommand gives files (SelfTest config) result before after stream old new = ReadsFiles gives files config.now result before after
-  RunsCommand gives files Help result before after stream old new = (after ≡ before) × Shows HELP.now result old new
+  RunsCommand gives files (Help topic) result before after stream old new = (after ≡ before) × UnlessNoMemory result (Shows (help_text topic) result old new)
   RunsCommand gives files Version result before after stream old new = (after ≡ before) × Shows VERSION.now result old new

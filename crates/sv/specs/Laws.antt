@@ -1,6 +1,14 @@
 -- Laws of the meaning of arguments.
-use Rattle.std.specs.Prelude.{◌≡◌, ℕ, List, option_copied}
+use Rattle.std.specs.Prelude.{◌≡◌, ◌≢◌, ◌<◌, ◌≤◌, ℕ, List, [], Some, None, option_copied}
+use Rattle.std.specs.List.{All, Contains}
+use Rattle.sv.specs.Command.{IsNamed}
+use Rattle.sv.specs.Near.{distance, near}
 use Rattle.sv.specs.Options.{IsAsked}
+use Rattle.sv.specs.Usage.{IsUsageLine}
+use Rattle.sv.specs.declared.command.Command.{Command}
+use Rattle.sv.specs.declared.command.Command.TheVariants.{First, Policy, Uncovered, Audit, Replay, Serve, Run, SelfTest, Help, Version}
+use Rattle.sv.specs.declared.topic.Topic.{Topic}
+use Rattle.sv.specs.declared.topic.Topic.TheVariants as topic
 use Rattle.sv.specs.declared.run_options.RunOptions.{RunOptions}
 
 -- the same names, address and numbers
@@ -12,3 +20,37 @@ AreSame one other =
 
 abbrev pub AskForOne : Type 0
 AskForOne = (arguments : List (List ℕ)) (one other : RunOptions) → IsAsked arguments one → IsAsked arguments other → AreSame one other
+
+-- the topic of a command
+abbrev pub topic_of : Command → Topic
+topic_of (First deny_uncovered) = topic.First
+topic_of (Policy question) = topic.Policy
+topic_of (Uncovered config) = topic.Uncovered
+topic_of (Audit config options) = topic.Audit
+topic_of (Replay config) = topic.Replay
+topic_of (Serve service) = topic.Serve
+topic_of (Run options) = topic.Run
+topic_of (SelfTest config) = topic.SelfTest
+topic_of (Help about) = topic.Help
+topic_of Version = topic.Version
+
+-- two commands of the same name, or the same help
+abbrev pub AreAlike : Command → Command → Type 0
+AreAlike (Help about) (Help other) = about ≡ other
+AreAlike one other = topic_of one ≡ topic_of other
+
+abbrev pub NameOne : Type 0
+NameOne = (arguments : List (List ℕ)) (one other : Command) → IsNamed arguments one → IsNamed arguments other → AreAlike one other
+
+-- arguments that name no command have only one second line
+abbrev pub HaveOneLine : Type 0
+HaveOneLine = (arguments : List (List ℕ)) (one other : List ℕ) → IsUsageLine arguments one → IsUsageLine arguments other → one ≡ other
+
+-- a near name is among the names, at most two edits away, and no name is nearer
+abbrev pub NearIsNearest : Type 0
+NearIsNearest = (names : List (List ℕ)) (word name : List ℕ) → near names word ≡ Some name
+    → Contains names name × (distance name word ≤ 2) × All (λ other. distance name word ≤ distance other word) names
+
+-- if no name is near to a word, all are more than two edits away, or the word is empty
+abbrev pub OthersAreFar : Type 0
+OthersAreFar = (names : List (List ℕ)) (word : List ℕ) → near names word ≡ None → word ≢ [] → All (λ other. 2 < distance other word) names

@@ -1,4 +1,5 @@
 pub mod Options
+pub mod AuditOptions
 pub mod Command
 pub mod Laws
 pub mod Question
@@ -15,3 +16,7 @@ pub mod Replay
 pub mod Serving
 pub mod ServerStart
 pub mod Site
+pub mod Near
+pub mod OptionFault
+pub mod Topics
+pub mod Usage

@@ -17,6 +17,25 @@ key_word Connections = codes "--connections"
 key_word IdleSeconds = codes "--idle-seconds"
 key_word HeldMebibytes = codes "--held-mebibytes"
 
+-- the value of an option, as messages call it
+abbrev pub value_name : Key → List ℕ
+value_name Control = codes "SOCKET"
+value_name Journal = codes "FILE"
+value_name Listen = codes "ADDRESS:PORT"
+value_name Connections = codes "a number from 1 to 1024"
+value_name IdleSeconds = codes "a number from 1 to 86400"
+value_name HeldMebibytes = codes "a number from 1 to 1048576"
+
+-- all options, in the order of the help
+abbrev pub option_words : List (List ℕ)
+option_words =
+    key_word Control ∷ key_word Journal ∷ key_word Listen ∷ codes "--same-seed" ∷ key_word Connections ∷ key_word IdleSeconds ∷ key_word HeldMebibytes ∷ []
+
+-- the first word of a setting
+abbrev pub option_word : Setting → List ℕ
+option_word (Keyed key word) = key_word key
+option_word SameSeed = codes "--same-seed"
+
 abbrev pub setting_words : Setting → List (List ℕ)
 setting_words (Keyed key word) = key_word key ∷ word ∷ []
 setting_words SameSeed = codes "--same-seed" ∷ []

@@ -1,13 +1,17 @@
 //! The command that the program's arguments name.
 
-ghost use Rattle.std.specs.Prelude.{◌≡◌, [], ◌∷◌, IfSome, IsSome, codes, map, string_bytes};
-ghost use Rattle.sv.specs.Command.{IsNamed};
+ghost use Rattle.std.specs.Prelude.{◌≡◌, ◌↔◌, [], ◌∷◌, true, IfSome, IsSome, codes, map, string_bytes};
+ghost use Rattle.sv.specs.Command.{AreWordsOf, AskAbout, AskForHelp, IsNamed};
+ghost use Rattle.sv.specs.Laws.{NameOne};
+ghost use Rattle.sv.specs.Topics.{IsCalled};
 ghost use Rattle.sv.specs.Values.{Finds};
 ghost use Rattle.sv_program.specs.Arguments.{Names, name_words};
 
+use crate::audit_options::AuditOptions;
 use crate::question::Question;
 use crate::run_options::RunOptions;
 use crate::service::Service;
+use crate::topic::{Topic, is_help_option};
 use sv_program::denies_uncovered;
 
 /// A command of the program.
@@ -25,6 +29,13 @@ pub enum Command<'a> {
         /// The name of the server file.
         config: &'a str,
     },
+    /// `audit CONFIG [OPTION ..]`: prints who may reach what in a server's contexts. [`AuditOptions`] lists the options.
+    Audit {
+        /// The name of the server file.
+        config: &'a str,
+        /// The options.
+        options: AuditOptions,
+    },
     /// `replay CONFIG`: runs the script on standard input on a server's container, and prints the results.
     Replay {
         /// The name of the server file.
@@ -41,51 +52,107 @@ pub enum Command<'a> {
         /// The name of the server file.
         config: &'a str,
     },
-    /// `help`: prints the usage of each command.
-    Help,
+    /// `help [COMMAND]`: prints the usage of each command, or of one.
+    Help(Option<Topic>),
     /// `version`: prints the program's name and version.
     Version,
 }
 
 impl<'a> Command<'a> {
     /// Parses the arguments, without the program's own name. Returns none if they name no command.
+    ///
+    /// `-h` and `--help` mean `help`, and `--version` means `version`. `COMMAND -h` and `COMMAND --help` mean
+    /// `help COMMAND`, so a server file of one of these names must be written `./-h` or `./--help` if it is the only
+    /// argument of `uncovered`, `audit`, `replay`, `run` or `selftest`.
     pub fn parse(arguments: &'a [String]) -> Option<Command<'a>>
         ensures { Finds (IsNamed (map string_bytes arguments.now)) result }
     {
-        let (name, rest) = arguments.split_first()?;
-        if name.as_str() == "first" {
-            let deny_uncovered = denies_uncovered(rest)?;
-            return Some(Command::First { deny_uncovered });
+        match help_in(arguments) {
+            Some(about) => Some(Command::Help(about)),
+            None => command_in(arguments),
         }
-        if name.as_str() == "policy" {
-            return Some(Command::Policy(Question::parse(rest)?));
-        }
-        if name.as_str() == "uncovered" {
-            let config = config_in(rest)?;
-            return Some(Command::Uncovered { config });
-        }
-        if name.as_str() == "replay" {
-            let config = config_in(rest)?;
-            return Some(Command::Replay { config });
-        }
-        if name.as_str() == "serve" {
-            return Some(Command::Serve(Service::parse(rest)?));
-        }
-        if name.as_str() == "run" {
-            return run_in(rest);
-        }
-        if name.as_str() == "selftest" {
-            let config = config_in(rest)?;
-            return Some(Command::SelfTest { config });
-        }
-        if name.as_str() == "help" {
-            return alone(rest, Command::Help);
-        }
-        if name.as_str() == "version" {
-            return alone(rest, Command::Version);
-        }
-        None
     }
+}
+
+/// Returns the command whose words the arguments are, other than `help`.
+fn command_in(arguments: &[String]) -> Option<Command<'_>>
+    ensures { Finds (AreWordsOf (map string_bytes arguments.now)) result }
+{
+    let (word, rest) = arguments.split_first()?;
+    let Some(topic) = Topic::called(word.as_str()) else {
+        return None;
+    };
+    match topic {
+        Topic::First => {
+            let deny_uncovered = denies_uncovered(rest)?;
+            Some(Command::First { deny_uncovered })
+        }
+        Topic::Policy => Some(Command::Policy(Question::parse(rest)?)),
+        Topic::Uncovered => {
+            let config = config_in(rest)?;
+            Some(Command::Uncovered { config })
+        }
+        Topic::Audit => {
+            let (config, rest) = rest.split_first()?;
+            let options = AuditOptions::parse(rest)?;
+            Some(Command::Audit {
+                config: config.as_str(),
+                options,
+            })
+        }
+        Topic::Replay => {
+            let config = config_in(rest)?;
+            Some(Command::Replay { config })
+        }
+        Topic::Serve => Some(Command::Serve(Service::parse(rest)?)),
+        Topic::Run => run_in(rest),
+        Topic::SelfTest => {
+            let config = config_in(rest)?;
+            Some(Command::SelfTest { config })
+        }
+        Topic::Help => None,
+        Topic::Version => alone(rest, Command::Version),
+    }
+}
+
+/// Returns the topic of the help that the arguments ask for, if they do. No topic means all commands.
+fn help_in(arguments: &[String]) -> Option<Option<Topic>>
+    ensures { Finds (AskForHelp (map string_bytes arguments.now)) result }
+{
+    let (word, rest) = arguments.split_first()?;
+    let Some((next, more)) = rest.split_first() else {
+        return if asks_for_all(word.as_str()) {
+            Some(None)
+        } else {
+            None
+        };
+    };
+    if !more.is_empty() {
+        return None;
+    }
+    match topic_in(word.as_str(), next.as_str()) {
+        Some(topic) => Some(Some(topic)),
+        None => None,
+    }
+}
+
+fn asks_for_all(word: &str) -> bool
+    ensures { result ≡ true ↔ IsCalled word.now Topic.Help }
+{
+    word == "help" || is_help_option(word)
+}
+
+/// Returns the command that two words ask about.
+fn topic_in(word: &str, next: &str) -> Option<Topic>
+    ensures { Finds (AskAbout word.now next.now) result }
+{
+    if is_help_option(next) {
+        return Topic::named(word);
+    }
+    if word == "help" {
+        return Topic::named(next);
+    }
+    None
 }
 
 /// Returns the only argument, the name of the server file.
@@ -100,13 +167,13 @@ fn config_in(arguments: &[String]) -> Option<&str>
     }
 }
 
-// Returns the command `run` with the options in its arguments, or none.
+/// Returns the command `run` with the options in its arguments, or none.
 fn run_in(arguments: &[String]) -> Option<Command<'_>>
-    ensures { Finds (IsNamed (codes "run" ∷ map string_bytes arguments.now)) result }
+    ensures { Finds (AreWordsOf (codes "run" ∷ map string_bytes arguments.now)) result }
 {
     match RunOptions::parse(arguments) {
-        Some(options) => Some(Command::Run(options)),
-        None => None,
+        Ok(options) => Some(Command::Run(options)),
+        Err(_) => None,
     }
 }
 
@@ -121,3 +188,8 @@ fn alone<'a>(arguments: &[String], command: Command<'a>) -> Option<Command<'a>>
         None
     }
 }
+
+/// Arguments name only one command, or help on only one topic.
+pub fn arguments_name_one_command()
+    ensures { NameOne }
+{}

@@ -5,12 +5,13 @@ ghost use Rattle.std.specs.Prelude.{◌≡◌, ◌≢◌, IfErr};
 ghost use Rattle.sv.specs.Execution.{ReadsFiles, RunsCommand, ServesNothing};
 
 use crate::command::Command;
+use crate::help_command::help;
 use crate::policy_command::policy;
 use crate::replay_command::replay;
 use crate::run_command::run;
 use crate::self_test_command::self_test;
 use crate::serve_command::serve;
-use crate::texts::{HELP, VERSION};
+use crate::texts::VERSION;
 use std::alloc::Global;
 use std::io::{Read, Write};
 use std::net::Net;
@@ -19,7 +20,7 @@ use std::rt::Files;
 use std::time::Clock;
 use sv_component::{Filter, Listener, Servlet};
 use sv_deployments::{FolderStore, ProgramFilter, ProgramListener, ProgramServlet};
-use sv_program::{CommandFault, FileStore, first, print_text, uncovered};
+use sv_program::{CommandFault, FileStore, Report, first, print_report, print_text};
 use sv_streams::{ReadSource, WriteSink};
 
 /// Runs the command. Its parameters are a store of files and folders, a host with a network, a clock, random bytes,
@@ -45,7 +46,13 @@ pub fn carry_out<
     match command {
         Command::First { deny_uncovered } => first(alloc, reader, writer, deny_uncovered),
         Command::Policy(question) => policy(alloc, store, writer, &question),
-        Command::Uncovered { config } => uncovered(alloc, store, writer, config),
+        Command::Uncovered { config } => {
+            print_report(alloc, store, writer, config, Report::Uncovered)
+        }
+        Command::Audit { config, options } => {
+            let report = Report::Access(options.access());
+            print_report(alloc, store, writer, config, report)
+        }
         Command::Replay { config } => replay_streams(alloc, store, reader, writer, config),
         Command::Serve(service) => {
             let count = service.connections.value();
@@ -53,7 +60,7 @@ pub fn carry_out<
         }
         Command::Run(options) => run(alloc, store, host, writer, &options),
         Command::SelfTest { config } => self_test(alloc, store, host, writer, config),
-        Command::Help => print_text(writer, HELP),
+        Command::Help(topic) => help(alloc, writer, topic),
         Command::Version => print_text(writer, VERSION),
     }
 }

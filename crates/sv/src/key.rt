@@ -1,7 +1,7 @@
 //! The options that take a word.
 
 ghost use Rattle.std.specs.Prelude.{◌≡◌, IfSome, IsSome};
-ghost use Rattle.sv.specs.Settings.{key_word};
+ghost use Rattle.sv.specs.Settings.{key_word, value_name};
 
 /// An option that takes a word.
 #[derive(Clone, Copy)]
@@ -45,5 +45,33 @@ impl Key {
             return Some(Key::HeldMebibytes);
         }
         None
+    }
+
+    /// Returns the word of the option.
+    pub(crate) fn word(self) -> &'static str
+        ensures { result.now ≡ key_word self }
+    {
+        match self {
+            Key::Control => "--control",
+            Key::Journal => "--journal",
+            Key::Listen => "--listen",
+            Key::Connections => "--connections",
+            Key::IdleSeconds => "--idle-seconds",
+            Key::HeldMebibytes => "--held-mebibytes",
+        }
+    }
+
+    /// Returns what the option needs after its word, for a message.
+    pub(crate) fn value_name(self) -> &'static str
+        ensures { result.now ≡ value_name self }
+    {
+        match self {
+            Key::Control => "SOCKET",
+            Key::Journal => "FILE",
+            Key::Listen => "ADDRESS:PORT",
+            Key::Connections => "a number from 1 to 1024",
+            Key::IdleSeconds => "a number from 1 to 86400",
+            Key::HeldMebibytes => "a number from 1 to 1048576",
+        }
     }
 }

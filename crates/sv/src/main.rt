@@ -2,11 +2,15 @@
 #![tactic(auto)]
 
 mod asked_container;
+mod audit_options;
 mod command;
 mod count;
 mod execution;
 mod gaps;
+mod help_command;
 mod key;
+mod near;
+mod option_fault;
 mod policy_command;
 mod program_fault;
 mod question;
@@ -19,6 +23,8 @@ mod server_start;
 mod service;
 mod site;
 mod texts;
+mod topic;
+mod usage;
 
 use crate::command::Command;
 use execution::carry_out;
@@ -60,12 +66,17 @@ fn run<
         + Clone
         + Drop,
 >(rt: &R) -> Result<(), ProgramFault> {
-    let arguments: Vec<String> = env::args(rt)
-        .map_err(ProgramFault::of_arguments)?
+    let all = match env::args(rt) {
+        Ok(all) => all,
+        Err(error) => return Err(ProgramFault::of_arguments(rt.alloc(), error)),
+    };
+    let arguments: Vec<String> = all
         .skip(1)
         .collect(rt.alloc())
         .map_err(CommandFault::from)?;
-    let command = Command::parse(arguments.as_slice()).ok_or(ProgramFault::Usage)?;
+    let Some(command) = Command::parse(arguments.as_slice()) else {
+        return Err(ProgramFault::of_usage(rt.alloc(), arguments.as_slice()));
+    };
     carry_out(
         command,
         rt.alloc(),

@@ -4,6 +4,7 @@ ghost use Rattle.sv.specs.Laws.{AskForOne};
 
 use crate::count::{address_once, count_once, name_once};
 use crate::key::Key;
+use crate::option_fault::OptionFault;
 use std::net::SocketAddr;
 
 /// Maximum value of `--connections`.
@@ -37,21 +38,25 @@ pub struct RunOptions<'a> {
 }
 
 impl<'a> RunOptions<'a> {
-    ghost use Rattle.std.specs.Prelude.{◌≡◌, ◌≤◌, ◌∷◌, ◌++◌, [], ℕ, List, true, false, IfSome, IsSome, length, map, string_bytes};
-    ghost use Rattle.std.specs.List.{flat_map};
+    ghost use Rattle.std.specs.Prelude.{◌≡◌, ◌≢◌, ◌≤◌, ◌∷◌, ◌++◌, [], ℕ, List, true, false, IfErr, IfOk, IfSome, IsSome, length, map, string_bytes};
+    ghost use Rattle.sv.specs.OptionFault.{IsRefused, IsWrong};
     ghost use Rattle.sv.specs.Options.{AreSet, IsAsked, IsSet};
     ghost use Rattle.sv.specs.Reading.{IsRead, Sets};
-    ghost use Rattle.sv.specs.Settings.{Setting, setting_words};
-    ghost use Rattle.sv.specs.Values.{Finds};
+    ghost use Rattle.sv.specs.Settings.{Setting};
 
     /// Parses the arguments: the name of the server file, followed by options in any order, each at most once. The
     /// options are `--control SOCKET`, `--journal FILE`, `--listen ADDRESS:PORT`, `--same-seed`, `--connections N` (1
-    /// to 1,024), `--idle-seconds N` (1 to 86,400) and `--held-mebibytes N` (1 to 1,048,576). Returns none if the
-    /// arguments are invalid.
-    pub fn parse(arguments: &'a [String]) -> Option<RunOptions<'a>>
-        ensures { Finds (IsAsked (map string_bytes arguments.now)) result }
+    /// to 1,024), `--idle-seconds N` (1 to 86,400) and `--held-mebibytes N` (1 to 1,048,576).
+    ///
+    /// # Errors
+    /// The first fault, from the left.
+    pub fn parse(arguments: &'a [String]) -> Result<RunOptions<'a>, OptionFault<'a>>
+        ensures it { IfOk result (IsAsked (map string_bytes arguments.now)) }
+        ensures fault { IfErr result (IsRefused (map string_bytes arguments.now)) }
     {
-        let (config, behind) = arguments.split_first()?;
+        let Some((config, behind)) = arguments.split_first() else {
+            return Err(OptionFault::NoServer);
+        };
         let mut options = RunOptions::plain(config.as_str());
         let mut rest = behind;
         while let Some((word, after)) = rest.split_first() {
@@ -59,7 +64,7 @@ impl<'a> RunOptions<'a> {
             options = next;
             rest = others;
         }
-        Some(options)
+        Ok(options)
     }
 
     // Returns a server without options.
@@ -79,22 +84,51 @@ impl<'a> RunOptions<'a> {
         }
     }
 
-    // Reads the option that begins with this word, and returns the options and the remaining arguments. Returns none if
-    // the word is not an option, the option was given before, or its value is missing or invalid.
-    fn read(self, word: &'a str, after: &'a [String]) -> Option<(RunOptions<'a>, &'a [String])>
-        ensures it { IfSome result (λ next. IsRead self.entry (word.now ∷ map string_bytes after.now) next.0 (map string_bytes next.1.now)) }
-        ensures shorter { IfSome result (λ next. length next.1.now ≤ length after.now) }
-        ensures found { (done more : List Setting) (asked : RunOptions) → AreSet done self.entry → word.now ∷ map string_bytes after.now ≡ flat_map setting_words more
-            → AreSet (done ++ more) asked → IsSome result }
+    // Reads the option that begins with this word, and returns the options and the remaining arguments.
+    fn read(
+        self,
+        word: &'a str,
+        after: &'a [String],
+    ) -> Result<(RunOptions<'a>, &'a [String]), OptionFault<'a>>
+        ensures it { IfOk result (λ next. IsRead self.entry (word.now ∷ map string_bytes after.now) next.0 (map string_bytes next.1.now)) }
+        ensures shorter { IfOk result (λ next. length next.1.now ≤ length after.now) }
+        ensures fault { IfErr result (λ fault. (done : List Setting) → AreSet done self.entry → IsWrong done (word.now ∷ map string_bytes after.now) fault) }
     {
         if word == "--same-seed" {
-            let options = self.with_same_seed()?;
-            return Some((options, after));
+            let Some(options) = self.with_same_seed() else {
+                return Err(OptionFault::SameSeedTwice);
+            };
+            return Ok((options, after));
         }
-        let key = Key::named(word)?;
-        let (value, rest) = after.split_first()?;
-        let options = self.with(key, value.as_str())?;
-        Some((options, rest))
+        let Some(key) = Key::named(word) else {
+            return Err(OptionFault::Unknown(word));
+        };
+        if self.has(key) {
+            return Err(OptionFault::Twice(key));
+        }
+        let Some((value, rest)) = after.split_first() else {
+            return Err(OptionFault::NoValue(key));
+        };
+        let value = value.as_str();
+        let Some(options) = self.with(key, value) else {
+            return Err(OptionFault::BadValue(key, value));
+        };
+        Ok((options, rest))
+    }
+
+    // Returns whether the option was given.
+    fn has(&self, key: Key) -> bool
+        ensures given { result ≡ true → (words : List (List ℕ)) → IsSet key words self.now → words ≢ [] }
+        ensures absent { result ≡ false → (words : List (List ℕ)) → IsSet key words self.now → words ≡ [] }
+    {
+        match key {
+            Key::Control => self.control.is_some(),
+            Key::Journal => self.journal.is_some(),
+            Key::Listen => self.listen.is_some(),
+            Key::Connections => self.connections.is_some(),
+            Key::IdleSeconds => self.idle_seconds.is_some(),
+            Key::HeldMebibytes => self.held_mebibytes.is_some(),
+        }
     }
 
     fn with_same_seed(self) -> Option<RunOptions<'a>>

@@ -1,18 +1,32 @@
-//! The help and version texts of the program.
+//! The descriptions of the commands, and the text of the version.
 
-/// The output of `help`: the usage of each command, followed by a description.
-pub const HELP: &str = "\
-sv first [deny]
-    decides by an example policy on the first request on standard input
-sv policy CONFIG METHOD TARGET [USER]
-    tells what would become of a request to the server of that file
-sv uncovered CONFIG
-    tells which methods the constraints of the server leave uncovered
-sv replay CONFIG
-    runs the script on standard input over the server, and prints what comes of it
-sv serve CONFIG N
-    serves N connections, one after another, at the port of the server file
-sv run CONFIG [OPTION ..]
+/// What `first` does.
+pub const FIRST: &str = "    decides by an example policy on the first request on standard input\n";
+
+/// What `policy` does.
+pub const POLICY: &str = "    tells what would become of a request to the server of that file\n";
+
+/// What `uncovered` does.
+pub const UNCOVERED: &str =
+    "    tells which methods the constraints of the server leave uncovered\n";
+
+/// What `audit` does, with its options.
+pub const AUDIT: &str = "    \
+    shows who may enter where, by URL pattern and method; options, in any order:
+    --secure                as over a connection whose transport is guaranteed
+    --format FORMAT         text or json; text without it
+";
+
+/// What `replay` does.
+pub const REPLAY: &str =
+    "    runs the script on standard input over the server, and prints what comes of it\n";
+
+/// What `serve` does.
+pub const SERVE: &str =
+    "    serves N connections, one after another, at the port of the server file\n";
+
+/// What `run` does, with its options.
+pub const RUN: &str = "    \
     serves many connections at once, at the port of the server file; options, in any order:
     --control SOCKET        takes lines at that socket file: status, uncovered, explain, append, withdraw, stop
     --journal FILE          appends to that file what became of each request
@@ -21,13 +35,17 @@ sv run CONFIG [OPTION ..]
     --connections N         connections at once, 1 to 1024; 1024 without it
     --idle-seconds N        seconds between requests, 1 to 86400; 60 without it
     --held-mebibytes N      MiB that all connections hold, 1 to 1048576; 64 without it
-sv selftest CONFIG
-    asks the server once over a connection of its own, and prints the answer's first line
-sv help
-    shows these lines
-sv version
-    tells the version, and what proved it
 ";
+
+/// What `selftest` does.
+pub const SELF_TEST: &str =
+    "    asks the server once over a connection of its own, and prints the answer's first line\n";
+
+/// What `help` does.
+pub const HELP: &str = "    lists the commands, or shows the usage of one\n";
+
+/// What `version` does.
+pub const VERSION_TOPIC: &str = "    tells the version, and what proved it\n";
 
 /// The output of `version`: the program's name and version, and the toolchain that proves it. The toolchain is named
 /// as `rt version` prints it.

@@ -1,9 +1,11 @@
-use Rattle.std.specs.Prelude.{map, string_bytes}
-use Rattle.sv.proofs.Naming.{none_named, run_named}
+use Rattle.std.proofs.Common.{map, string_bytes}
+use Rattle.sv.proofs.Naming.{only_run}
+use Rattle.sv.proofs.Wrong.{not_asked}
 use Rattle.sv.proofs.command.run_in.Goals as goal
 
-pub returns-in-Some : goal.returns-in-Some
-returns-in-Some c = run_named (map string_bytes c.args.arguments.now) c.in-Some.options c.in-Some.ensures
-
-pub returns-in-None : goal.returns-in-None
-returns-in-None c = none_named (map string_bytes c.args.arguments.now) c.in-None.ensures
+pub returns-in-Err : goal.returns-in-Err
+returns-in-Err c = (
+  tt,
+  λ any words. absurd (only_run (map string_bytes c.args.arguments.now)
+      (not_asked (map string_bytes c.args.arguments.now) c.in-Err.field-0 c.in-Err.ensures.fault) any words),
+)

@@ -1,48 +1,49 @@
-use Rattle.std.proofs.Common.{ℕ, List, ◌∷◌, None, map, string_bytes, ap, sym, ◌∙◌}
+use Rattle.std.proofs.Common.{ℕ, List, [], ◌∷◌, ap, map, string_bytes, subst}
 use Rattle.std.proofs.lemmas.Bool.{false≢true}
 use Rattle.std.specs.Prelude.{codes}
 use Rattle.sv.proofs.Going.{behind_is}
-use Rattle.sv.proofs.Setting.{key_there, keyed_more, keyed_words, none_behind, other_word, same_word, seed_free, seed_more, set_there, value_there}
+use Rattle.sv.proofs.Setting.{keyed_more, keyed_words, seed_given, seed_more}
+use Rattle.sv.proofs.Words.{same_word}
 use Rattle.sv.proofs.run_options.RunOptions.read.Goals as goal
-use Rattle.sv.specs.Settings.{Keyed, SameSeed}
+use Rattle.sv.specs.Options.{IsSet}
+use Rattle.sv.specs.Settings.{Keyed, SameSeed, words_behind}
 use Rattle.sv.specs.declared.run_options.RunOptions.{RunOptions}
 
-pub returns-in_err-options-clause-found : goal.returns-in_err-options-clause-found
-returns-in_err-options-clause-found c = λ done more asked set same sets.
-    absurd (false≢true (c.in_err-options.ensures.found (seed_free c.args.word.now (map string_bytes c.args.after.now) done more c.args.self asked
-    (same_word c.args.word.now (codes "--same-seed") c.eq.result c.eq.ensures c.if-eq.true) set same sets)))
+pub returns-in_default-clause-fault : goal.returns-in_default-clause-fault
+returns-in_default-clause-fault c = λ done set. (
+  map string_bytes c.args.after.now,
+  ap (λ (word : List ℕ). word ∷ map string_bytes c.args.after.now) (same_word c.args.word.now (codes "--same-seed") c.eq.result c.eq.ensures c.if-eq.true),
+  seed_given done c.args.self (λ none. false≢true (c.in_default.ensures.found none)) set,
+)
 
 pub returns-then-eq-clause-it : goal.returns-then-eq-clause-it
 returns-then-eq-clause-it c = (
   SameSeed,
   ap (λ (word : List ℕ). word ∷ map string_bytes c.args.after.now) (same_word c.args.word.now (codes "--same-seed") c.eq.result c.eq.ensures c.if-eq.true),
-  ap (λ (options : RunOptions). options.config) c.in_ok-options.ensures.it.1,
-  λ done set. seed_more done c.args.self c.in_ok-options.options c.in_ok-options.ensures.it.0 c.in_ok-options.ensures.it.1 set,
+  ap (λ (options : RunOptions). options.config) c.in-Some.ensures.it.1,
+  λ done set. seed_more done c.args.self c.in-Some.options c.in-Some.ensures.it.0 c.in-Some.ensures.it.1 set,
 )
 
-pub returns-in_err-key-clause-found : goal.returns-in_err-key-clause-found
-returns-in_err-key-clause-found c = λ done more asked set same sets.
-    absurd (false≢true (key_there c.args.word.now (map string_bytes c.args.after.now) more None
-    (other_word c.args.word.now (codes "--same-seed") c.eq.result c.eq.ensures c.if-eq.false) c.in_err-key.ensures.found same))
-
-pub returns-in_err-value-clause-found : goal.returns-in_err-value-clause-found
-returns-in_err-value-clause-found c = λ done more asked set same sets.
-    absurd (value_there c.args.word.now more (other_word c.args.word.now (codes "--same-seed") c.eq.result c.eq.ensures c.if-eq.false)
-    (ap (λ (after : List (List ℕ)). c.args.word.now ∷ after) (sym (none_behind string_bytes c.args.after.now c.in_err-value.ensures.cases)) ∙ same))
-
-pub returns-in_err-options-2-clause-found : goal.returns-in_err-options-2-clause-found
-returns-in_err-options-2-clause-found c = λ done more asked set same sets.
-    absurd (false≢true (set_there c.in_ok-key.key c.args.word.now c.as_str.result.now (map string_bytes c.in_ok-value.rest.now) done more c.args.self asked None
-    c.in_ok-key.ensures.it c.in_err-options-2.ensures.found set
-    (ap (λ (after : List (List ℕ)). c.args.word.now ∷ after)
-    (sym (behind_is string_bytes c.args.after.now c.in_ok-value.value.now c.in_ok-value.rest.now c.as_str.result.now c.in_ok-value.ensures.cases.0 c.as_str.ensures.value))
-    ∙ same) sets))
+pub returns-in_default-with-clause-fault : goal.returns-in_default-with-clause-fault
+returns-in_default-with-clause-fault c = λ done set.
+    let free = c.has.ensures.absent c.if-has.false (words_behind c.in-Some-named.key done) (set.0 c.in-Some-named.key) in
+    let Is : List (List ℕ) → Type 0 = λ words. IsSet c.in-Some-named.key words c.args.self in (
+      map string_bytes c.in-Some-split_first.rest.now,
+      keyed_words c.in-Some-named.key c.args.word.now c.as_str-value.result.now (map string_bytes c.args.after.now) (map string_bytes c.in-Some-split_first.rest.now)
+          c.in-Some-named.ensures.it
+          (behind_is string_bytes c.args.after.now c.in-Some-split_first.value.now c.in-Some-split_first.rest.now c.as_str-value.result.now
+          c.in-Some-split_first.ensures.cases.0 c.as_str-value.ensures.value),
+      free,
+      λ options valid. false≢true (c.in_default-with.ensures.found [] [] options (subst Is free (set.0 c.in-Some-named.key)) valid),
+    )
 
 pub returns-clause-it : goal.returns-clause-it
 returns-clause-it c = (
-  Keyed c.in_ok-key.key c.as_str.result.now,
-  keyed_words c.in_ok-key.key c.args.word.now c.as_str.result.now (map string_bytes c.args.after.now) (map string_bytes c.in_ok-value.rest.now) c.in_ok-key.ensures.it
-      (behind_is string_bytes c.args.after.now c.in_ok-value.value.now c.in_ok-value.rest.now c.as_str.result.now c.in_ok-value.ensures.cases.0 c.as_str.ensures.value),
-  c.in_ok-options-2.ensures.it.0,
-  λ done set. keyed_more c.in_ok-key.key c.as_str.result.now done c.args.self c.in_ok-options-2.options c.in_ok-options-2.ensures.it set,
+  Keyed c.in-Some-named.key c.as_str-value.result.now,
+  keyed_words c.in-Some-named.key c.args.word.now c.as_str-value.result.now (map string_bytes c.args.after.now) (map string_bytes c.in-Some-split_first.rest.now)
+      c.in-Some-named.ensures.it
+      (behind_is string_bytes c.args.after.now c.in-Some-split_first.value.now c.in-Some-split_first.rest.now c.as_str-value.result.now
+      c.in-Some-split_first.ensures.cases.0 c.as_str-value.ensures.value),
+  c.in-Some-with.ensures.it.0,
+  λ done set. keyed_more c.in-Some-named.key c.as_str-value.result.now done c.args.self c.in-Some-with.options c.in-Some-with.ensures.it set,
 )

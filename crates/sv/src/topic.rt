@@ -1,0 +1,135 @@
+//! The commands of the program, as topics of help.
+
+ghost use Rattle.sv.specs.Topics.{IsCalled, IsHelpOption, topic_description, topic_name, topic_usage};
+ghost use Rattle.sv.specs.Values.{Finds};
+ghost use Rattle.std.specs.Prelude.{◌≡◌, ◌↔◌, true};
+
+use crate::texts::{AUDIT, FIRST, HELP, POLICY, REPLAY, RUN, SELF_TEST, SERVE, UNCOVERED, VERSION_TOPIC};
+
+/// A command of the program, as a topic of help.
+#[derive(Clone, Copy)]
+pub enum Topic {
+    /// The command `first`.
+    First,
+    /// The command `policy`.
+    Policy,
+    /// The command `uncovered`.
+    Uncovered,
+    /// The command `audit`.
+    Audit,
+    /// The command `replay`.
+    Replay,
+    /// The command `serve`.
+    Serve,
+    /// The command `run`.
+    Run,
+    /// The command `selftest`.
+    SelfTest,
+    /// The command `help`.
+    Help,
+    /// The command `version`.
+    Version,
+}
+
+/// All topics, in the order in which `help` lists them.
+pub const TOPICS: [Topic; 10] = [
+    Topic::First,
+    Topic::Policy,
+    Topic::Uncovered,
+    Topic::Audit,
+    Topic::Replay,
+    Topic::Serve,
+    Topic::Run,
+    Topic::SelfTest,
+    Topic::Help,
+    Topic::Version,
+];
+
+impl Topic {
+    /// Returns the command of this name, or none if no command has it.
+    pub fn named(word: &str) -> Option<Topic>
+        ensures { Finds (λ topic. word.now ≡ topic_name topic) result }
+    {
+        for topic in TOPICS {
+            if word == topic.name() {
+                return Some(topic);
+            }
+        }
+        None
+    }
+
+    /// Returns the command that the word calls, or none. A command is called by its name; `-h` and `--help` call `help`,
+    /// and `--version` calls `version`.
+    pub fn called(word: &str) -> Option<Topic>
+        ensures { Finds (IsCalled word.now) result }
+    {
+        if is_help_option(word) {
+            return Some(Topic::Help);
+        }
+        if word == "--version" {
+            return Some(Topic::Version);
+        }
+        Topic::named(word)
+    }
+
+    /// Returns the name of the command.
+    pub fn name(self) -> &'static str
+        ensures { result.now ≡ topic_name self }
+    {
+        match self {
+            Topic::First => "first",
+            Topic::Policy => "policy",
+            Topic::Uncovered => "uncovered",
+            Topic::Audit => "audit",
+            Topic::Replay => "replay",
+            Topic::Serve => "serve",
+            Topic::Run => "run",
+            Topic::SelfTest => "selftest",
+            Topic::Help => "help",
+            Topic::Version => "version",
+        }
+    }
+
+    /// Returns the usage of the command: the program's name, its own and its arguments.
+    pub fn usage(self) -> &'static str
+        ensures { result.now ≡ topic_usage self }
+    {
+        match self {
+            Topic::First => "sv first [deny]",
+            Topic::Policy => "sv policy CONFIG METHOD TARGET [USER]",
+            Topic::Uncovered => "sv uncovered CONFIG",
+            Topic::Audit => "sv audit CONFIG [OPTION ..]",
+            Topic::Replay => "sv replay CONFIG",
+            Topic::Serve => "sv serve CONFIG N",
+            Topic::Run => "sv run CONFIG [OPTION ..]",
+            Topic::SelfTest => "sv selftest CONFIG",
+            Topic::Help => "sv help [COMMAND]",
+            Topic::Version => "sv version",
+        }
+    }
+
+    /// Returns what the command does: indented lines, each with its line feed.
+    pub fn description(self) -> &'static str
+        ensures { result.now ≡ topic_description self }
+    {
+        match self {
+            Topic::First => FIRST,
+            Topic::Policy => POLICY,
+            Topic::Uncovered => UNCOVERED,
+            Topic::Audit => AUDIT,
+            Topic::Replay => REPLAY,
+            Topic::Serve => SERVE,
+            Topic::Run => RUN,
+            Topic::SelfTest => SELF_TEST,
+            Topic::Help => HELP,
+            Topic::Version => VERSION_TOPIC,
+        }
+    }
+}
+
+/// Returns whether the word is an option that asks for help.
+pub fn is_help_option(word: &str) -> bool
+    ensures { result ≡ true ↔ IsHelpOption word.now }
+{
+    word == "--help" || word == "-h"
+}

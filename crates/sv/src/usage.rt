@@ -1,0 +1,174 @@
+//! The second line about arguments that name no command: what is wrong with them, and how to get help.
+
+ghost use Rattle.std.specs.Prelude.{◌≡◌, ◌++◌, IfOk, codes, map, option_copied, string_bytes};
+ghost use Rattle.sv.specs.Command.{NameNothing};
+ghost use Rattle.sv.specs.Laws.{HaveOneLine};
+ghost use Rattle.sv.specs.Near.{near};
+ghost use Rattle.sv.specs.Options.{IsAsked};
+ghost use Rattle.sv.specs.Settings.{key_word};
+ghost use Rattle.sv.specs.Topics.{topic_names};
+ghost use Rattle.sv.specs.Usage as spec;
+ghost use Rattle.sv.specs.declared.run_options.RunOptions.{RunOptions};
+ghost use Rattle.sv_program.specs.Shown as shown;
+ghost use Rattle.sv_text.specs.Gives.{GivesAnswer};
+
+use crate::key::Key;
+use crate::near::nearest;
+use crate::option_fault::OptionFault;
+use crate::run_options::RunOptions;
+use crate::topic::{TOPICS, Topic};
+use std::alloc::Global;
+use sv_program::quoted;
+use sv_text::{NoMemory, Text};
+
+/// The options of `run`, in the order of its help.
+const OPTIONS: [&str; 7] = [
+    "--control",
+    "--journal",
+    "--listen",
+    "--same-seed",
+    "--connections",
+    "--idle-seconds",
+    "--held-mebibytes",
+];
+
+/// Returns the line that says what is wrong with arguments that name no command, without a line feed. It shows a word
+/// of the arguments as a TOML basic string of at most 80 characters, so that no control character is printed. For
+/// arguments that name a command the line says nothing.
+///
+/// # Errors
+/// [`NoMemory`].
+pub fn usage_detail(alloc: Global, arguments: &[String]) -> Result<Text, NoMemory>
+    ensures { IfOk result (λ line. NameNothing (map string_bytes arguments.now) → spec.IsUsageLine (map string_bytes arguments.now) line) }
+{
+    let Some((word, rest)) = arguments.split_first() else {
+        return Text::copy_of(
+            alloc,
+            "  no command is given; \"sv help\" lists the commands",
+        );
+    };
+    match Topic::called(word.as_str()) {
+        None => unknown_command(alloc, word.as_str()),
+        Some(Topic::Run) => run_detail(alloc, rest),
+        Some(Topic::Help) => help_detail(alloc, rest),
+        Some(topic) => usage_line(alloc, topic),
+    }
+}
+
+/// Returns the line about these arguments of `run`.
+fn run_detail(alloc: Global, arguments: &[String]) -> Result<Text, NoMemory>
+    ensures { IfOk result (λ line. ((options : RunOptions) → IsAsked (map string_bytes arguments.now) options → ⊥) → spec.IsRunLine (map string_bytes arguments.now) line) }
+{
+    match RunOptions::parse(arguments) {
+        Ok(_) => usage_line(alloc, Topic::Run),
+        Err(fault) => option_fault_line(alloc, fault),
+    }
+}
+
+/// Returns the line about these arguments of `help`.
+fn help_detail(alloc: Global, arguments: &[String]) -> Result<Text, NoMemory>
+    ensures { IfOk result (spec.IsHelpLine (map string_bytes arguments.now)) }
+{
+    let Some((word, rest)) = arguments.split_first() else {
+        return usage_line(alloc, Topic::Help);
+    };
+    if !rest.is_empty() {
+        return usage_line(alloc, Topic::Help);
+    }
+    match Topic::named(word.as_str()) {
+        None => unknown_command(alloc, word.as_str()),
+        Some(_) => usage_line(alloc, Topic::Help),
+    }
+}
+
+fn usage_line(alloc: Global, topic: Topic) -> Result<Text, NoMemory>
+    ensures { GivesAnswer result (spec.usage_line topic) }
+{
+    let usage = topic.usage();
+    Ok(Text::from_string(format!(in alloc; "  usage: {usage}")?))
+}
+
+fn unknown_command(alloc: Global, word: &str) -> Result<Text, NoMemory>
+    ensures { GivesAnswer result (spec.unknown_command word.now) }
+{
+    let name = near_command(alloc, word)?;
+    let hint = hint(alloc, name, "\"sv help\" lists the commands")?;
+    let word = quoted(alloc, word)?;
+    Ok(Text::from_string(format!(in alloc; "  there is no command {word}; {hint}")?))
+}
+
+fn near_command(alloc: Global, word: &str) -> Result<Option<&'static str>, NoMemory>
+    ensures { IfOk result (λ found. option_copied found ≡ near topic_names word.now) }
+{
+    let names = command_names(alloc)?;
+    nearest(alloc, names.as_slice(), word)
+}
+
+fn command_names(alloc: Global) -> Result<Vec<&'static str>, NoMemory>
+    ensures { IfOk result (λ names. map (λ name. name.now) names.items ≡ topic_names) }
+{
+    let mut names = Vec::new(alloc);
+    for topic in TOPICS {
+        names.push(topic.name())?;
+    }
+    Ok(names)
+}
+
+fn unknown_option(alloc: Global, word: &str) -> Result<Text, NoMemory>
+    ensures { GivesAnswer result (spec.unknown_option word.now) }
+{
+    let name = nearest(alloc, &OPTIONS, word)?;
+    let hint = hint(alloc, name, "\"sv help run\" lists the options")?;
+    let word = quoted(alloc, word)?;
+    Ok(Text::from_string(format!(in alloc; "  run has no option {word}; {hint}")?))
+}
+
+/// Returns the question whether the near name is meant, or else where the names are listed.
+fn hint(alloc: Global, name: Option<&str>, listing: &str) -> Result<Text, NoMemory>
+    ensures { GivesAnswer result (spec.hint (option_copied name.entry) listing.now) }
+{
+    match name {
+        Some(name) => Ok(Text::from_string(format!(in alloc; "did you mean \"{name}\"?")?)),
+        None => Text::copy_of(alloc, listing),
+    }
+}
+
+fn option_fault_line(alloc: Global, fault: OptionFault<'_>) -> Result<Text, NoMemory>
+    ensures { GivesAnswer result (spec.option_fault_line fault.entry) }
+{
+    match fault {
+        OptionFault::NoServer => usage_line(alloc, Topic::Run),
+        OptionFault::Unknown(word) => unknown_option(alloc, word),
+        OptionFault::Twice(key) => twice_line(alloc, key),
+        OptionFault::SameSeedTwice => Text::copy_of(alloc, "  --same-seed is given twice"),
+        OptionFault::NoValue(key) => needs_line(alloc, key),
+        OptionFault::BadValue(key, value) => bad_value_line(alloc, key, value),
+    }
+}
+
+fn twice_line(alloc: Global, key: Key) -> Result<Text, NoMemory>
+    ensures { GivesAnswer result (codes "  " ++ key_word key ++ codes " is given twice") }
+{
+    let word = key.word();
+    Ok(Text::from_string(format!(in alloc; "  {word} is given twice")?))
+}
+
+fn needs_line(alloc: Global, key: Key) -> Result<Text, NoMemory>
+    ensures { GivesAnswer result (spec.needs_line key) }
+{
+    let (word, value) = (key.word(), key.value_name());
+    Ok(Text::from_string(format!(in alloc; "  {word} needs {value}")?))
+}
+
+fn bad_value_line(alloc: Global, key: Key, value: &str) -> Result<Text, NoMemory>
+    ensures { GivesAnswer result (spec.needs_line key ++ codes ", not " ++ shown.quoted value.now) }
+{
+    let needs = needs_line(alloc, key)?;
+    let value = quoted(alloc, value)?;
+    Ok(Text::from_string(format!(in alloc; "{needs}, not {value}")?))
+}
+
+/// Arguments that name no command have only one second line.
+pub fn wrong_arguments_have_one_line()
+    ensures { HaveOneLine }
+{}
