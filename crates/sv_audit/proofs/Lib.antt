@@ -7,3 +7,4 @@ pub mod CellLemmas
 pub mod Made
 pub mod Entered
 pub mod JsonLemmas
+pub mod SecureLemmas

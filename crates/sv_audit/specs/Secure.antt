@@ -1,8 +1,10 @@
 -- Access over TLS (Jakarta Servlet 6.0, section 13.8).
-use Rattle.std.specs.Prelude.{◌≡◌, ℕ, List, [], ◌∷◌, map, Option, IsTrue}
+use Rattle.std.specs.Prelude.{◌≡◌, ◌≢◌, ℕ, List, [], ◌∷◌, map, Option, IsTrue}
 use Rattle.sv_mapping.specs.Segments.{is_rooted}
 use Rattle.sv_realm.specs.declared.caller.Caller.{Caller}
+use Rattle.sv_constraints.specs.Decision.{why_of}
 use Rattle.sv_constraints.specs.Verdict.{verdict}
+use Rattle.sv_constraints.specs.declared.cause.Cause.TheVariants.{Transport}
 use Rattle.sv_constraints.specs.declared.constraint.Constraint.{Constraint}
 use Rattle.sv_constraints.specs.declared.constraint.Rules.{Rules}
 use Rattle.sv_constraints.specs.declared.constraint.Transport.TheVariants.{Absent}
@@ -20,3 +22,9 @@ secure constraints = map secured constraints
 abbrev pub SecureTablesAreRight : Type 0
 SecureTablesAreRight = (constraints : List Constraint) (rules : Rules) (method path : List ℕ) (caller : Option Caller) → IsTrue (is_rooted path) →
     map (λ cell. said_to caller cell.access) (cells_for (table_of (secure constraints) rules) method path) ≡ kind_and_cause (verdict (secure constraints) rules method path caller) ∷ []
+
+-- Dropping the transport requirements changes only verdicts about the transport, and no verdict is about it afterwards.
+abbrev pub OnlyTransportChanges : Type 0
+OnlyTransportChanges = (constraints : List Constraint) (rules : Rules) (method path : List ℕ) (caller : Option Caller) →
+    ((why_of (verdict constraints rules method path caller)).cause ≢ Transport → verdict (secure constraints) rules method path caller ≡ verdict constraints rules method path caller)
+    × ((why_of (verdict (secure constraints) rules method path caller)).cause ≢ Transport)

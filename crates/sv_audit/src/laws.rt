@@ -1,7 +1,7 @@
 //! Theorems about access tables, each the contract of a function that only calls other theorems.
 
 ghost use Rattle.sv_audit.specs.Reading.{NumbersAreRight, TablesAreRight};
-ghost use Rattle.sv_audit.specs.Secure.{SecureTablesAreRight};
+ghost use Rattle.sv_audit.specs.Secure.{OnlyTransportChanges, SecureTablesAreRight};
 
 use sv_mapping::laws::{best_exists, best_is_a_match};
 use sv_policy::best_is_of_texts;
@@ -24,3 +24,9 @@ pub fn secure_tables_are_right()
 {
     tables_are_right();
 }
+
+/// Dropping the transport requirements changes only decisions about the transport, and no decision is about it
+/// afterwards.
+pub fn only_transport_changes()
+    ensures { OnlyTransportChanges }
+{}
