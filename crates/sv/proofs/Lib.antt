@@ -5,13 +5,13 @@ pub mod Going
 pub mod Joining
 pub mod Lines
 pub mod Naming
+pub mod Nearest
 pub mod Numbers
 pub mod One
+pub mod OneLine
+pub mod OneTopic
+mod Policy
 pub mod Saying
 pub mod Setting
 pub mod Words
 pub mod Wrong
-pub mod OneLine
-pub mod Nearest
-pub mod OneTopic
-mod Policy

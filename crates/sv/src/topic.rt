@@ -1,8 +1,8 @@
 //! The commands of the program, as topics of help.
 
+ghost use Rattle.std.specs.Prelude.{◌≡◌, ◌↔◌, true};
 ghost use Rattle.sv.specs.Topics.{IsCalled, IsHelpOption, topic_description, topic_name, topic_usage};
 ghost use Rattle.sv.specs.Values.{Finds};
-ghost use Rattle.std.specs.Prelude.{◌≡◌, ◌↔◌, true};
 
 use crate::texts::{AUDIT, FIRST, HELP, POLICY, REPLAY, RUN, SELF_TEST, SERVE, UNCOVERED, VERSION_TOPIC};
 
