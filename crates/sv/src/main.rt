@@ -70,10 +70,7 @@ fn run<
         Ok(all) => all,
         Err(error) => return Err(ProgramFault::of_arguments(rt.alloc(), error)),
     };
-    let arguments: Vec<String> = all
-        .skip(1)
-        .collect(rt.alloc())
-        .map_err(CommandFault::from)?;
+    let arguments: Vec<String> = all.skip(1).collect(rt.alloc()).map_err(CommandFault::from)?;
     let Some(command) = Command::parse(arguments.as_slice()) else {
         return Err(ProgramFault::of_usage(rt.alloc(), arguments.as_slice()));
     };

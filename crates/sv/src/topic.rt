@@ -4,7 +4,9 @@ ghost use Rattle.std.specs.Prelude.{◌≡◌, ◌↔◌, true};
 ghost use Rattle.sv.specs.Topics.{IsCalled, IsHelpOption, topic_description, topic_name, topic_usage};
 ghost use Rattle.sv.specs.Values.{Finds};
 
-use crate::texts::{AUDIT, FIRST, HELP, POLICY, REPLAY, RUN, SELF_TEST, SERVE, UNCOVERED, VERSION_TOPIC};
+use crate::texts::{
+    AUDIT, FIRST, HELP, POLICY, REPLAY, RUN, SELF_TEST, SERVE, UNCOVERED, VERSION_TOPIC,
+};
 
 /// A command of the program, as a topic of help.
 #[derive(Clone, Copy)]
