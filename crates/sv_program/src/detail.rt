@@ -50,7 +50,7 @@ impl fmt::Display for Detail<'_> {
             ),
             Detail::Classes(classes) => write!(f, "  the program has {classes}"),
             Detail::User(shown) => write!(f, "  the context has no user {shown}"),
-            Detail::Method(shown) => write!(f, "  a method is a token, unlike {shown}"),
+            Detail::Method(shown) => write!(f, "  the method is not a token: {shown}"),
             Detail::Sentence(sentence) => write!(f, "  {sentence}"),
         }
     }
