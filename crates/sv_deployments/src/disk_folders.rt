@@ -116,7 +116,7 @@ impl Walk<'_> {
             return Ok(());
         }
         if !kind.is_file() {
-            return Err(io::Error::from(ErrorKind::InvalidInput));
+            return Err(io::Error::from(ErrorKind::Unsupported));
         }
         let bytes = read_bytes(alloc, files, entry)?;
         self.files.push(File {

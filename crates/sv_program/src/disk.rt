@@ -50,7 +50,7 @@ fn read_whole<F: Files>(alloc: Global, files: &F, name: &str) -> io::Result<Stri
         return Err(io::Error::from(ErrorKind::IsADirectory));
     }
     if !metadata.is_file() {
-        return Err(io::Error::from(ErrorKind::InvalidInput));
+        return Err(io::Error::from(ErrorKind::Unsupported));
     }
     let file = fs::open(files, name)?;
     let text = io::read_to_string(alloc, file.take(MAX_FILE_BYTES + 1))?;

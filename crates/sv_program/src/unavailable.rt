@@ -20,8 +20,10 @@ pub enum Unavailable {
     SpecialFile,
     /// It has more bytes than its limit.
     TooLarge,
-    /// The text of the file, or the name of an entry of the directory, is not UTF-8.
+    /// Its text is not UTF-8.
     NotUtf8,
+    /// Its name is too long or not valid, or an entry of the directory has a name that is not UTF-8.
+    BadName,
     /// The file system is read-only.
     ReadOnly,
     /// Another socket has the address.
@@ -42,9 +44,11 @@ impl Unavailable {
             ErrorKind::PermissionDenied => Unavailable::Denied,
             ErrorKind::IsADirectory => Unavailable::IsDirectory,
             ErrorKind::NotADirectory => Unavailable::NotDirectory,
-            ErrorKind::InvalidInput => Unavailable::SpecialFile,
+            ErrorKind::Unsupported => Unavailable::SpecialFile,
             ErrorKind::FileTooLarge => Unavailable::TooLarge,
             ErrorKind::InvalidData => Unavailable::NotUtf8,
+            ErrorKind::InvalidInput => Unavailable::BadName,
+            ErrorKind::InvalidFilename => Unavailable::BadName,
             ErrorKind::ReadOnlyFilesystem => Unavailable::ReadOnly,
             ErrorKind::AddrInUse => Unavailable::AddressInUse,
             ErrorKind::AddrNotAvailable => Unavailable::NoSuchAddress,
@@ -65,6 +69,7 @@ impl Unavailable {
                 "it is not a regular file, or has an entry that is neither a file nor a directory",
             Unavailable::TooLarge => "it is too large",
             Unavailable::NotUtf8 => "it is not UTF-8",
+            Unavailable::BadName => "a name is too long or not UTF-8",
             Unavailable::ReadOnly => "the file system is read-only",
             Unavailable::AddressInUse => "the address is in use",
             Unavailable::NoSuchAddress => "this machine does not have the address",
