@@ -4,7 +4,9 @@ use Rattle.std.specs.List.{flat_map, list_any}
 use Rattle.std.specs.Option.{option_to_list}
 use Rattle.std.specs.Str.{bytes_eq}
 use Rattle.sv_mapping.specs.BestMatch.{best_pattern}
+use Rattle.sv_mapping.specs.Pattern.{is_at_or_below}
 use Rattle.sv_mapping.specs.Segments.{is_rooted}
+use Rattle.sv_mapping.specs.Within.{path_within}
 use Rattle.sv_realm.specs.declared.caller.Caller.{Caller}
 use Rattle.sv_constraints.specs.Covering.{covers_method, lists}
 use Rattle.sv_constraints.specs.Decision.{why_of}
@@ -68,8 +70,8 @@ cells_in method row = map (λ group. group.cell) (filter (λ group. covers_metho
 abbrev pub cells_for : Table → List ℕ → List ℕ → List Cell
 cells_for table method path = flat_map (cells_in method) (rows_for table.rows path)
 
--- For every path that begins with a slash, every method and every caller, a table has exactly one cell, and it says
--- what the verdict is.
+-- For every path that is empty or begins with a slash, every method and every caller, a table has exactly one cell, and
+-- it says what the verdict is.
 abbrev pub TablesAreRight : Type 0
 TablesAreRight = (constraints : List Constraint) (rules : Rules) (method path : List ℕ) (caller : Option Caller) → IsTrue (is_rooted path) →
     map (λ cell. said_to caller cell.access) (cells_for (table_of constraints rules) method path) ≡ kind_and_cause (verdict constraints rules method path caller) ∷ []
@@ -78,3 +80,7 @@ TablesAreRight = (constraints : List Constraint) (rules : Rules) (method path : 
 abbrev pub NumbersAreRight : Type 0
 NumbersAreRight = (constraints : List Constraint) (rules : Rules) (method path : List ℕ) → IsTrue (is_rooted path) →
     map (λ cell. cell.constraint) (cells_for (table_of constraints rules) method path) ≡ (why_of (verdict constraints rules method path None)).number ∷ []
+
+-- Each path that a context serves is such a path within it (section 3.5).
+abbrev pub ServedPathsAreRooted : Type 0
+ServedPathsAreRooted = (context path : List ℕ) → IsTrue (is_at_or_below context path) → IsTrue (is_rooted (path_within context path))

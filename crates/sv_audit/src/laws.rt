@@ -1,14 +1,14 @@
 //! Theorems about access tables, each the contract of a function that only calls other theorems.
 
-ghost use Rattle.sv_audit.specs.Reading.{NumbersAreRight, TablesAreRight};
+ghost use Rattle.sv_audit.specs.Reading.{NumbersAreRight, ServedPathsAreRooted, TablesAreRight};
 ghost use Rattle.sv_audit.specs.Secure.{OnlyTransportChanges, SecureTablesAreRight};
 
 use sv_mapping::laws::{best_exists, best_is_a_match};
 use sv_policy::best_is_of_texts;
 
-/// For every path that begins with a slash, every method and every caller, a table has exactly one cell, and it says
-/// what the constraints decide. The number in the cell is that of the constraint that decides the request without a
-/// caller.
+/// For every path that is empty or begins with a slash, every method and every caller, a table has exactly one cell, and
+/// it says what the constraints decide. The number in the cell is that of the constraint that decides the request
+/// without a caller.
 pub fn tables_are_right()
     ensures answers { TablesAreRight }
     ensures numbers { NumbersAreRight }
@@ -29,4 +29,9 @@ pub fn secure_tables_are_right()
 /// afterwards.
 pub fn only_transport_changes()
     ensures { OnlyTransportChanges }
+{}
+
+/// Each path that a context serves is, within the context, a path that the tables speak of: it begins with a slash.
+pub fn served_paths_are_rooted()
+    ensures { ServedPathsAreRooted }
 {}
