@@ -28,6 +28,19 @@ ENTRIES = {
 }
 
 
+def make_zeros(path, count):
+    """Makes a file of this many zero bytes, which take no space on the disk."""
+    with open(path, "wb") as file:
+        file.truncate(int(count))
+
+
+# The entries with a number before the name.
+NUMBERED = {
+    "mode": lambda path, mode: os.chmod(path, int(mode, 8)),
+    "zeros": make_zeros,
+}
+
+
 def make_files(room, case, cells):
     """Fills the folder that the program runs in."""
     for name, text in case.files.items():
@@ -37,10 +50,10 @@ def make_files(room, case, cells):
             file.write(filled(text, cells))
     for line in filled(case.section("entries"), cells).decode().split("\n")[:-1]:
         kind, name = line.split(" ", 1)
-        mode, _, file = name.partition(" ")
-        path = os.path.join(os.fsencode(room), unescaped(file if kind == "mode" else name))
-        if kind == "mode":
-            os.chmod(path, int(mode, 8))
+        number, _, file = name.partition(" ")
+        path = os.path.join(os.fsencode(room), unescaped(file if kind in NUMBERED else name))
+        if kind in NUMBERED:
+            NUMBERED[kind](path, number)
         else:
             ENTRIES[kind](path)
 
