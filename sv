@@ -1,6 +1,7 @@
 #!/usr/bin/env bash
 # ./sv COMMAND ..   runs the program, from any folder, on standard input and with the arguments as they are: the released
 #                   program where it was built from these sources, else one that is built here first.
+# ./sv audit WEB-INF/web.xml ..   imports the web.xml first (tools/audit-web-xml).
 # ./sv build        proves and builds the program from these sources.
 # ./sv release      does so, and makes it the released program.
 set -eu
@@ -83,11 +84,14 @@ case ${1:-} in
     release) build "${crates[@]}" && release ;;
     *)
         if runs_here && is_of_tree "$released"; then
-            exec "$released/sv" "$@"
+            run=$released/sv
+        else
+            is_of_tree "$built" || build "${crates[@]}"
+            run=$built/sv
         fi
-        if ! is_of_tree "$built"; then
-            build "${crates[@]}"
+        if [[ ${1:-} == audit && ${2:-} == *.xml ]]; then
+            exec "$top/tools/audit-web-xml" "$run" "${@:2}"
         fi
-        exec "$built/sv" "$@"
+        exec "$run" "$@"
         ;;
 esac
