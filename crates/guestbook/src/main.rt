@@ -10,26 +10,26 @@ use std::process::ExitCode;
 use std::random::RandomSource;
 use std::rt::Env;
 use std::time::Clock;
-use sv_servlet::{Options, run_application};
+use sv_servlet::{Options, exit_code, run_application};
 
 /// The default file of the entries.
 const FILE: &str = "guestbook.db";
 
 /// Serves the guestbook of this database until the process ends.
-fn run<R: Net + Clock + RandomSource + Print + AllocGlobal, S: Alter + Drop>(
+fn run<R: Net + Clock + RandomSource + Print + Eprint + AllocGlobal, S: Alter + Drop>(
     rt: &R,
     options: Options,
     connection: Connection<S>,
-) -> anyhow::Result<()> {
+) -> anyhow::Result<ExitCode> {
     let Ok(book) = Book::new(connection) else {
         bail!("the file is no guestbook");
     };
-    run_application(rt, site_of(rt.alloc(), book)?, options)?;
-    Ok(())
+    let site = site_of(rt.alloc(), book)?;
+    Ok(exit_code(rt, run_application(rt, site, options)))
 }
 
 // Serves the guestbook of this file. Separate from `main`, so that few steps see the type of its database.
-fn serve(rt: &HostRuntime, options: Options, file: &str) -> anyhow::Result<()> {
+fn serve(rt: &HostRuntime, options: Options, file: &str) -> anyhow::Result<ExitCode> {
     match Connection::open(rt, file) {
         Ok(connection) => run(rt, options, connection),
         Err(_) => bail!("{file} cannot be opened"),
@@ -47,6 +47,5 @@ fn main(rt: HostRuntime) -> anyhow::Result<ExitCode> {
     };
     let file = arguments.next();
     let file = file.as_ref().map_or(FILE, |name| name.as_str());
-    serve(&rt, Options::at_port(port), file)?;
-    Ok(ExitCode::SUCCESS)
+    serve(&rt, Options::at_port(port), file)
 }

@@ -7,7 +7,7 @@ use std::alloc::Global;
 use std::process::ExitCode;
 use sv_servlet::{
     Config, Deployment, Event, Exchange, Fault, Filter, Gate, Init, Listener, NoMemory, Options,
-    Servlet, Step, Text, gate_of, run_application, send_text, step_of,
+    Servlet, Step, Text, exit_code, gate_of, run_application, send_text, step_of,
 };
 
 /// Greets each caller by the parameter `name`, and reports how many callers it has greeted.
@@ -91,6 +91,5 @@ fn main(rt: HostRuntime) -> anyhow::Result<ExitCode> {
         .filter("no-sniff", &["/*"], NoSniff {})?
         .listener(Requests { heard: 0 })?
         .alone()?;
-    run_application(&rt, contexts, options)?;
-    Ok(ExitCode::SUCCESS)
+    Ok(exit_code(&rt, run_application(&rt, contexts, options)))
 }

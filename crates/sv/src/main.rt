@@ -35,19 +35,12 @@ use std::random::RandomSource;
 use std::rt::{Env, Files};
 use std::time::Clock;
 use std::{env, io};
-use sv_program::{CommandFault, Disk};
+use sv_program::{CommandFault, Disk, report_fault};
 
 fn main(rt: HostRuntime) -> ExitCode {
     match run(&rt) {
         Ok(()) => ExitCode::SUCCESS,
-        Err(fault) => {
-            // If standard error cannot be written, the exit status still reports the fault.
-            let _ = eprintln!(rt; "{fault}");
-            if let Some(detail) = fault.detail() {
-                let _ = eprintln!(rt; "{detail}");
-            }
-            ExitCode::from(fault.status())
-        }
+        Err(fault) => report_fault(&rt, &fault, fault.detail(), fault.status()),
     }
 }
 

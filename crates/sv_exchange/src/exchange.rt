@@ -81,7 +81,7 @@ impl Model for Exchange {
       calls = e.calls;
       kept = e.kept;
       words = e.words;
-      store = e.sessions;
+      store = e.sessions.store;
       session = e.session;
       caller = e.caller;
       cookie = e.cookie;
@@ -144,8 +144,8 @@ impl Exchange {
         held: Option<HeldSession>,
         sessions: &mut Sessions,
     ) -> Result<(), NoMemory>
-        ensures begun { OnOk result (self.new ≡ begun (asked_in request.entry) context_path.now cookie_settings.now held sessions.old) }
-        ensures lent { OnOk result (sessions.new ≡ self.old.store) }
+        ensures begun { OnOk result (self.new ≡ begun (asked_in request.entry) context_path.now cookie_settings.now held sessions.old.store) }
+        ensures lent { OnOk result (sessions.new.store ≡ self.old.store) }
         ensures kept { OnErr result (sessions.new ≡ sessions.old) }
     {
         let Request {
@@ -250,7 +250,7 @@ impl Exchange {
     /// the fields and the body of the request.
     pub fn finish(&mut self, sessions: &mut Sessions) -> Response
         ensures response { result ≡ finished self.old }
-        ensures sessions { sessions.new ≡ self.old.store }
+        ensures sessions { sessions.new.store ≡ self.old.store }
     {
         let body = body_of(
             self.committed,

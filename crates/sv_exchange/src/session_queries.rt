@@ -107,7 +107,7 @@ pub(crate) fn held_cookie(
     sessions: &Sessions,
     held: &Option<HeldSession>,
 ) -> Result<Rare<Cookie>, NoMemory>
-    ensures { GivesAnswer result (option_and_then (renewed_cookie settings.now context_path.now sessions.now) held.now) }
+    ensures { GivesAnswer result (option_and_then (renewed_cookie settings.now context_path.now sessions.now.store) held.now) }
 {
     match held {
         Some(held) => renewed_cookie(alloc, settings, context_path, sessions, held),
@@ -122,7 +122,7 @@ fn renewed_cookie(
     sessions: &Sessions,
     held: &HeldSession,
 ) -> Result<Rare<Cookie>, NoMemory>
-    ensures { GivesAnswer result (renewed_cookie settings.now context_path.now sessions.now held.now) }
+    ensures { GivesAnswer result (renewed_cookie settings.now context_path.now sessions.now.store held.now) }
 {
     if !held.is_renewed {
         return Ok(Rare::none());

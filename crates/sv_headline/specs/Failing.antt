@@ -11,29 +11,11 @@ use Rattle.sv_run.specs.declared.run_fault.RunFault.TheVariants.{Start, Output}
 use Rattle.sv_headline.specs.Headline.{RunsLawfully}
 use Rattle.sv_journal.specs.Journal.{JournalState, new_journal}
 use Rattle.sv_lifecycle.specs.declared.deployment.Deployment.{Deployment}
-use Rattle.sv_run.specs.Reacting.{Reacting}
 use Rattle.sv_run.specs.declared.counted_words.CountedWords.{CountedWords}
-use Rattle.sv_script.specs.Asked.{reactions_text}
-use Rattle.sv_script.specs.Printed.{shutdown_text, start_text}
-use Rattle.sv_script.specs.Replay.{Ends, Played, Plays}
-use Rattle.sv_script.specs.declared.replay_fault.ReplayFault.{ReplayFault}
-use Rattle.sv_streams.specs.Calls.{AreMade, Making, WritesAll}
+use Rattle.sv_script.specs.Printed.{start_text}
+use Rattle.sv_script.specs.WholeLaws.{IsPart}
+use Rattle.sv_streams.specs.Calls.{Making, WritesAll}
 use Rattle.sv_streams.specs.declared.stream.WriteFailed.{WriteFailed}
-
-module _ {R I O : Type 0} (steps : Reacting R) (stops : R → JournalState → Type 0) (gives : Making I) (takes : Making O) where
-  -- a write failed: the output is the first bytes of the text of the start, of the events that the script asks for, and
-  -- of the stop; nothing was written after the failure, and the handler was stopped
-  pub record IsPart (started : JournalState) (before : R) (script : I) (output : O) (script_after : I) (output_after : O) : Type 0 where
-    pub played : Played R
-    pub plays : Plays steps before played
-    pub are_made : AreMade gives script played.calls script_after
-    pub ended : Result (Unit {0}) ReplayFault
-    pub after : R
-    pub ends : Ends steps played ended after
-    pub stopped : JournalState
-    pub stops_so : stops after stopped
-    pub failed : WriteFailed
-    pub writes : WritesAll takes (start_text started.entries ++ reactions_text 1 played.reactions ++ shutdown_text stopped.entries) output (Err failed) output_after
 
 module _ {S F L I O : Type 0} (moving : ComponentSteps S F L) (gives : Making I)
     (takes : Making O) where

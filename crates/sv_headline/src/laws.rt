@@ -19,8 +19,8 @@ use sv_container::{Container, Running};
 use sv_context::Context;
 use sv_run::{CountedWords, EventHandler, Words};
 use sv_script::{
-    a_cut_text_begins_the_whole, a_refused_run_is_cut, a_run_writes_one_text,
-    a_script_is_a_lawful_run,
+    a_cut_text_begins_the_whole, a_failed_output_holds_a_part, a_refused_run_is_cut,
+    a_run_writes_one_text, a_script_is_a_lawful_run,
 };
 use sv_streams::{Clock, MemoryStream, Sink, Source, Stream};
 
@@ -108,6 +108,7 @@ pub fn what_a_failed_output_holds_is_lawful<
     every_run_is_lawful_until_memory_is_refused::<S, F, L, CountedWords>();
     callers_of_a_started_container_have_logged_in::<S, F, L, CountedWords>();
     requests_enter_exactly_where_allowed::<S, F, L, CountedWords>();
+    a_failed_output_holds_a_part::<Running<S, F, L, CountedWords>, I, O>();
     a_script_is_a_lawful_run::<Running<S, F, L, CountedWords>, Context<S, F, L>, CountedWords>();
 }
 

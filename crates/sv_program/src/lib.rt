@@ -36,7 +36,7 @@ pub use limits::{
     MAX_FILE_BYTES, MAX_INPUT_BYTES, MAX_LOCATED_BYTES, MAX_SHOWN_CHARACTERS, limits_are_as_stated,
     limits_of_the_second_line,
 };
-pub use output::{print_line, print_text};
+pub use output::{print_line, print_text, report_fault};
 pub use report::{Report, print_report};
 pub use socket_fault::SocketFault;
 pub use sv_constraints::{OwnedDecision, OwnedWhy};

@@ -4,6 +4,7 @@ pub mod FieldLemmas
 mod Lawful
 mod LineLemmas
 mod NameLemmas
+mod Part
 mod PlayLemmas
 mod ProgressLemmas
 mod ReadBackLemmas

@@ -17,6 +17,7 @@ use Rattle.sv_run.specs.declared.happening.Reaction.{Reaction}
 use Rattle.sv_script.specs.Printed.{shutdown_text, start_text}
 use Rattle.sv_script.specs.Whole.{RunsWhole}
 use Rattle.sv_streams.specs.Calls.{AreMade, Making, WritesAll}
+use Rattle.sv_streams.specs.declared.stream.WriteFailed.{WriteFailed}
 
 -- the output is complete: the run ended well, or a line of the script is at fault
 abbrev pub IsWritten : Result (Unit {0}) ReplayFault → Type 0
@@ -75,6 +76,27 @@ module _ {R I O : Type 0} (steps : Reacting R) (stops : R → JournalState → T
       (started : JournalState) (before : R) (script : I) (output : O) (script_after : I) (output_after : O)
       → RunsWhole steps stops gives takes started before script output (Err NoMemory) script_after output_after
       → IsUnwritten before script output script_after output_after ⊎ IsCut started before script output script_after output_after
+
+  -- a write failed: the output is the first bytes of the text of the start, of the events that the script asks for, and
+  -- of the stop; nothing was written after the failure, and the handler was stopped
+  pub record IsPart (started : JournalState) (before : R) (script : I) (output : O) (script_after : I) (output_after : O) : Type 0 where
+    pub played : Played R
+    pub plays : Plays steps before played
+    pub are_made : AreMade gives script played.calls script_after
+    pub ended : Result (Unit {0}) ReplayFault
+    pub after : R
+    pub ends : Ends steps played ended after
+    pub stopped : JournalState
+    pub stops_so : stops after stopped
+    pub failed : WriteFailed
+    pub writes : WritesAll takes (start_text started.entries ++ reactions_text 1 played.reactions ++ shutdown_text stopped.entries) output (Err failed) output_after
+
+  -- a run whose output fails has written the first bytes of one text, and nothing after the failure; the handler was stopped
+  abbrev pub AFailedOutputHoldsAPart : Type 0
+  AFailedOutputHoldsAPart =
+      (started : JournalState) (before : R) (script : I) (output : O) (script_after : I) (output_after : O)
+      → RunsWhole steps stops gives takes started before script output (Err Output) script_after output_after
+      → IsPart started before script output script_after output_after
 
   -- its output is the beginning of the output of every complete run whose start has the same entries and whose first
   -- events have the same reactions

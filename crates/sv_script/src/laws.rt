@@ -4,7 +4,7 @@ ghost use Rattle.std.specs.Prelude.{◌≡◌};
 ghost use Rattle.sv_run.specs.Contexts.{theory_of};
 ghost use Rattle.sv_script.specs.Laws.{ReadsBack};
 ghost use Rattle.sv_script.specs.ReplayLaws.{AFailedWriteCutsTheText, LinesAreApart, LinesAreTheText, NextLinesAreFirst};
-ghost use Rattle.sv_script.specs.WholeLaws.{ACutTextBeginsTheWhole, ARefusedRunIsCut, ARunWritesOneText, AScriptIsALawfulRun};
+ghost use Rattle.sv_script.specs.WholeLaws.{ACutTextBeginsTheWhole, AFailedOutputHoldsAPart, ARefusedRunIsCut, ARunWritesOneText, AScriptIsALawfulRun};
 
 use crate::edit_lines::MAX_ROLE_BYTES;
 use crate::whole::Stops;
@@ -50,6 +50,12 @@ pub fn a_run_writes_one_text<R: Stops, I: Source, O: Sink>()
 /// was stopped.
 pub fn a_refused_run_is_cut<R: Stops, I: Source, O: Sink>()
     ensures { ARefusedRunIsCut R.steps R.stops I.makes O.makes }
+{}
+
+/// The output of a run whose writes failed is the first bytes of one text: the text of the start, the texts of the events
+/// that the lines ask for, and the text of the stop. Nothing was written after the failure, and the handler was stopped.
+pub fn a_failed_output_holds_a_part<R: Stops, I: Source, O: Sink>()
+    ensures { AFailedOutputHoldsAPart R.steps R.stops I.makes O.makes }
 {}
 
 /// The output of a run that ran out of memory is the beginning of the text of every complete run whose start has the

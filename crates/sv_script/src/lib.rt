@@ -19,9 +19,10 @@ pub use edit_lines::MAX_ROLE_BYTES;
 pub use escape::{escaped, unescaped};
 pub use fields::{at_blank, text_of};
 pub use laws::{
-    a_cut_text_begins_the_whole, a_failed_write_cuts_the_text, a_refused_run_is_cut,
-    a_run_writes_one_text, a_script_is_a_lawful_run, an_escaped_text_reads_back,
-    limits_are_as_stated, lines_are_the_text, played_lines_are_the_first,
+    a_cut_text_begins_the_whole, a_failed_output_holds_a_part, a_failed_write_cuts_the_text,
+    a_refused_run_is_cut, a_run_writes_one_text, a_script_is_a_lawful_run,
+    an_escaped_text_reads_back, limits_are_as_stated, lines_are_the_text,
+    played_lines_are_the_first,
 };
 pub use line::{LineFault, ScriptLine, read_line};
 pub use names::NameKind;

@@ -1,17 +1,21 @@
 //! The run of an application.
 
+ghost use Rattle.std.specs.Prelude.{◌≡◌, MatchResult};
+ghost use Rattle.std.specs.Process.{exit_status};
+ghost use Rattle.sv_program.specs.CommandFault.{status_of};
 ghost use Rattle.sv_web.specs.Deployments as spec;
 
 use crate::options::Options;
 use std::io;
 use std::net::Net;
+use std::process::ExitCode;
 use std::random::RandomSource;
 use std::time::Clock;
 use sv_component::{Filter, Listener, Servlet};
 use sv_container::{let_go, start};
 use sv_lifecycle::Deployment;
 use sv_listening::{Seeding, listen_and_run, seed_for};
-use sv_program::CommandFault;
+use sv_program::{CommandFault, report_fault};
 use sv_web::deployments_of;
 
 /// Runs an application. Starts its contexts on one port, with session ids from the system's random source, and writes
@@ -38,6 +42,17 @@ where
         Err(fault) => return Err(fault),
     };
     run_deployments(rt, deployments, options)
+}
+
+/// Returns the exit status of an application that ended in this way: 0, or that of its fault
+/// ([`CommandFault::status`]). A fault is reported on standard error, in its line and in the one that says why.
+pub fn exit_code<R: Eprint>(rt: &R, ended: Result<(), CommandFault>) -> ExitCode
+    ensures { MatchResult ended (λ _. exit_status result ≡ 0) (λ fault. exit_status result ≡ status_of fault) }
+{
+    match ended {
+        Ok(()) => ExitCode::SUCCESS,
+        Err(fault) => report_fault(rt, &fault, fault.detail(), fault.status()),
+    }
 }
 
 // Starts the deployments, serves them, and stops them.

@@ -11,9 +11,18 @@ use Rattle.sv_session.specs.Attributes.{value_named}
 use Rattle.sv_session.specs.Id.{id_text}
 use Rattle.sv_session.specs.declared.slot.Slot.{Slot}
 use Rattle.sv_session.specs.Slots.{living}
-use Rattle.sv_session.specs.Store.{Session, Store, changed, is_numbered, numbered}
+use Rattle.sv_session.specs.Store.{Session, SessionsState, Store, changed, is_numbered, numbered}
 use Rattle.sv_session.proofs.FirstLemmas.{IsMissed, none_found}
 use Rattle.sv_session.proofs.SlotLemmas.{IsAt}
+
+-- ---- the store of a state
+module _ {inner : Store} {judged : ℕ} {state : SessionsState} (view : record { store = inner; judged = judged } ≡ state) where
+  pub store_seen : inner ≡ state.store
+  store_seen = ap (λ (s : SessionsState). s.store) view
+
+  pub with_store : {left after : Store} → left ≡ after → record { store = left; judged = judged } ≡ record state { store = after }
+  with_store {left} {after} same =
+      ap (λ store. record { store = store; judged = judged }) same ∙ ap (λ (s : SessionsState). record s { store = after }) view
 
 -- ---- the greatest serial
 pub spent_opening : (store : Store) → store.serial ≡ GREATEST_SERIAL → length store.sessions < store.limit → opening_faults store ≡ SerialSpent ∷ []

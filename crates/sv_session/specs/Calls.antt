@@ -15,7 +15,7 @@ use Rattle.sv_session.specs.Lists.{without_first}
 use Rattle.sv_session.specs.Store.{Session, Store, is_numbered, numbered, attributes_of, changed}
 
 -- A refusal gives the first of the faults and changes nothing. Out of memory is given only if there is no other fault.
-abbrev pub RefusesCall : List SessionFault → SessionFault → Store → Store → Type 0
+abbrev pub RefusesCall : {A : Type 0} → List SessionFault → SessionFault → A → A → Type 0
 RefusesCall faults NoMemory before after = (faults ≡ []) × (after ≡ before)
 RefusesCall faults fault before after = (slice_get faults 0 ≡ Some fault) × (after ≡ before)
 

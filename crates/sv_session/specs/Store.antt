@@ -23,6 +23,11 @@ pub record Store : Type 0 where
   pub serial : ℕ
   pub sessions : List Session
 
+-- The sessions of a context: the store, and the number of records that expiries have judged so far.
+pub record SessionsState : Type 0 where
+  pub store : Store
+  pub judged : ℕ
+
 abbrev pub empty_store : ℕ → ℕ → Store
 empty_store limit interval = record { limit = limit; interval = interval; serial = 0; sessions = [] }
 

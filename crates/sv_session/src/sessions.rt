@@ -19,7 +19,7 @@ use sv_text::{NoMemory, Text};
 
 /// The sessions of a context (Jakarta Servlet 6.0, chapter 7). A session is identified by its number, which is the
 /// serial that it was opened with. Clients send its id. Each open and each rename takes the next serial, so no id is
-/// given twice.
+/// given twice. Contracts see a `SessionsState`.
 #[derive(Drop)]
 pub struct Sessions {
     alloc: Global,
@@ -34,13 +34,16 @@ pub struct Sessions {
 }
 
 impl Model for Sessions {
-    ghost use Rattle.sv_session.specs.Store.{Store};
+    ghost use Rattle.sv_session.specs.Store.{SessionsState};
 
-    ghost Value = { Store };
+    ghost Value = { SessionsState };
 
     ghost use Rattle.sv_session.specs.Slots.{AreKept, living};
 
-    ghost view = { λ s. record { limit = s.limit; interval = s.interval; serial = s.serial; sessions = living s.slots.items } };
+    ghost view = { λ s. record {
+      store = record { limit = s.limit; interval = s.interval; serial = s.serial; sessions = living s.slots.items };
+      judged = s.judged;
+    } };
 
     ghost invariant = { λ s. AreKept s.serial s.count s.slots.items s.ids s.queue };
 }
@@ -54,7 +57,7 @@ impl Sessions {
     /// Creates a store of at most `limit` live sessions. A session expires `interval` seconds after its last access, or
     /// never if `interval` is 0. Takes no memory.
     pub fn new(alloc: Global, limit: usize, interval: u32) -> Sessions
-        ensures { result ≡ empty_store limit interval }
+        ensures { result ≡ record { store = empty_store limit interval; judged = 0 } }
     {
         Sessions {
             alloc,
@@ -76,8 +79,9 @@ impl Sessions {
     /// changed.
     pub fn open(&mut self, words: (u64, u64), now: u64) -> Result<u64, SessionFault>
         ensures { MatchResult result
-            (λ number. (calls.opening_faults self.old ≡ []) × (number ≡ self.old.serial + 1) × (self.new ≡ calls.opened words now self.old))
-            (λ fault. RefusesCall (calls.opening_faults self.old) fault self.old self.new) }
+            (λ number. (calls.opening_faults self.old.store ≡ []) × (number ≡ self.old.store.serial + 1)
+            × (self.new ≡ record self.old { store = calls.opened words now self.old.store }))
+            (λ fault. RefusesCall (calls.opening_faults self.old.store) fault self.old self.new) }
     {
         if let Some(fault) = self.opening_fault() {
             return Err(fault);
@@ -97,7 +101,7 @@ impl Sessions {
 
     /// Returns the number of the live session with this id. The bytes come from a client and need not be text.
     pub fn find(&self, id: &[u8]) -> Option<u64>
-        ensures { result ≡ number_of id.now self.now }
+        ensures { result ≡ number_of id.now self.now.store }
     {
         let ids = &self.ids;
         // Bytes of another length are no id. They are not hashed, since a client may send many.
@@ -109,7 +113,7 @@ impl Sessions {
 
     /// Returns the id of a session.
     pub fn id(&self, number: u64) -> Option<&str>
-        ensures { option_copied result ≡ calls.id_of number self.now }
+        ensures { option_copied result ≡ calls.id_of number self.now.store }
     {
         let session = self.session(number)?;
         Some(session.id())
@@ -121,8 +125,8 @@ impl Sessions {
     /// Those of [`open`](Sessions::open), in the same order.
     pub fn next_id(&self, words: (u64, u64)) -> Result<Text, SessionFault>
         ensures { MatchResult result
-            (λ id. (calls.opening_faults self.now ≡ []) × (id ≡ id_text words (self.now.serial + 1)))
-            (λ fault. RefusesCall (calls.opening_faults self.now) fault self.now self.now) }
+            (λ id. (calls.opening_faults self.now.store ≡ []) × (id ≡ id_text words (self.now.store.serial + 1)))
+            (λ fault. RefusesCall (calls.opening_faults self.now.store) fault self.now self.now) }
     {
         if let Some(fault) = self.opening_fault() {
             return Err(fault);
@@ -135,7 +139,7 @@ impl Sessions {
 
     /// Returns the lowest number of a live session.
     pub fn least(&self) -> Option<u64>
-        ensures { result ≡ calls.least_number self.now }
+        ensures { result ≡ calls.least_number self.now.store }
     {
         let slot = first_living(self.slots.as_slice())?;
         Some(slot.kept.number())
@@ -143,8 +147,8 @@ impl Sessions {
 
     /// Records an access to a session at the time `now`, in seconds. Returns `false` if no live session has the number.
     pub fn touch(&mut self, number: u64, now: u64) -> bool
-        ensures found { result ≡ is_some (numbered number self.old) }
-        ensures left { self.new ≡ calls.touched number now self.old }
+        ensures found { result ≡ is_some (numbered number self.old.store) }
+        ensures left { self.new ≡ record self.old { store = calls.touched number now self.old.store } }
     {
         let Some(place) = place_of(self.slots.as_slice(), number) else {
             return false;
@@ -159,22 +163,25 @@ impl Sessions {
     }
 
     /// Ends the first session that has expired at the time `now`, in seconds, by deadline and then by number. Returns
-    /// `None` if none has expired.
+    /// `None` if none has expired. The count of judged records grows by one if there is a session, up to the maximum.
     pub fn expire(&mut self, now: u64) -> Option<EndedSession>
-        ensures ended { result ≡ calls.expiring now self.old }
-        ensures left { self.new ≡ calls.left_by_expiry now self.old }
+        ensures ended { result ≡ calls.expiring now self.old.store }
+        ensures left { self.new ≡ record {
+          store = calls.left_by_expiry now self.old.store;
+          judged = calls.judged_by_expiry self.old.store self.old.judged;
+        } }
     {
         let Counted { ended, judged } = self.expire_counted(now, self.judged);
         self.judged = judged;
         ended
     }
 
-    /// Does the same as [`expire`](Sessions::expire), and counts the records judged. `judged` is the count so far. It
-    /// grows by one if there is a session, up to the maximum.
+    /// Ends a session as [`expire`](Sessions::expire) does, but continues a count of the caller instead of its own, which
+    /// stays. `judged` is the caller's count so far. It grows by one if there is a session, up to the maximum.
     pub fn expire_counted(&mut self, now: u64, judged: u64) -> Counted
-        ensures ended { result.ended ≡ calls.expiring now self.old }
-        ensures judged { result.judged ≡ calls.judged_by_expiry self.old judged }
-        ensures left { self.new ≡ calls.left_by_expiry now self.old }
+        ensures ended { result.ended ≡ calls.expiring now self.old.store }
+        ensures judged { result.judged ≡ calls.judged_by_expiry self.old.store judged }
+        ensures left { self.new ≡ record self.old { store = calls.left_by_expiry now self.old.store } }
     {
         let Some(due) = self.queue.least() else {
             return Counted {
@@ -195,8 +202,8 @@ impl Sessions {
 
     /// Ends a session and returns it. Returns `None` if no live session has the number.
     pub fn end(&mut self, number: u64) -> Option<EndedSession>
-        ensures ended { result ≡ calls.ending number self.old }
-        ensures left { self.new ≡ calls.without number self.old }
+        ensures ended { result ≡ calls.ending number self.old.store }
+        ensures left { self.new ≡ record self.old { store = calls.without number self.old.store } }
     {
         let place = place_of(self.slots.as_slice(), number)?;
         self.ids.remove(self.slots[place].kept.id());
@@ -207,9 +214,9 @@ impl Sessions {
 
     /// Ends all sessions and returns them in the order of their numbers.
     pub fn end_all(&mut self) -> EndedSessions
-        ensures ended { result ≡ map ended self.old.sessions }
-        ensures order { IsOrderly self.old }
-        ensures left { self.new ≡ record self.old { sessions = [] } }
+        ensures ended { result ≡ map ended self.old.store.sessions }
+        ensures order { IsOrderly self.old.store }
+        ensures left { self.new ≡ record self.old { store = record self.old.store { sessions = [] } } }
     {
         self.count = 0;
         self.ids = Ids::new();
@@ -225,8 +232,8 @@ impl Sessions {
     /// changed.
     pub fn rename(&mut self, number: u64, words: (u64, u64)) -> Result<(), SessionFault>
         ensures { MatchResult result
-            (λ _. (calls.renaming_faults number self.old ≡ []) × (self.new ≡ calls.renamed number words self.old))
-            (λ fault. RefusesCall (calls.renaming_faults number self.old) fault self.old self.new) }
+            (λ _. (calls.renaming_faults number self.old.store ≡ []) × (self.new ≡ record self.old { store = calls.renamed number words self.old.store }))
+            (λ fault. RefusesCall (calls.renaming_faults number self.old.store) fault self.old self.new) }
     {
         let Some(place) = place_of(self.slots.as_slice(), number) else {
             return Err(SessionFault::NoSuch);
@@ -250,8 +257,8 @@ impl Sessions {
     /// Sets the caller of a session to a user of the realm, by number, or clears it. Returns `false` if no live session
     /// has the number.
     pub fn enter_caller(&mut self, number: u64, caller: Option<u32>) -> bool
-        ensures found { result ≡ is_some (numbered number self.old) }
-        ensures left { self.new ≡ calls.with_caller number caller self.old }
+        ensures found { result ≡ is_some (numbered number self.old.store) }
+        ensures left { self.new ≡ record self.old { store = calls.with_caller number caller self.old.store } }
     {
         let Some(place) = place_of(self.slots.as_slice(), number) else {
             return false;
@@ -262,7 +269,7 @@ impl Sessions {
 
     /// Returns the caller of a session, as the number of a user of the realm.
     pub fn caller(&self, number: u64) -> Option<u32>
-        ensures { result ≡ calls.caller_of number self.now }
+        ensures { result ≡ calls.caller_of number self.now.store }
     {
         let session = self.session(number)?;
         session.caller()
@@ -271,8 +278,8 @@ impl Sessions {
     /// Saves the target of the request that a login interrupted. It replaces an earlier one. Returns `false` if no live
     /// session has the number.
     pub fn save(&mut self, number: u64, target: Text) -> bool
-        ensures found { result ≡ is_some (numbered number self.old) }
-        ensures left { self.new ≡ calls.with_saved number (Some target) self.old }
+        ensures found { result ≡ is_some (numbered number self.old.store) }
+        ensures left { self.new ≡ record self.old { store = calls.with_saved number (Some target) self.old.store } }
     {
         let Some(place) = place_of(self.slots.as_slice(), number) else {
             return false;
@@ -283,8 +290,8 @@ impl Sessions {
 
     /// Removes the saved target of a session and returns it.
     pub fn take_saved(&mut self, number: u64) -> Option<Text>
-        ensures taken { result ≡ calls.saved_of number self.old }
-        ensures left { self.new ≡ calls.with_saved number None self.old }
+        ensures taken { result ≡ calls.saved_of number self.old.store }
+        ensures left { self.new ≡ record self.old { store = calls.with_saved number None self.old.store } }
     {
         let place = place_of(self.slots.as_slice(), number)?;
         self.slots[place].kept.take_saved()
@@ -292,7 +299,7 @@ impl Sessions {
 
     /// Returns the value of an attribute of a session (Jakarta Servlet 6.0, section 7.4).
     pub fn get(&self, number: u64, name: &str) -> Option<&str>
-        ensures { option_copied result ≡ calls.value_of number name.now self.now }
+        ensures { option_copied result ≡ calls.value_of number name.now self.now.store }
     {
         let session = self.session(number)?;
         session.value(name)
@@ -311,9 +318,9 @@ impl Sessions {
         value: &str,
     ) -> Result<Option<Text>, SessionFault>
         ensures { MatchResult result
-            (λ old. (calls.setting_faults number name.now value.now self.old ≡ []) × (old ≡ calls.value_of number name.now self.old)
-            × (self.new ≡ calls.with_attribute number name.now value.now self.old))
-            (λ fault. RefusesCall (calls.setting_faults number name.now value.now self.old) fault self.old self.new) }
+            (λ old. (calls.setting_faults number name.now value.now self.old.store ≡ []) × (old ≡ calls.value_of number name.now self.old.store)
+            × (self.new ≡ record self.old { store = calls.with_attribute number name.now value.now self.old.store }))
+            (λ fault. RefusesCall (calls.setting_faults number name.now value.now self.old.store) fault self.old self.new) }
     {
         let Some(place) = place_of(self.slots.as_slice(), number) else {
             return Err(SessionFault::NoSuch);
@@ -329,7 +336,7 @@ impl Sessions {
 
     /// Returns the reason, other than memory, why [`set`](Sessions::set) would be refused.
     pub fn setting_fault(&self, number: u64, name: &str, value: &str) -> Option<SessionFault>
-        ensures { result ≡ slice_get (calls.setting_faults number name.now value.now self.now) 0 }
+        ensures { result ≡ slice_get (calls.setting_faults number name.now value.now self.now.store) 0 }
     {
         match self.session(number) {
             None => Some(SessionFault::NoSuch),
@@ -341,7 +348,7 @@ impl Sessions {
     /// Returns the attributes of a session, in the order in which they were first set. Returns none if no live session
     /// has the number.
     pub fn attributes(&self, number: u64) -> &[Attribute]
-        ensures { result.now ≡ attributes_of number self.now }
+        ensures { result.now ≡ attributes_of number self.now.store }
     {
         match self.session(number) {
             Some(session) => session.attributes.as_slice(),
@@ -351,8 +358,8 @@ impl Sessions {
 
     /// Removes an attribute of a session and returns its value.
     pub fn remove(&mut self, number: u64, name: &str) -> Option<Text>
-        ensures value { result ≡ calls.value_of number name.now self.old }
-        ensures left { self.new ≡ calls.without_attribute number name.now self.old }
+        ensures value { result ≡ calls.value_of number name.now self.old.store }
+        ensures left { self.new ≡ record self.old { store = calls.without_attribute number name.now self.old.store } }
     {
         let place = place_of(self.slots.as_slice(), number)?;
         self.slots[place].kept.remove_value(name)
@@ -360,20 +367,22 @@ impl Sessions {
 
     /// Returns the number of live sessions.
     pub fn count(&self) -> usize
-        ensures { result ≡ length self.now.sessions }
+        ensures { result ≡ length self.now.store.sessions }
     {
         self.count
     }
 
-    /// Returns the number of records that [`expire`](Sessions::expire) has judged, as counted by
-    /// [`expire_counted`](Sessions::expire_counted).
-    pub fn judged(&self) -> u64 {
+    /// Returns the number of records that [`expire`](Sessions::expire) has judged. It stays at the maximum once it has
+    /// reached it.
+    pub fn judged(&self) -> u64
+        ensures { result ≡ self.now.judged }
+    {
         self.judged
     }
 
     /// Returns the reason, other than memory, why no session can be opened, if there is one.
     fn opening_fault(&self) -> Option<SessionFault>
-        ensures { result ≡ slice_get (calls.opening_faults self.now) 0 }
+        ensures { result ≡ slice_get (calls.opening_faults self.now.store) 0 }
     {
         if self.count >= self.limit {
             return Some(SessionFault::TooMany);
@@ -386,7 +395,7 @@ impl Sessions {
 
     /// Returns the live session of a number.
     fn session(&self, number: u64) -> Option<&Kept>
-        ensures { option_copied result ≡ numbered number self.now }
+        ensures { option_copied result ≡ numbered number self.now.store }
     {
         let place = place_of(self.slots.as_slice(), number)?;
         Some(&self.slots[place].kept)
@@ -394,9 +403,11 @@ impl Sessions {
 
     /// Appends a session that has the next serial.
     fn add(&mut self, kept: Kept) -> Result<(), NoMemory>
-        requires opened { (words : ℕ × ℕ) × (now : ℕ) × (kept ≡ calls.session_opened words (self.old.serial + 1) now) }
-        requires fits { calls.opening_faults self.old ≡ [] }
-        ensures added { OnOk result (self.new ≡ record self.old { serial = self.old.serial + 1; sessions = self.old.sessions ++ kept ∷ [] }) }
+        requires opened { (words : ℕ × ℕ) × (now : ℕ) × (kept ≡ calls.session_opened words (self.old.store.serial + 1) now) }
+        requires fits { calls.opening_faults self.old.store ≡ [] }
+        ensures added { OnOk result (self.new ≡ record self.old {
+          store = record self.old.store { serial = self.old.store.serial + 1; sessions = self.old.store.sessions ++ kept ∷ [] };
+        }) }
         ensures refused { OnErr result (self.new ≡ self.old) }
     {
         // The count is below the limit, so the next count does not overflow.

@@ -1,13 +1,14 @@
-use Rattle.std.proofs.Common.{refl, ◌∙◌}
+use Rattle.std.proofs.Common.{refl, ◌∙◌, ap}
 use Rattle.sv_session.specs.Attributes.{without_named}
 use Rattle.sv_session.proofs.KeptLemmas.{kept_same}
 use Rattle.sv_session.proofs.SlotLemmas.{at_there, none_there}
-use Rattle.sv_session.proofs.StoreLemmas.{changed_at, nothing_changed, value_at}
+use Rattle.sv_session.proofs.StoreLemmas.{changed_at, nothing_changed, store_seen, value_at, with_store}
 use Rattle.sv_session.proofs.sessions.Sessions.remove.Goals as goal
 
 pub returns-in_err-place-clause-left : goal.returns-in_err-place-clause-left
 returns-in_err-place-clause-left c =
-    nothing_changed c.args.number c.args.self.now (none_there c.args.number c.self.inside.limit c.self.inside.interval c.self.inside.serial c.self.inside.slots.items c.as_slice.result.now c.args.self.now c.as_slice.ensures.value c.self.view_is c.self.invariant.rise c.in_err-place.ensures.place) (λ session. record session { attributes = without_named c.args.name.now session.attributes })
+    ap (λ store. record c.args.self.now { store = store })
+    (nothing_changed c.args.number c.args.self.now.store (none_there c.args.number c.self.inside.limit c.self.inside.interval c.self.inside.serial c.self.inside.slots.items c.as_slice.result.now c.args.self.now.store c.as_slice.ensures.value (store_seen c.self.view_is) c.self.invariant.rise c.in_err-place.ensures.place) (λ session. record session { attributes = without_named c.args.name.now session.attributes }))
 
 pub invariant_of-self : goal.invariant_of-self
 invariant_of-self c =
@@ -15,8 +16,9 @@ invariant_of-self c =
 
 pub returns-clause-left : goal.returns-clause-left
 returns-clause-left c =
-    changed_at c.args.number c.in_ok-place.place c.self.inside.limit c.self.inside.interval c.self.inside.serial c.self.inside.slots.items c.args.self.now c.self.view_is c.index_mut.result.now (at_there c.args.number c.self.inside.serial c.self.inside.slots.items c.as_slice.result.now c.in_ok-place.place c.index_mut.result.now c.as_slice.ensures.value c.self.invariant.rise c.in_ok-place.ensures.place c.index_mut.ensures.value) (λ session. record session { attributes = without_named c.args.name.now session.attributes }) c.remove_value.new.self c.remove_value.ensures.left
+    with_store c.self.view_is
+    (changed_at c.args.number c.in_ok-place.place c.self.inside.limit c.self.inside.interval c.self.inside.serial c.self.inside.slots.items c.args.self.now.store (store_seen c.self.view_is) c.index_mut.result.now (at_there c.args.number c.self.inside.serial c.self.inside.slots.items c.as_slice.result.now c.in_ok-place.place c.index_mut.result.now c.as_slice.ensures.value c.self.invariant.rise c.in_ok-place.ensures.place c.index_mut.ensures.value) (λ session. record session { attributes = without_named c.args.name.now session.attributes }) c.remove_value.new.self c.remove_value.ensures.left)
 
 pub returns-clause-value : goal.returns-clause-value
 returns-clause-value c =
-    c.remove_value.ensures.value ∙ value_at c.args.number c.in_ok-place.place c.self.inside.limit c.self.inside.interval c.self.inside.serial c.self.inside.slots.items c.args.self.now c.self.view_is c.index_mut.result.now (at_there c.args.number c.self.inside.serial c.self.inside.slots.items c.as_slice.result.now c.in_ok-place.place c.index_mut.result.now c.as_slice.ensures.value c.self.invariant.rise c.in_ok-place.ensures.place c.index_mut.ensures.value) c.args.name.now
+    c.remove_value.ensures.value ∙ value_at c.args.number c.in_ok-place.place c.self.inside.limit c.self.inside.interval c.self.inside.serial c.self.inside.slots.items c.args.self.now.store (store_seen c.self.view_is) c.index_mut.result.now (at_there c.args.number c.self.inside.serial c.self.inside.slots.items c.as_slice.result.now c.in_ok-place.place c.index_mut.result.now c.as_slice.ensures.value c.self.invariant.rise c.in_ok-place.ensures.place c.index_mut.ensures.value) c.args.name.now
