@@ -16,7 +16,8 @@ use Rattle.sv_mapping.specs.Segments.{is_rooted}
 use Rattle.sv_constraints.specs.Covering.{all_patterns, covering, lists}
 use Rattle.sv_constraints.specs.declared.constraint.Constraint.{Constraint}
 use Rattle.sv_constraints.specs.declared.constraint.Rules.{Rules}
-use Rattle.sv_policy.proofs.Rising.{passing_lists, rising_lists, rising_rises, rising_same}
+use Rattle.sv_policy.proofs.Rising.{rising_lists, rising_rises, rising_same}
+use Rattle.sv_policy.proofs.Steps.{passing_lists}
 use Rattle.sv_policy.specs.Patterns.{BestIsOfTexts}
 use Rattle.sv_policy.specs.Uncovered.{IsRising, rising}
 use Rattle.sv_audit.proofs.Filters.{filter_map, filter_none, filter_twice}

@@ -5,6 +5,5 @@ pub mod RowCells
 pub mod Found
 pub mod CellLemmas
 pub mod Made
-pub mod Entered
 pub mod JsonLemmas
 pub mod SecureLemmas

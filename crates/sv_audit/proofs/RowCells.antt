@@ -10,9 +10,9 @@ use Rattle.std.proofs.lemmas.Slice.Eq.{bytes_eq-Decides}
 use Rattle.sv_constraints.specs.Covering.{covering, covers_method, lists}
 use Rattle.sv_constraints.specs.declared.constraint.Constraint.{Constraint}
 use Rattle.sv_constraints.specs.declared.constraint.Rules.{Rules}
-use Rattle.sv_policy.proofs.Joined.{filter_same}
 use Rattle.sv_policy.proofs.Named.{unnamed_members}
-use Rattle.sv_policy.proofs.Rising.{passing_lists, rising_lists}
+use Rattle.sv_policy.proofs.Rising.{rising_lists}
+use Rattle.sv_policy.proofs.Steps.{filter_same, passing_lists}
 use Rattle.sv_policy.specs.Covering.{named_methods}
 use Rattle.sv_policy.specs.Uncovered.{rising}
 use Rattle.sv_audit.proofs.Equal.{cell_from, cell_self, once}

@@ -1,10 +1,6 @@
 -- The access says what the verdict is.
-use Rattle.std.proofs.lemmas.Bool.{false≢true}
 use Rattle.std.proofs.Common.{◌≡◌, ℕ, Bool, true, false, not, ◌||◌, List, [], ◌∷◌, length, refl, ap, ap₂, sym, ◌∙◌, cond, Option, None, Some, is_none, ◌==◌}
-use Rattle.std.specs.Cmp.{both_ways}
 use Rattle.std.specs.List.{flat_map, list_any}
-use Rattle.std.specs.Str.{bytes_eq}
-use Rattle.std.proofs.lemmas.Slice.Eq.{bytes_eq-Decides}
 use Rattle.sv_realm.specs.declared.caller.Caller.{Caller}
 use Rattle.sv_constraints.specs.Covering.{lists}
 use Rattle.sv_constraints.specs.Roles.{admits}
@@ -17,6 +13,7 @@ use Rattle.sv_constraints.specs.declared.constraint.Rules.{Rules}
 use Rattle.sv_constraints.specs.declared.owned_decision.OwnedDecision.{OwnedDecision}
 use Rattle.sv_constraints.specs.declared.owned_decision.OwnedWhy.{OwnedWhy}
 use Rattle.sv_constraints.specs.declared.owned_decision.OwnedDecision.TheVariants.{Open, Login, Denied}
+use Rattle.sv_policy.proofs.Best.{any_listed}
 use Rattle.sv_policy.proofs.Rising.{rising_lists}
 use Rattle.sv_policy.proofs.Steps.{any_of_joined}
 use Rattle.sv_policy.specs.Merged.{admits_everyone, names_everyone}
@@ -26,32 +23,9 @@ use Rattle.sv_audit.specs.Reading.{kind_and_cause, said_to}
 use Rattle.sv_audit.specs.declared.access.Access.{Access}
 use Rattle.sv_audit.specs.declared.access.Access.TheVariants.{Uncovered, UncoveredDenied, Precluded, NeedsTls, Everyone, AnyLogin, Roles}
 
-or_right : (a b : Bool) → b ≡ true → (a || b) ≡ true
-or_right true b h = refl
-or_right false b h = h
-
--- ---- A test on texts passes for one of a list exactly if it does for one of the sorted list.
-module _ (test : List ℕ → Bool) where
-  any_at : (y x : List ℕ) (xs : List (List ℕ)) (same : Bool) → bytes_eq y x ≡ same → (same || lists xs x) ≡ true → test x ≡ true → (lists xs x ≡ true → list_any test xs ≡ true) → list_any test (y ∷ xs) ≡ true
-  any_at y x xs true at there passes below = ap (λ b. b || list_any test xs) (ap test ((bytes_eq-Decides y x).0 at) ∙ passes)
-  any_at y x xs false at there passes below = or_right (test y) (list_any test xs) (below there)
-
-  any_in : (xs : List (List ℕ)) (x : List ℕ) → lists xs x ≡ true → test x ≡ true → list_any test xs ≡ true
-  any_in [] x there passes = absurd (false≢true there)
-  any_in (y ∷ xs) x there passes = any_at y x xs (bytes_eq y x) refl there passes (λ below. any_in xs x below passes)
-
-  any_within_at : (y : List ℕ) (xs others : List (List ℕ)) (passes : Bool) → test y ≡ passes → ((text : List ℕ) → lists (y ∷ xs) text ≡ true → lists others text ≡ true) → (passes || list_any test xs) ≡ true → (list_any test xs ≡ true → list_any test others ≡ true) → list_any test others ≡ true
-  any_within_at y xs others true is within some below = any_in others y (within y (ap (λ b. b || lists xs y) ((bytes_eq-Decides y y).1 refl))) is
-  any_within_at y xs others false is within some below = below some
-
-  any_within : (xs others : List (List ℕ)) → ((text : List ℕ) → lists xs text ≡ true → lists others text ≡ true) → list_any test xs ≡ true → list_any test others ≡ true
-  any_within [] others within some = absurd (false≢true some)
-  any_within (y ∷ xs) others within some =
-      any_within_at y xs others (test y) refl within some (any_within xs others (λ text there. within text (or_right (bytes_eq y text) (lists xs text) there)))
-
-  any_rising : (xs : List (List ℕ)) → list_any test (rising xs) ≡ list_any test xs
-  any_rising xs = both_ways (list_any test (rising xs)) (list_any test xs)
-      (any_within (rising xs) xs (λ text there. sym (rising_lists xs text) ∙ there)) (any_within xs (rising xs) (λ text there. rising_lists xs text ∙ there))
+-- A test on texts passes for one of a list exactly if it does for one of the sorted list.
+any_rising : (test : List ℕ → Bool) (xs : List (List ℕ)) → list_any test (rising xs) ≡ list_any test xs
+any_rising test xs = any_listed test (rising xs) xs (rising_lists xs)
 
 -- ---- A caller is admitted exactly if every caller is, or the caller holds one of the roles.
 admitted_one : (declared : List (List ℕ)) (caller : Caller) (its_auth : Auth) → admits declared (Some caller) its_auth ≡ (names_everyone its_auth || list_any (lists caller.roles) (roles_meant declared its_auth))

@@ -1,6 +1,5 @@
 -- Access over TLS (Jakarta Servlet 6.0, section 13.8).
-use Rattle.std.specs.Prelude.{◌≡◌, ◌≢◌, ℕ, List, [], ◌∷◌, map, Option, IsTrue}
-use Rattle.sv_mapping.specs.Segments.{is_rooted}
+use Rattle.std.specs.Prelude.{◌≡◌, ◌≢◌, ℕ, List, map, Option}
 use Rattle.sv_realm.specs.declared.caller.Caller.{Caller}
 use Rattle.sv_constraints.specs.Decision.{why_of}
 use Rattle.sv_constraints.specs.Verdict.{verdict}
@@ -8,8 +7,6 @@ use Rattle.sv_constraints.specs.declared.cause.Cause.TheVariants.{Transport}
 use Rattle.sv_constraints.specs.declared.constraint.Constraint.{Constraint}
 use Rattle.sv_constraints.specs.declared.constraint.Rules.{Rules}
 use Rattle.sv_constraints.specs.declared.constraint.Transport.TheVariants.{Absent}
-use Rattle.sv_audit.specs.Reading.{cells_for, kind_and_cause, said_to}
-use Rattle.sv_audit.specs.Rows.{table_of}
 
 -- A constraint without its transport requirement.
 abbrev pub secured : Constraint → Constraint
@@ -17,11 +14,6 @@ secured constraint = record constraint { transport = Absent }
 
 abbrev pub secure : List Constraint → List Constraint
 secure constraints = map secured constraints
-
--- The table of constraints without transport requirements says what the verdict of those constraints is.
-abbrev pub SecureTablesAreRight : Type 0
-SecureTablesAreRight = (constraints : List Constraint) (rules : Rules) (method path : List ℕ) (caller : Option Caller) → IsTrue (is_rooted path) →
-    map (λ cell. said_to caller cell.access) (cells_for (table_of (secure constraints) rules) method path) ≡ kind_and_cause (verdict (secure constraints) rules method path caller) ∷ []
 
 -- Dropping the transport requirements changes only verdicts about the transport, and no verdict is about it afterwards.
 abbrev pub OnlyTransportChanges : Type 0

@@ -1,47 +1,13 @@
 //! The constraints that cover a method at a pattern, or the methods that no constraint names there.
 
-ghost use Rattle.std.specs.Prelude.{◌≡◌, ◌++◌, IfOk, OnOk, filter, map};
+ghost use Rattle.std.specs.Prelude.{◌≡◌, IfOk, filter, map};
 ghost use Rattle.std.specs.Option.{option_copied};
-ghost use Rattle.sv_constraints.specs.Covering.{lists};
-ghost use Rattle.sv_policy.specs.Covering.{collection_covers_unnamed, covers_at, covers_unnamed, listed_methods, method_names, named_methods};
+ghost use Rattle.sv_policy.specs.Covering.{covers_at};
 
 use std::alloc::Global;
-use sv_constraints::{Collection, Constraint, Methods, covers};
-use sv_mapping::Pattern;
-use sv_text::{NoMemory, Text};
-
-/// Returns whether a pattern with this text is among the patterns.
-fn lists_pattern(patterns: &[Pattern], text: &str) -> bool
-    ensures { result ≡ lists patterns.now text.now }
-{
-    patterns.iter().any(|listed| listed.text() == text)
-}
-
-fn collection_covers_unnamed(collection: &Collection, pattern: &str) -> bool
-    ensures { result ≡ collection_covers_unnamed collection.now pattern.now }
-{
-    lists_pattern(collection.patterns.as_slice(), pattern)
-        && !matches!(collection.methods, Methods::Only(_))
-}
-
-fn covers_unnamed(constraint: &Constraint, pattern: &str) -> bool
-    ensures { result ≡ covers_unnamed constraint.now pattern.now }
-{
-    constraint.collections.as_slice().iter().any(|collection| collection_covers_unnamed(
-        collection, pattern,
-    ))
-}
-
-/// Returns whether a constraint covers the method at the pattern or, without a method, the methods that no constraint
-/// names there.
-fn covers_at(constraint: &Constraint, pattern: &str, method: Option<&str>) -> bool
-    ensures { result ≡ covers_at constraint.now pattern.now (option_copied method.entry) }
-{
-    match method {
-        Some(method) => covers(constraint, pattern, method),
-        None => covers_unnamed(constraint, pattern),
-    }
-}
+use sv_constraints::Constraint;
+use sv_policy::covers_at;
+use sv_text::NoMemory;
 
 /// Returns the constraints that cover the method at the pattern or, without a method, the methods that no constraint
 /// names there.
@@ -61,54 +27,4 @@ pub fn covering<'a>(
         }
     }
     Ok(found)
-}
-
-/// Returns the methods that constraints name at the pattern, in order and with duplicates.
-pub fn named_methods<'a>(
-    alloc: Global,
-    members: &[&'a Constraint],
-    pattern: &str,
-) -> Result<Vec<&'a str>, NoMemory>
-    ensures { IfOk result (λ names. map (λ name. name.now) names.items ≡ named_methods (map (λ member. member.now) members.now) pattern.now) }
-{
-    let mut names = Vec::new(alloc);
-    for member in members {
-        push_listed(&mut names, member.collections.as_slice(), pattern)?;
-    }
-    Ok(names)
-}
-
-fn push_listed<'a>(
-    names: &mut Vec<&'a str>,
-    collections: &'a [Collection],
-    pattern: &str,
-) -> Result<(), NoMemory>
-    ensures { OnOk result (map (λ name. name.now) names.new.items ≡ map (λ name. name.now) names.old.items ++ listed_methods collections.now pattern.now) }
-{
-    for collection in collections {
-        if lists_pattern(collection.patterns.as_slice(), pattern) {
-            push_names(names, &collection.methods)?;
-        }
-    }
-    Ok(())
-}
-
-fn push_names<'a>(names: &mut Vec<&'a str>, methods: &'a Methods) -> Result<(), NoMemory>
-    ensures { OnOk result (map (λ name. name.now) names.new.items ≡ map (λ name. name.now) names.old.items ++ method_names methods.now) }
-{
-    match methods {
-        Methods::All => Ok(()),
-        Methods::Only(listed) => push_texts(names, listed.as_slice()),
-        Methods::Except(listed) => push_texts(names, listed.as_slice()),
-    }
-}
-
-/// Appends texts.
-pub fn push_texts<'a>(names: &mut Vec<&'a str>, texts: &'a [Text]) -> Result<(), NoMemory>
-    ensures { OnOk result (map (λ name. name.now) names.new.items ≡ map (λ name. name.now) names.old.items ++ texts.now) }
-{
-    for text in texts {
-        names.push(text.as_str())?;
-    }
-    Ok(())
 }

@@ -10,11 +10,12 @@ ghost use Rattle.sv_audit.specs.Same.{same_cell};
 
 use crate::access::{Cell, same_cell};
 use crate::cells::{cell_at, copied_cell};
-use crate::coverage::{covering, named_methods};
+use crate::coverage::covering;
 use crate::rows::{Group, NamedCell, Row};
 use crate::sorted::sorted;
 use std::alloc::Global;
 use sv_constraints::{Constraint, Methods, Rules};
+use sv_policy::named_methods;
 use sv_text::{Listed, NoMemory, Text};
 
 /// Returns the row of a pattern, by the constraints on it.

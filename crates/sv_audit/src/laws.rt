@@ -1,7 +1,7 @@
 //! Theorems about access tables, each the contract of a function that only calls other theorems.
 
 ghost use Rattle.sv_audit.specs.Reading.{NumbersAreRight, ServedPathsAreRooted, TablesAreRight};
-ghost use Rattle.sv_audit.specs.Secure.{OnlyTransportChanges, SecureTablesAreRight};
+ghost use Rattle.sv_audit.specs.Secure.{OnlyTransportChanges};
 
 use sv_mapping::laws::{best_exists, best_is_a_match};
 use sv_policy::best_is_of_texts;
@@ -16,13 +16,6 @@ pub fn tables_are_right()
     best_exists();
     best_is_a_match();
     best_is_of_texts();
-}
-
-/// The table of constraints without transport requirements says what those constraints decide.
-pub fn secure_tables_are_right()
-    ensures { SecureTablesAreRight }
-{
-    tables_are_right();
 }
 
 /// Dropping the transport requirements changes only decisions about the transport, and no decision is about it

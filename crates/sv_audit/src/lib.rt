@@ -9,7 +9,7 @@ mod escaped;
 mod groups;
 mod laws;
 mod lines;
-mod members;
+mod patterns;
 mod roles;
 mod rows;
 mod secure;
@@ -19,9 +19,7 @@ mod values;
 mod words;
 
 pub use access::{Access, Cell};
-pub use laws::{
-    only_transport_changes, secure_tables_are_right, served_paths_are_rooted, tables_are_right,
-};
+pub use laws::{only_transport_changes, served_paths_are_rooted, tables_are_right};
 pub use lines::{METHODS_WIDTH, PATTERN_WIDTH, WHO_WIDTH, audit_text};
 pub use rows::{ContextTable, Group, Row, Table};
 pub use secure::without_transport;

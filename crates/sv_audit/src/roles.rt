@@ -3,26 +3,16 @@
 ghost use Rattle.std.specs.Prelude.{◌≡◌, ◌++◌, IfOk, OnOk, map};
 ghost use Rattle.std.specs.List.{flat_map, list_any};
 ghost use Rattle.sv_constraints.specs.Roles.{roles_named, roles_read};
-ghost use Rattle.sv_policy.specs.Merged.{admits_everyone, names_everyone};
+ghost use Rattle.sv_policy.specs.Merged.{admits_everyone};
 ghost use Rattle.sv_text.specs.Gives.{GivesAnswer};
 ghost use Rattle.sv_audit.specs.Access.{login_access, roles_meant, roles_of};
 
 use crate::access::Access;
-use crate::coverage::push_texts;
 use crate::sorted::{copied_texts, sorted};
 use std::alloc::Global;
-use sv_constraints::{Auth, Constraint, EVERY_CALLER, EVERY_ROLE, Rules, lists};
+use sv_constraints::{Auth, Constraint, EVERY_CALLER, EVERY_ROLE, Rules};
+use sv_policy::{names_everyone, push_texts};
 use sv_text::{Listed, NoMemory, Text};
-
-/// Returns whether every authenticated caller may pass.
-fn names_everyone(auth: &Auth) -> bool
-    ensures { result ≡ names_everyone auth.now }
-{
-    match auth {
-        Auth::Absent => false,
-        Auth::Roles(names) => lists(names.as_slice(), EVERY_CALLER),
-    }
-}
 
 /// Returns whether one of the constraints admits every authenticated caller.
 fn admit_everyone(members: &[&Constraint]) -> bool

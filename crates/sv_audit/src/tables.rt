@@ -6,18 +6,18 @@ ghost use Rattle.std.specs.Str.{bytes_eq};
 ghost use Rattle.sv_constraints.specs.Covering.{all_patterns};
 ghost use Rattle.sv_constraints.specs.declared.constraint.Constraint.{Constraint};
 ghost use Rattle.sv_mapping.specs.Pattern.{is_extension_pattern};
-ghost use Rattle.sv_policy.specs.Groups.{members_in};
-ghost use Rattle.sv_policy.specs.Patterns.{lists_pattern};
+ghost use Rattle.sv_policy.specs.Groups.{IsGrouped};
 ghost use Rattle.sv_text.specs.Gives.{GivesAnswer};
 ghost use Rattle.sv_audit.specs.Rows.{in_row_order, match_every_path, other_paths, row_at, table_of};
 
 use crate::access::{Access, Cell};
 use crate::groups::row_at;
-use crate::members::{Members, all_patterns};
+use crate::patterns::all_patterns;
 use crate::rows::{Group, Row, Table};
 use crate::sorted::sorted;
 use std::alloc::Global;
 use sv_constraints::{Constraint, Methods, Rules};
+use sv_policy::{Groups, grouped};
 use sv_text::{Listed, NoMemory};
 
 /// Returns the access table of constraints and their rules (Jakarta Servlet 6.0, section 13.8). The constraints may be
@@ -105,10 +105,10 @@ fn pattern_rows(
 ) -> Result<Vec<Row>, NoMemory>
     ensures { IfOk result (λ rows. rows.items ≡ map (row_at constraints.now rules.now) (map (λ pattern. pattern.now) patterns.now)) }
 {
-    let members = Members::of(alloc, constraints)?;
+    let groups = grouped(alloc, constraints)?;
     let mut rows = Vec::with_capacity(alloc, patterns.len())?;
     for pattern in patterns {
-        rows.push(row_among(alloc, rules, &members, *pattern)?)?;
+        rows.push(row_among(alloc, rules, &groups, *pattern)?)?;
     }
     Ok(rows)
 }
@@ -117,13 +117,13 @@ fn pattern_rows(
 fn row_among(
     alloc: Global,
     rules: &Rules,
-    members: &Members<'_>,
+    groups: &Groups<'_>,
     pattern: &str,
 ) -> Result<Row, NoMemory>
-    ensures { (constraints : List Constraint) → members_in members.now.groups pattern.now ≡ filter (λ constraint. lists_pattern constraint pattern.now) constraints →
+    ensures { (constraints : List Constraint) → IsGrouped constraints groups.now →
         GivesAnswer result (row_at constraints rules.now pattern.now) }
 {
-    match members.on(pattern) {
+    match groups.on(pattern) {
         Some(members) => row_at(alloc, rules, pattern, members.as_slice()),
         None => row_at(alloc, rules, pattern, &[]),
     }

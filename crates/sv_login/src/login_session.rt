@@ -18,8 +18,9 @@ pub fn renewed(
     now: u64,
 ) -> Result<u64, SessionFault>
     ensures { MatchResult result
-        (λ number. (session_faults held sessions.old ≡ []) × (number ≡ session_number held sessions.old) × (sessions.new ≡ with_session held words now sessions.old))
-        (λ fault. RefusesCall (session_faults held sessions.old) fault sessions.old sessions.new) }
+        (λ number. (session_faults held sessions.old.store ≡ []) × (number ≡ session_number held sessions.old.store)
+        × (sessions.new ≡ record sessions.old { store = with_session held words now sessions.old.store }))
+        (λ fault. RefusesCall (session_faults held sessions.old.store) fault sessions.old sessions.new) }
 {
     let Some(number) = living(sessions, held) else {
         return sessions.open(words, now);
@@ -32,7 +33,7 @@ pub fn renewed(
 
 /// Returns the number of the held session if it is live.
 fn living(sessions: &Sessions, held: Option<u64>) -> Option<u64>
-    ensures { result ≡ living held sessions.now }
+    ensures { result ≡ living held sessions.now.store }
 {
     let number = held?;
     sessions.id(number)?;

@@ -18,7 +18,7 @@ use sv_session::Sessions;
 /// a piece without `=` is not a cookie. Names are case-sensitive. Values are not trimmed again, and quotes belong to
 /// them. Only ids in `sessions` count, so those of other contexts do not.
 pub fn held(fields: &[Field], name: &str, sessions: &Sessions) -> Option<u64>
-    ensures { result ≡ held name.now fields.now sessions.now }
+    ensures { result ≡ held name.now fields.now sessions.now.store }
 {
     for field in fields {
         if let Some(number) = held_by_field(field, name, sessions) {
@@ -30,7 +30,7 @@ pub fn held(fields: &[Field], name: &str, sessions: &Sessions) -> Option<u64>
 
 /// Returns the number of the session that a field names, or none if it is not a Cookie field.
 fn held_by_field(field: &Field, name: &str, sessions: &Sessions) -> Option<u64>
-    ensures { result ≡ held name.now (field.now ∷ []) sessions.now }
+    ensures { result ≡ held name.now (field.now ∷ []) sessions.now.store }
 {
     if !field.is_named("cookie") {
         return None;
@@ -40,7 +40,7 @@ fn held_by_field(field: &Field, name: &str, sessions: &Sessions) -> Option<u64>
 
 /// Returns the number of the session that the value of a Cookie field names.
 fn held_by_value(value: &[u8], name: &str, sessions: &Sessions) -> Option<u64>
-    ensures { result ≡ first_given (λ value. number_of value sessions.now) (values_in name.now value.now) }
+    ensures { result ≡ first_given (λ value. number_of value sessions.now.store) (values_in name.now value.now) }
 {
     value.split(|b| *b == b';').fold(
         None,
@@ -50,7 +50,7 @@ fn held_by_value(value: &[u8], name: &str, sessions: &Sessions) -> Option<u64>
 
 /// Returns the session found before, or otherwise the one that a piece of a Cookie field names.
 fn held_first(found: Option<u64>, piece: &[u8], name: &str, sessions: &Sessions) -> Option<u64>
-    ensures { result ≡ option_or found (option_and_then (λ value. number_of value sessions.now) (value_of name.now (trim_ows piece.now))) }
+    ensures { result ≡ option_or found (option_and_then (λ value. number_of value sessions.now.store) (value_of name.now (trim_ows piece.now))) }
 {
     if found.is_some() {
         return found;

@@ -42,9 +42,9 @@ pub fn login_step(
     realm: &Realm,
 ) -> Result<LoginOutcome, NoMemory>
     ensures outcome { let post = post_of method.now canon.now.path (option_copied content_type.entry) body.now in
-        GivesAnswer result (login realm.now post held words now sessions.old).0 }
+        GivesAnswer result (login realm.now post held words now sessions.old.store).0 }
     ensures left { let post = post_of method.now canon.now.path (option_copied content_type.entry) body.now in
-        OnOk result (sessions.new ≡ (login realm.now post held words now sessions.old).1) }
+        OnOk result (sessions.new ≡ record sessions.old { store = (login realm.now post held words now sessions.old.store).1 }) }
     ensures no_memory { OnErr result (sessions.new ≡ sessions.old) }
 {
     if !is_login(method, canon.path.as_bytes()) {
@@ -71,9 +71,11 @@ fn enter(
     words: (u64, u64),
     now: u64,
 ) -> Result<LoginOutcome, NoMemory>
-    ensures outcome { GivesAnswer result (cond (has_no_session held sessions.old) outcomes.NoSession
-        (outcomes.Passed (session_number held sessions.old) (saved_target held words now sessions.old))) }
-    ensures left { OnOk result (sessions.new ≡ cond (has_no_session held sessions.old) sessions.old (logged_in (Some user) held words now sessions.old)) }
+    ensures outcome { GivesAnswer result (cond (has_no_session held sessions.old.store) outcomes.NoSession
+        (outcomes.Passed (session_number held sessions.old.store) (saved_target held words now sessions.old.store))) }
+    ensures left { OnOk result (sessions.new ≡ record sessions.old {
+      store = cond (has_no_session held sessions.old.store) sessions.old.store (logged_in (Some user) held words now sessions.old.store);
+    }) }
     ensures no_memory { OnErr result (sessions.new ≡ sessions.old) }
 {
     match renewed(sessions, held, words, now) {

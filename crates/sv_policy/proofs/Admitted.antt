@@ -19,7 +19,7 @@ use Rattle.sv_constraints.specs.declared.constraint.Auth.TheVariants.{Absent, Ro
 use Rattle.sv_constraints.specs.declared.constraint.Constraint.{Constraint}
 use Rattle.sv_constraints.specs.declared.findings.Findings.{Findings}
 use Rattle.sv_constraints.specs.declared.constraint.Rules.{Rules}
-use Rattle.sv_policy.proofs.Joined.{any_same, filter_pass, filter_same, filter_stop, gone_over, seen_more}
+use Rattle.sv_policy.proofs.Steps.{any_same, filter_pass, filter_same, filter_stop, gone_over, seen_more}
 use Rattle.sv_policy.proofs.Lowered.{lesser_assoc}
 use Rattle.sv_policy.specs.Merged.{IsMerged, admits_everyone, admitting, grants, names_everyone, names_role, number_of}
 use Rattle.sv_policy.specs.declared.merged.Merged.{Merged}

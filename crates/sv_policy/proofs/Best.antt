@@ -35,7 +35,8 @@ module _ (test : List ℕ → Bool) where
   any_within (y ∷ xs) others within some =
       any_within_at y xs others (test y) refl within some (any_within xs others (λ text there. within text (or_right (bytes_eq y text) (lists xs text) there)))
 
-  any_listed : (xs others : List (List ℕ)) → ((text : List ℕ) → lists xs text ≡ lists others text) → list_any test xs ≡ list_any test others
+  -- Lists of the same texts have a text that passes or both have none.
+  pub any_listed : (xs others : List (List ℕ)) → ((text : List ℕ) → lists xs text ≡ lists others text) → list_any test xs ≡ list_any test others
   any_listed xs others same = both_ways (list_any test xs) (list_any test others) (any_within xs others (λ text there. sym (same text) ∙ there)) (any_within others xs (λ text there. same text ∙ there))
 
   some_at : (passes : Bool) (x : List ℕ) (rest : Option (List ℕ)) (some : Bool) → is_some rest ≡ some → is_some (cond passes (Some x) rest) ≡ (passes || some)

@@ -1,7 +1,6 @@
 pub mod Contexts
 pub mod Methods
 pub mod Lowered
-pub mod Joined
 pub mod Admitted
 pub mod Named
 pub mod MergedWhole
@@ -18,6 +17,6 @@ pub mod Gapped
 pub mod Best
 pub mod Elsewhere
 pub mod Outcomes
-pub mod Grouped
+pub mod Grouping
 pub mod Alike
 pub mod Made

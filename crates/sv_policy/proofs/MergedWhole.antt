@@ -11,7 +11,7 @@ use Rattle.std.proofs.lemmas.Slice.Eq.{bytes_eq-Decides}
 use Rattle.sv_constraints.specs.Covering.{lists}
 use Rattle.sv_constraints.specs.declared.constraint.Constraint.{Constraint}
 use Rattle.sv_constraints.specs.declared.constraint.Rules.{Rules}
-use Rattle.sv_policy.proofs.Joined.{gone_over, seen_more}
+use Rattle.sv_policy.proofs.Steps.{gone_over, seen_more}
 use Rattle.sv_policy.proofs.Named.{unnamed_members}
 use Rattle.sv_policy.specs.Covering.{covers_at, named_methods}
 use Rattle.sv_policy.specs.Merged.{IsMerged}

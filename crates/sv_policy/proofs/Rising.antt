@@ -1,16 +1,14 @@
 -- Texts in byte order.
 use Rattle.std.proofs.lemmas.Bool.{false≢true}
-use Rattle.std.proofs.Common.{◌≡◌, ℕ, Bool, true, false, ◌||◌, ◌&&◌, List, [], ◌∷◌, refl, ap, sym, subst, ◌∙◌, Ordering, Less, Equal, Greater, nat_cmp, is_eq}
-use Rattle.std.specs.Prelude.{filter, fold}
+use Rattle.std.proofs.Common.{◌≡◌, ℕ, Bool, true, false, ◌||◌, List, [], ◌∷◌, refl, ap, sym, subst, ◌∙◌, Ordering, Less, Equal, Greater, nat_cmp, is_eq}
+use Rattle.std.specs.Prelude.{fold}
 use Rattle.std.specs.BTreeSet.{insert_key}
 use Rattle.std.specs.Cmp.Lexicographic.{slice_cmp, nat_list_cmp_total}
 use Rattle.std.specs.List.{AllByRecursion}
 use Rattle.std.specs.List.Sorted.{IsStrictlySortedBy}
 use Rattle.std.specs.Ordering.{match_ordering, ordering_reverse}
 use Rattle.std.specs.Str.{bytes_eq}
-use Rattle.std.proofs.Math.Bool.{and_comm}
 use Rattle.std.proofs.lemmas.Map.Text.{is_eq-slice_cmp}
-use Rattle.std.proofs.lemmas.Map.Views.{any-filter_same}
 use Rattle.std.proofs.lemmas.Slice.Eq.{bytes_eq-Decides}
 use Rattle.sv_constraints.specs.Covering.{lists}
 use Rattle.sv_policy.specs.Uncovered.{rising}
@@ -139,9 +137,3 @@ rising_same (x ∷ xs) (y ∷ ys) rises_x rises_y same =
     ap (λ z. z ∷ xs) heads
     ∙ ap (λ zs. y ∷ zs) (rising_same xs ys rises_x.1 rises_y.1 (λ text. tails_at x text xs ys (bytes_eq x text) refl rises_x.0 (subst (λ z. Above z ys) (sym heads) rises_y.0)
     (same text ∙ ap (λ z. bytes_eq z text || lists ys text) (sym heads))))
-
--- A text is in a filtered list exactly if it is in the list and passes the test.
-pub passing_lists : (test : List ℕ → Bool) (texts : List (List ℕ)) (other : List ℕ) → lists (filter test texts) other ≡ (lists texts other && test other)
-passing_lists test texts other =
-    any-filter_same (λ listed. bytes_eq listed other) test (test other) (λ listed same. ap test ((bytes_eq-Decides listed other).0 same)) texts
-    ∙ and_comm (test other) (lists texts other)

@@ -15,9 +15,9 @@ use Rattle.sv_constraints.specs.declared.constraint.Constraint.{Constraint}
 use Rattle.sv_constraints.specs.declared.constraint.Methods.TheVariants.{Except, Only}
 use Rattle.sv_constraints.specs.declared.findings.Findings.{Findings}
 use Rattle.sv_constraints.specs.declared.constraint.Rules.{Rules}
-use Rattle.sv_policy.proofs.Joined.{filter_same}
+use Rattle.sv_policy.proofs.Steps.{filter_same, passing_lists}
 use Rattle.sv_policy.proofs.Named.{first_false, second_false, unnamed_members}
-use Rattle.sv_policy.proofs.Rising.{passing_lists, rising_lists, rising_rises, rising_same}
+use Rattle.sv_policy.proofs.Rising.{rising_lists, rising_rises, rising_same}
 use Rattle.sv_policy.specs.Covering.{covers_unnamed, method_names, named_methods}
 use Rattle.sv_policy.specs.Merged.{IsMerged}
 use Rattle.sv_policy.specs.Uncovered.{IsRising, are_others_uncovered, differ, is_bare, is_uncovered, rising, uncovered_methods}

@@ -133,7 +133,11 @@ fn copied_patterns(alloc: Global, patterns: &[Pattern]) -> Result<Listed<Pattern
     Ok(Listed::from_vec(copies))
 }
 
-fn copied_methods(alloc: Global, methods: &Methods) -> Result<Methods, NoMemory>
+/// Copies a choice of methods.
+///
+/// # Errors
+/// `NoMemory` if memory runs out.
+pub fn copied_methods(alloc: Global, methods: &Methods) -> Result<Methods, NoMemory>
     ensures { GivesAnswer result methods.now }
 {
     match methods {

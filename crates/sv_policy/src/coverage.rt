@@ -2,20 +2,12 @@
 
 ghost use Rattle.std.specs.Prelude.{◌≡◌, ◌++◌, map, OnOk, IfOk};
 ghost use Rattle.std.specs.Option.{option_copied};
-ghost use Rattle.sv_constraints.specs.Covering.{lists};
 ghost use Rattle.sv_policy.specs.Covering.{collection_covers_unnamed, covers_at, covers_unnamed, listed_methods, method_names, named_methods};
 
+use crate::patterns::lists_pattern;
 use std::alloc::Global;
 use sv_constraints::{Collection, Constraint, Methods, covers};
-use sv_mapping::Pattern;
 use sv_text::{NoMemory, Text};
-
-/// Returns whether a pattern with this text is among the patterns.
-fn lists_pattern(patterns: &[Pattern], text: &str) -> bool
-    ensures { result ≡ lists patterns.now text.now }
-{
-    patterns.iter().any(|listed| listed.text() == text)
-}
 
 /// Returns whether a collection covers the methods that no constraint names at the pattern.
 fn collection_covers_unnamed(collection: &Collection, pattern: &str) -> bool
@@ -46,6 +38,9 @@ pub fn covers_at(constraint: &Constraint, pattern: &str, method: Option<&str>) -
 }
 
 /// Returns the methods that constraints name at the pattern, in order and with duplicates.
+///
+/// # Errors
+/// `NoMemory` if memory runs out.
 pub fn named_methods<'a>(
     alloc: Global,
     members: &[&'a Constraint],
@@ -85,7 +80,11 @@ fn push_names<'a>(names: &mut Vec<&'a str>, methods: &'a Methods) -> Result<(), 
     }
 }
 
-fn push_texts<'a>(names: &mut Vec<&'a str>, texts: &'a [Text]) -> Result<(), NoMemory>
+/// Appends texts.
+///
+/// # Errors
+/// `NoMemory` if memory runs out. Some texts may have been appended.
+pub fn push_texts<'a>(names: &mut Vec<&'a str>, texts: &'a [Text]) -> Result<(), NoMemory>
     ensures { OnOk result (map (λ name. name.now) names.new.items ≡ map (λ name. name.now) names.old.items ++ texts.now) }
 {
     for text in texts {

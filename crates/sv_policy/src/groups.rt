@@ -1,6 +1,6 @@
 //! Constraints grouped by the patterns that they list.
 
-ghost use Rattle.std.specs.Prelude.{◌≡◌, ◌++◌, ◌∷◌, ◌||◌, [], ℕ, List, IfOk, MatchOption, OnOk, if◌then◌else◌, map};
+ghost use Rattle.std.specs.Prelude.{◌≡◌, ◌++◌, ◌∷◌, ◌||◌, [], ℕ, List, IfOk, MatchOption, OnOk, filter, if◌then◌else◌, map};
 ghost use Rattle.std.specs.Str.{bytes_eq};
 ghost use Rattle.sv_policy.specs.Groups.{HasPatterns, IsGrouped, has_group, items_in, members_in};
 ghost use Rattle.sv_policy.specs.Patterns.{lists_pattern};
@@ -21,6 +21,9 @@ pub struct Groups<'a> {
 }
 
 /// Groups constraints by the patterns that they list.
+///
+/// # Errors
+/// `NoMemory` if memory runs out.
 pub fn grouped(alloc: Global, constraints: &[Constraint]) -> Result<Groups<'_>, NoMemory>
     ensures { IfOk result (IsGrouped constraints.now) }
 {
@@ -48,6 +51,8 @@ fn push_member<'a>(
 }
 
 impl<'a> Groups<'a> {
+    ghost use Rattle.sv_constraints.specs.declared.constraint.Constraint.{Constraint};
+
     /// Adds a constraint to the groups of its patterns.
     fn enter(&mut self, alloc: Global, constraint: &'a Constraint) -> Result<(), NoMemory>
         ensures members { OnOk result ((q : List ℕ) → members_in self.new.members q ≡ members_in self.old.members q ++
@@ -78,8 +83,9 @@ impl<'a> Groups<'a> {
 
     /// Returns the constraints that list a pattern, if any.
     pub fn on(&self, text: &str) -> Option<&Vec<&'a Constraint>>
-        ensures { MatchOption result (members_in self.now.members text.now ≡ [])
-            (λ members. map (λ member. member.now) members.now.items ≡ members_in self.now.members text.now) }
+        ensures { (constraints : List Constraint) → IsGrouped constraints self.now →
+            MatchOption result (filter (λ constraint. lists_pattern constraint text.now) constraints ≡ [])
+            (λ members. map (λ member. member.now) members.now.items ≡ filter (λ constraint. lists_pattern constraint text.now) constraints) }
     {
         self.members.get(text)
     }

@@ -26,6 +26,8 @@ mod shared_tables;
 mod table;
 mod tables;
 
+pub use copies::copied_methods;
+pub use coverage::{covers_at, named_methods, push_texts};
 pub use edit::{Edit, MAX_CONSTRAINTS, NewConstraint};
 pub use edit_fault::EditFault;
 pub use explain::{explain_parts, explain_request};
@@ -33,9 +35,11 @@ pub use explain_fault::ExplainFault;
 pub use explained_context::{ContextPolicy, HasPolicy};
 pub use explanation::{Explanation, HiddenCause};
 pub use gaps::Gap;
+pub use groups::{Groups, grouped};
 pub use laws::{
     best_is_of_texts, gaps_are_exact, gaps_rise, limits_are_as_stated, rising_is_in_order,
     uncovered_methods_are_exact,
 };
+pub use merged::names_everyone;
 pub use policy::{Decided, Policy};
 pub use table::Table;

@@ -27,8 +27,8 @@ pub struct Merged {
     roles: RoleNumbers,
 }
 
-/// Returns whether every authenticated caller may pass.
-fn names_everyone(auth: &Auth) -> bool
+/// Returns whether an authorization constraint names every authenticated caller.
+pub fn names_everyone(auth: &Auth) -> bool
     ensures { result ≡ names_everyone auth.now }
 {
     match auth {

@@ -3,7 +3,7 @@ use Rattle.std.specs.Prelude.{All}
 use Rattle.std.proofs.lemmas.List.Elements.{All-map}
 use Rattle.sv_constraints.specs.Covering.{all_patterns, lists}
 use Rattle.sv_policy.specs.Table.{IsTable}
-use Rattle.sv_policy.proofs.Grouped.{group_listed, texts_of_groups}
+use Rattle.sv_policy.proofs.Grouping.{group_listed, texts_of_groups}
 use Rattle.sv_policy.proofs.Whole.{all_none}
 use Rattle.sv_policy.proofs.grouped_tables.tables_of.Goals as goal
 

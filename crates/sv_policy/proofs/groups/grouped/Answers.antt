@@ -1,4 +1,4 @@
-use Rattle.sv_policy.proofs.Grouped.{grouped_more}
+use Rattle.sv_policy.proofs.Grouping.{grouped_more}
 use Rattle.sv_policy.specs.Groups.{members_in}
 use Rattle.sv_policy.proofs.groups.grouped.Goals as goal
 

@@ -1,8 +1,5 @@
-use Rattle.std.proofs.Common.{subst, ap, ◌∙◌, map, None}
-use Rattle.std.specs.Prelude.{filter}
+use Rattle.std.proofs.Common.{ap, ◌∙◌, map}
 use Rattle.sv_policy.proofs.MergedWhole.{whole}
-use Rattle.sv_policy.specs.Covering.{covers_at, named_methods}
-use Rattle.sv_policy.specs.Merged.{IsMerged}
 use Rattle.sv_policy.specs.Entries.{entry_in}
 use Rattle.sv_policy.proofs.entries.Entries.merge.Goals as goal
 

@@ -1,5 +1,5 @@
 use Rattle.std.proofs.Common.{ap, ◌∙◌}
-use Rattle.sv_policy.proofs.Grouped.{entered_all, entered_more, new_text}
+use Rattle.sv_policy.proofs.Grouping.{entered_all, entered_more, new_text}
 use Rattle.sv_policy.specs.Groups.{members_in}
 use Rattle.sv_policy.specs.Patterns.{different, listed_in}
 use Rattle.sv_policy.proofs.groups.Groups.enter.Goals as goal

@@ -1,6 +1,6 @@
 use Rattle.std.proofs.Common.{ap, cond, refl, sym, [], ◌∷◌, ◌++◌, ◌∙◌}
 use Rattle.std.specs.Str.{bytes_eq}
-use Rattle.sv_policy.proofs.Grouped.{patterns_more, patterns_stay, seen_pushed}
+use Rattle.sv_policy.proofs.Grouping.{patterns_more, patterns_stay, seen_pushed}
 use Rattle.sv_policy.specs.Groups.{has_group, items_in, members_in}
 use Rattle.sv_policy.proofs.groups.Groups.enter_at.Goals as goal
 

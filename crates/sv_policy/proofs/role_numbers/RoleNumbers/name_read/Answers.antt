@@ -5,7 +5,7 @@ use Rattle.std.specs.Str.{bytes_eq}
 use Rattle.sv_constraints.specs.Covering.{lists}
 use Rattle.sv_constraints.specs.Findings.{lesser}
 use Rattle.sv_constraints.specs.Roles.{roles_named}
-use Rattle.sv_policy.proofs.Joined.{any_more, any_of_joined, gone_over}
+use Rattle.sv_policy.proofs.Steps.{any_more, any_of_joined, gone_over}
 use Rattle.sv_policy.proofs.Lowered.{lesser_twice, lesser_none}
 use Rattle.sv_policy.specs.Merged.{number_of}
 use Rattle.sv_policy.proofs.role_numbers.RoleNumbers.name_read.Goals as goal

@@ -150,6 +150,6 @@ texts_of_groups value constraints tables patterns are there text =
     ∙ passing_lists (λ t. lists (all_patterns constraints) t) patterns text
     ∙ both_at (lists patterns text) (lists (all_patterns constraints) text) (there text)
 
-pub no_members : (constraints : List Constraint) (text pattern : List ℕ) (members : List Constraint) → members ≡ filter (λ c. lists_pattern c text) constraints → members ≡ [] → text ≡ pattern → not true ≡ lists (all_patterns constraints) pattern
-no_members constraints text pattern members are none same =
-    ap (λ (ms : List Constraint). not (length ms == 0)) (sym none ∙ are) ∙ some_filtered (λ c. lists_pattern c text) constraints ∙ sym (listed_any constraints text) ∙ ap (lists (all_patterns constraints)) same
+pub no_members : (constraints : List Constraint) (text pattern : List ℕ) → filter (λ c. lists_pattern c text) constraints ≡ [] → text ≡ pattern → not true ≡ lists (all_patterns constraints) pattern
+no_members constraints text pattern none same =
+    ap (λ (ms : List Constraint). not (length ms == 0)) (sym none) ∙ some_filtered (λ c. lists_pattern c text) constraints ∙ sym (listed_any constraints text) ∙ ap (lists (all_patterns constraints)) same

@@ -1,0 +1,42 @@
+//! The patterns of constraints.
+
+ghost use Rattle.std.specs.Prelude.{◌≡◌, ◌++◌, IfOk, OnOk, map};
+ghost use Rattle.sv_constraints.specs.Covering.{all_patterns, patterns_in};
+
+use std::alloc::Global;
+use sv_constraints::Constraint;
+use sv_mapping::Pattern;
+use sv_text::NoMemory;
+
+/// Returns the patterns of constraints, in order and with duplicates.
+pub fn all_patterns(alloc: Global, constraints: &[Constraint]) -> Result<Vec<&str>, NoMemory>
+    ensures { IfOk result (λ texts. map (λ text. text.now) texts.items ≡ all_patterns constraints.now) }
+{
+    let mut texts = Vec::new(alloc);
+    for constraint in constraints {
+        push_patterns_in(&mut texts, constraint)?;
+    }
+    Ok(texts)
+}
+
+/// Appends the patterns of a constraint.
+fn push_patterns_in<'a>(
+    texts: &mut Vec<&'a str>,
+    constraint: &'a Constraint,
+) -> Result<(), NoMemory>
+    ensures { OnOk result (map (λ text. text.now) texts.new.items ≡ map (λ text. text.now) texts.old.items ++ patterns_in constraint.now) }
+{
+    for collection in constraint.collections.as_slice() {
+        push_patterns(texts, collection.patterns.as_slice())?;
+    }
+    Ok(())
+}
+
+fn push_patterns<'a>(texts: &mut Vec<&'a str>, patterns: &'a [Pattern]) -> Result<(), NoMemory>
+    ensures { OnOk result (map (λ text. text.now) texts.new.items ≡ map (λ text. text.now) texts.old.items ++ patterns.now) }
+{
+    for pattern in patterns {
+        texts.push(pattern.text())?;
+    }
+    Ok(())
+}
