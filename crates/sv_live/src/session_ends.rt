@@ -41,8 +41,8 @@ pub(crate) fn end_sessions<S: Servlet, F: Filter, L: Listener>(
     journal: &mut Journal,
 )
     ensures made { Runs (steps_of S.servlet_step F.filter_step L.listener_step)
-        (world context.now parts.old journal.old) (ends_told sessions.old.sessions (length parts.old.listeners.items)) (world context.now parts.new journal.new) }
-    ensures left { sessions.new ≡ record sessions.old { sessions = [] } }
+        (world context.now parts.old journal.old) (ends_told sessions.old.store.sessions (length parts.old.listeners.items)) (world context.now parts.new journal.new) }
+    ensures left { sessions.new ≡ record sessions.old { store = record sessions.old.store { sessions = [] } } }
     ensures counts { HasSameCounts parts.old parts.new }
 {
     let mut ended = sessions.end_all();

@@ -26,8 +26,8 @@ impl<S: Servlet, F: Filter, L: Listener> Live<S, F, L> {
         journal: &mut Journal,
     ) -> Parts<S, F, L>
         ensures made { Runs (steps_of S.servlet_step F.filter_step L.listener_step)
-            (live_world self journal.old) (stop_calls (length self.parts.listeners.items) (in_service self) sessions.old.sessions) (world self.context result journal.new) }
-        ensures left { sessions.new ≡ record sessions.old { sessions = [] } }
+            (live_world self journal.old) (stop_calls (length self.parts.listeners.items) (in_service self) sessions.old.store.sessions) (world self.context result journal.new) }
+        ensures left { sessions.new ≡ record sessions.old { store = record sessions.old.store { sessions = [] } } }
     {
         let Live {
             context,
@@ -61,8 +61,8 @@ pub fn end_all<S: Servlet, F: Filter, L: Listener>(
 )
     requires { All (IsPlaceIn parts.old) places.now }
     ensures made { Runs (steps_of S.servlet_step F.filter_step L.listener_step)
-        (world context.now parts.old journal.old) (stop_calls (length parts.old.listeners.items) places.now sessions.old.sessions) (world context.now parts.new journal.new) }
-    ensures left { sessions.new ≡ record sessions.old { sessions = [] } }
+        (world context.now parts.old journal.old) (stop_calls (length parts.old.listeners.items) places.now sessions.old.store.sessions) (world context.now parts.new journal.new) }
+    ensures left { sessions.new ≡ record sessions.old { store = record sessions.old.store { sessions = [] } } }
     ensures counts { HasSameCounts parts.old parts.new }
 {
     destroy_back(alloc, context, parts, places, journal);

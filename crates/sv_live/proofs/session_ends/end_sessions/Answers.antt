@@ -28,8 +28,8 @@ returns-clause-made g c =
     let count = length c.args.parts.now.listeners.items in
     let start = world c.args.context.now c.args.parts.now c.args.journal.now in
     let last = world c.args.context.now c.loop-session.parts c.loop-session.journal in
-    let all : ends_told c.args.sessions.now.sessions count ≡ told_of c.end_all-ended.result count =
-    told_in_order 0 c.args.sessions.now.serial c.args.sessions.now.sessions count c.end_all-ended.ensures.order ∙ ap (λ ended. told_of ended count) (sym c.end_all-ended.ensures.ended) in
+    let all : ends_told c.args.sessions.now.store.sessions count ≡ told_of c.end_all-ended.result count =
+    told_in_order 0 c.args.sessions.now.store.serial c.args.sessions.now.store.sessions count c.end_all-ended.ensures.order ∙ ap (λ ended. told_of ended count) (sym c.end_all-ended.ensures.ended) in
     subst (λ records. Runs (steps_of g.S.Servlet.servlet_step g.F.Filter.filter_step g.L.Listener.listener_step) start records last) (sym all)
     (doing_all (steps_of g.S.Servlet.servlet_step g.F.Filter.filter_step g.L.Listener.listener_step) start last (told_of c.end_all-ended.result count) (told_of c.loop-session.ended count)
     (ap (λ ended. told_of ended count) (none_next c.loop-session.ended c.in_default.ensures.next)) c.loop-session.invariant.made)

@@ -20,5 +20,5 @@ returns-clause-made g c =
     let test = is_in_service c.self.inside.standings.items in
     let kept : c.as_slice.result.now ≡ filter test c.self.inside.initialised.items =
     c.as_slice.ensures.value ∙ filter_same _ test _ (λ x b f' k. search rules) _ _ c.retain.ensures.filtered in
-    stops (steps_of g.S.Servlet.servlet_step g.F.Filter.filter_step g.L.Listener.listener_step) c.args.self _ c.as_str.result.now c.as_slice.result.now c.args.sessions.now.sessions c.args.journal.now c.end_all.new.parts c.end_all.new.journal
+    stops (steps_of g.S.Servlet.servlet_step g.F.Filter.filter_step g.L.Listener.listener_step) c.args.self _ c.as_str.result.now c.as_slice.result.now c.args.sessions.now.store.sessions c.args.journal.now c.end_all.new.parts c.end_all.new.journal
     c.self.view_is c.as_str.ensures kept c.end_all.ensures.made
