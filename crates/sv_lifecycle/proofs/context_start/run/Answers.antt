@@ -2,7 +2,7 @@ use Rattle.std.proofs.Common.{[], length, replicate, Ok, sym, ◌∙◌, ap, sub
 use Rattle.sv_component.specs.Runs.{Runs}
 use Rattle.sv_session.specs.declared.event.Event.TheVariants.{ContextInitialized}
 use Rattle.sv_listeners.specs.Telling.{told}
-use Rattle.sv_session.specs.Store.{Store}
+use Rattle.sv_session.specs.Store.{SessionsState}
 use Rattle.sv_live.specs.Calls.{stop_calls}
 use Rattle.sv_lifecycle.specs.Starting.{Starts, code_of}
 use Rattle.sv_live.specs.World.{world}
@@ -55,8 +55,8 @@ returns g c = λ app fits is_plan.
     let ends = subst (λ context. Runs (steps_of g.S.Servlet.servlet_step g.F.Filter.filter_step g.L.Listener.listener_step) (world context c.begin_all-begun.new.parts c.begin_all-begun.new.journal)
     (stop_calls (length c.begin_all-begun.new.parts.listeners.items) c.as_slice.result.now []) (world context c.end_all.new.parts c.end_all.new.journal))
     (c.as_str-2.ensures ∙ begins.context)
-    (subst (λ (store : Store). Runs (steps_of g.S.Servlet.servlet_step g.F.Filter.filter_step g.L.Listener.listener_step) (world c.as_str-2.result.now c.begin_all-begun.new.parts c.begin_all-begun.new.journal)
-    (stop_calls (length c.begin_all-begun.new.parts.listeners.items) c.as_slice.result.now store.sessions) (world c.as_str-2.result.now c.end_all.new.parts c.end_all.new.journal))
+    (subst (λ (state : SessionsState). Runs (steps_of g.S.Servlet.servlet_step g.F.Filter.filter_step g.L.Listener.listener_step) (world c.as_str-2.result.now c.begin_all-begun.new.parts c.begin_all-begun.new.journal)
+    (stop_calls (length c.begin_all-begun.new.parts.listeners.items) c.as_slice.result.now state.store.sessions) (world c.as_str-2.result.now c.end_all.new.parts c.end_all.new.journal))
     c.new-no_sessions.ensures c.end_all.ensures.made) in
     undone (steps_of g.S.Servlet.servlet_step g.F.Filter.filter_step g.L.Listener.listener_step) app c.args.parts c.tell.new.self c.args.plan c.args.journal.now c.tell.new.journal c.begin_all-begun.result
     c.begin_all-begun.new.parts c.begin_all-begun.new.plan c.begin_all-begun.new.journal c.as_slice.result.now c.end_all.new.parts c.end_all.new.journal c.code_of-code.result fits is_plan tells begins ends
