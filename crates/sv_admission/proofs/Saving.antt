@@ -9,7 +9,7 @@ use Rattle.sv_admission.specs.Settled.{Settled, interrupted, opened_with, renewe
 use Rattle.sv_admission.specs.declared.sessions.Settled as code
 use Rattle.sv_session.specs.Calls.{RefusesCall, opened, opening_faults, with_saved}
 use Rattle.sv_session.specs.Runs.{unless}
-use Rattle.sv_session.specs.Store.{Store}
+use Rattle.sv_session.specs.Store.{SessionsState, Store}
 use Rattle.sv_session.specs.declared.session_fault.SessionFault.{SessionFault}
 use Rattle.sv_session.specs.declared.session_fault.SessionFault.TheVariants.{SerialSpent, TooMany}
 use Rattle.sv_tree.specs.FileServlet.{sent_to}
@@ -24,31 +24,32 @@ some_fault [] fault done refused h = cc
 some_fault (first ∷ faults) fault done refused h = refl
 
 -- A session was opened, and the target saved in it.
-pub opened_so : (asked : Asked) (target : List ℕ) (store between after : Store) (number : ℕ) (x : Settled)
-    → (opening_faults store ≡ []) × (number ≡ store.serial + 1) × (between ≡ opened asked.words asked.moment store)
-    → after ≡ with_saved number (Some target) between → x ≡ renewed None number after
-    → x ≡ saved_in asked target None store
-opened_so asked target store between after number x (none, is_number, opens) saves is =
-    let made : renewed None number after ≡ opened_with asked target store = rw (saves, opens, is_number) refl in
-    is ∙ made ∙ sym (no_fault (opening_faults store) (opened_with asked target store) (unchanged None store) none)
+pub opened_so : (asked : Asked) (target : List ℕ) (before between after : SessionsState) (number : ℕ) (x : Settled)
+    → (opening_faults before.store ≡ []) × (number ≡ before.store.serial + 1) × (between ≡ record before { store = opened asked.words asked.moment before.store })
+    → after ≡ record between { store = with_saved number (Some target) between.store } → x ≡ renewed None number after.store
+    → x ≡ saved_in asked target None before.store
+opened_so asked target before between after number x (none, is_number, opens) saves is =
+    let made : renewed None number after.store ≡ opened_with asked target before.store = rw (saves, opens, is_number) refl in
+    is ∙ made ∙ sym (no_fault (opening_faults before.store) (opened_with asked target before.store) (unchanged None before.store) none)
 
 -- No session could be opened.
-refused_so : (asked : Asked) (target : List ℕ) (store after : Store) (fault : SessionFault) (x : Settled)
-    → (slice_get (opening_faults store) 0 ≡ Some fault) × (after ≡ store) → x ≡ unchanged None after
-    → x ≡ saved_in asked target None store
-refused_so asked target store after fault x (some, same) is =
-    is ∙ ap (unchanged None) same ∙ sym (some_fault (opening_faults store) fault (opened_with asked target store) (unchanged None store) some)
+refused_so : (asked : Asked) (target : List ℕ) (before after : SessionsState) (fault : SessionFault) (x : Settled)
+    → (slice_get (opening_faults before.store) 0 ≡ Some fault) × (after ≡ before) → x ≡ unchanged None after.store
+    → x ≡ saved_in asked target None before.store
+refused_so asked target before after fault x (some, same) is =
+    is ∙ ap (λ (state : SessionsState). unchanged None state.store) same
+    ∙ sym (some_fault (opening_faults before.store) fault (opened_with asked target before.store) (unchanged None before.store) some)
 
 -- The store is full, or its serial numbers are used up.
-pub full_so : (asked : Asked) (target : List ℕ) (store after : Store) (fault : SessionFault) (x : Settled)
-    → fault ≡ TooMany → RefusesCall (opening_faults store) fault store after → x ≡ unchanged None after → x ≡ saved_in asked target None store
-full_so asked target store after fault x is refuses =
-    refused_so asked target store after TooMany x (subst (λ other. RefusesCall (opening_faults store) other store after) is refuses)
+pub full_so : (asked : Asked) (target : List ℕ) (before after : SessionsState) (fault : SessionFault) (x : Settled)
+    → fault ≡ TooMany → RefusesCall (opening_faults before.store) fault before after → x ≡ unchanged None after.store → x ≡ saved_in asked target None before.store
+full_so asked target before after fault x is refuses =
+    refused_so asked target before after TooMany x (subst (λ other. RefusesCall (opening_faults before.store) other before after) is refuses)
 
-pub spent_so : (asked : Asked) (target : List ℕ) (store after : Store) (fault : SessionFault) (x : Settled)
-    → fault ≡ SerialSpent → RefusesCall (opening_faults store) fault store after → x ≡ unchanged None after → x ≡ saved_in asked target None store
-spent_so asked target store after fault x is refuses =
-    refused_so asked target store after SerialSpent x (subst (λ other. RefusesCall (opening_faults store) other store after) is refuses)
+pub spent_so : (asked : Asked) (target : List ℕ) (before after : SessionsState) (fault : SessionFault) (x : Settled)
+    → fault ≡ SerialSpent → RefusesCall (opening_faults before.store) fault before after → x ≡ unchanged None after.store → x ≡ saved_in asked target None before.store
+spent_so asked target before after fault x is refuses =
+    refused_so asked target before after SerialSpent x (subst (λ other. RefusesCall (opening_faults before.store) other before after) is refuses)
 
 -- A method other than GET.
 pub not_saved : (context_path : List ℕ) (asked : Asked) (held : Option ℕ) (store : Store) (test : Bool) (x : Settled)
@@ -65,6 +66,8 @@ is_saved context_path asked target held store after test (Ok settled) is got whe
     let get = sym is ∙ got in rw get (saves ∙ ap (λ text. saved_in asked text held store) where_to)
 
 -- The target is saved in the held session.
-pub held_so : (asked : Asked) (target : List ℕ) (held : Option ℕ) (number : ℕ) (store after : Store) (x : Settled)
-    → held ≡ Some number → after ≡ with_saved number (Some target) store → x ≡ unchanged (Some number) after → x ≡ saved_in asked target held store
-held_so asked target held number store after x is saves is_unchanged = rw is (is_unchanged ∙ ap (unchanged (Some number)) saves)
+pub held_so : (asked : Asked) (target : List ℕ) (held : Option ℕ) (number : ℕ) (before after : SessionsState) (x : Settled)
+    → held ≡ Some number → after ≡ record before { store = with_saved number (Some target) before.store } → x ≡ unchanged (Some number) after.store
+    → x ≡ saved_in asked target held before.store
+held_so asked target held number before after x is saves is_unchanged =
+    rw is (is_unchanged ∙ ap (λ (state : SessionsState). unchanged (Some number) state.store) saves)

@@ -46,8 +46,8 @@ pub fn admit(
     request: &Request<'_>,
     sessions: &mut Sessions,
 ) -> Result<Admission, NoMemory>
-    ensures admission { GivesAnswer result (spec.admission site.now policy.now users.now (asked_in request.now) sessions.old) }
-    ensures sessions { OnOk result (sessions.new ≡ (spec.settled_in site.now policy.now users.now (asked_in request.now) sessions.old).store) }
+    ensures admission { GivesAnswer result (spec.admission site.now policy.now users.now (asked_in request.now) sessions.old.store) }
+    ensures sessions { OnOk result (sessions.new.store ≡ (spec.settled_in site.now policy.now users.now (asked_in request.now) sessions.old.store).store) }
 {
     let held = access(site, request, sessions);
     let app = site.descriptor().web_app();
@@ -72,8 +72,8 @@ pub fn admit(
 
 // Returns the session that the request's cookies name, if any, and accesses it.
 fn access(site: &Site, request: &Request<'_>, sessions: &mut Sessions) -> Option<u64>
-    ensures held { result ≡ session_held site.now.app (asked_in request.now) sessions.old }
-    ensures accessed { sessions.new ≡ accessed result request.now.moment sessions.old }
+    ensures held { result ≡ session_held site.now.app (asked_in request.now) sessions.old.store }
+    ensures accessed { sessions.new.store ≡ accessed result request.now.moment sessions.old.store }
 {
     let name = site.descriptor().web_app().session.cookie.name.as_str();
     let held = held(request.message.fields.as_slice(), name, sessions);

@@ -36,8 +36,8 @@ pub(crate) fn judge(
     held: Option<u64>,
     sessions: &mut Sessions,
 ) -> Result<Outcome, NoMemory>
-    ensures outcome { GivesAnswer result (outcome_of app.now policy.now users.now (asked_in request.now) held sessions.old) }
-    ensures left { OnOk result (sessions.new ≡ left_by_login app.now users.now (asked_in request.now) held sessions.old) }
+    ensures outcome { GivesAnswer result (outcome_of app.now policy.now users.now (asked_in request.now) held sessions.old.store) }
+    ensures left { OnOk result (sessions.new.store ≡ left_by_login app.now users.now (asked_in request.now) held sessions.old.store) }
 {
     if is_protected(request.canon.path.as_str()) {
         return Ok(Outcome::Protected);
@@ -59,7 +59,7 @@ pub(crate) fn caller_held<'a>(
     held: Option<u64>,
     sessions: &Sessions,
 ) -> Option<&'a Caller>
-    ensures { option_copied result ≡ caller_held users.now held sessions.now }
+    ensures { option_copied result ≡ caller_held users.now held sessions.now.store }
 {
     let user = sessions.caller(held?)?;
     users.caller(user)
@@ -74,10 +74,10 @@ fn login_outcome(
     sessions: &mut Sessions,
 ) -> Result<Option<Outcome>, NoMemory>
     ensures outcome { let asked = asked_in request.now in
-        GivesAnswer result (login_outcome (login users.now (post_in asked) held asked.words asked.moment sessions.old).0) }
+        GivesAnswer result (login_outcome (login users.now (post_in asked) held asked.words asked.moment sessions.old.store).0) }
     ensures left { let asked = asked_in request.now in
-        OnOk result (sessions.new ≡ (login users.now (post_in asked) held asked.words asked.moment sessions.old).1) }
-    ensures no_memory { OnErr result (sessions.new ≡ sessions.old) }
+        OnOk result (sessions.new.store ≡ (login users.now (post_in asked) held asked.words asked.moment sessions.old.store).1) }
+    ensures no_memory { OnErr result (sessions.new.store ≡ sessions.old.store) }
 {
     let login = login_step(
         alloc,

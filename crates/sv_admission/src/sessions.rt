@@ -65,8 +65,8 @@ pub(crate) fn settle(
     outcome: &Outcome,
     sessions: &mut Sessions,
 ) -> Result<Settled, NoMemory>
-    ensures { IfOk result (λ settled. seen sessions.new settled
-        ≡ spec.settled_by context_path.now (asked_in request.now) held outcome.now sessions.old) }
+    ensures { IfOk result (λ settled. seen sessions.new.store settled
+        ≡ spec.settled_by context_path.now (asked_in request.now) held outcome.now sessions.old.store) }
 {
     match outcome {
         Outcome::LoggedIn { number, .. } => Ok(Settled::renewed(held, *number)),
@@ -88,8 +88,8 @@ fn interrupt(
     held: Option<u64>,
     sessions: &mut Sessions,
 ) -> Result<Settled, NoMemory>
-    ensures { IfOk result (λ settled. seen sessions.new settled
-        ≡ spec.interrupted context_path.now (asked_in request.now) held sessions.old) }
+    ensures { IfOk result (λ settled. seen sessions.new.store settled
+        ≡ spec.interrupted context_path.now (asked_in request.now) held sessions.old.store) }
 {
     if !is_get(request.message) {
         return Ok(Settled::unchanged(held));
@@ -116,7 +116,7 @@ fn save_in(
     held: Option<u64>,
     sessions: &mut Sessions,
 ) -> Result<Settled, NoMemory>
-    ensures { IfOk result (λ settled. seen sessions.new settled ≡ spec.saved_in (asked_in request.now) target held sessions.old) }
+    ensures { IfOk result (λ settled. seen sessions.new.store settled ≡ spec.saved_in (asked_in request.now) target held sessions.old.store) }
 {
     match held {
         Some(number) => {
@@ -133,7 +133,7 @@ fn open_with(
     target: Text,
     sessions: &mut Sessions,
 ) -> Result<Settled, NoMemory>
-    ensures { IfOk result (λ settled. seen sessions.new settled ≡ spec.saved_in (asked_in request.now) target None sessions.old) }
+    ensures { IfOk result (λ settled. seen sessions.new.store settled ≡ spec.saved_in (asked_in request.now) target None sessions.old.store) }
 {
     match sessions.open(request.words, request.moment) {
         Ok(number) => {
@@ -158,7 +158,7 @@ pub(crate) fn session_of(
     settled: &Settled,
     sessions: &Sessions,
 ) -> Result<Option<HeldSession>, NoMemory>
-    ensures { GivesAnswer result (spec.session_of users.now (seen sessions.now settled.now)) }
+    ensures { GivesAnswer result (spec.session_of users.now (seen sessions.now.store settled.now)) }
 {
     let Some(number) = settled.session else {
         return Ok(None);

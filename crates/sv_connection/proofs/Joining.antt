@@ -1,15 +1,17 @@
 -- Joining notes with later notes.
-use Rattle.std.proofs.Common.{◌≡◌, ℕ, List, [], ◌∷◌, ◌++◌, Result, sym, subst, map}
+use Rattle.std.proofs.Common.{◌≡◌, ℕ, List, [], ◌∷◌, ◌++◌, Result, length, sym, subst, map, ◌∙◌}
 use Rattle.std.proofs.lemmas.List.{map-append}
 use Rattle.sv_connection.specs.Connection.{AreTold}
+use Rattle.sv_connection.specs.Counting.{Counts}
 use Rattle.sv_connection.specs.Course.{Along}
 use Rattle.sv_connection.specs.Loops.{Goes}
 use Rattle.sv_connection.specs.Notes.{Answers, Does, Edits, NoneWaits, Note, Of, Reports, Shows, TakesAll, TakesOne, Talks, Ticks, Went, action_in, actions_of, answer_in, answer_of, answers, event_in, event_of, events, moment_in, moments, poll_in, poller_calls}
 use Rattle.sv_connection.specs.Polling.{AreCalled, PollerCall, Polling}
 use Rattle.sv_connection.specs.Slots.{Accepts, Arms, Action, Closes, Ends, EndsUntold, Hands, Opens, OpensUntold, Blocks, Slot, Reads, TurnsAway, Writes}
-use Rattle.sv_connection.specs.Known.{place_in}
+use Rattle.sv_connection.specs.Known.{most_open, place_in}
 use Rattle.sv_connection.specs.Ways.{Ways}
 use Rattle.sv_connection.specs.declared.event_loop.EventLoop.{EventLoop}
+use Rattle.sv_connection.specs.declared.limits.Limits.{Limits}
 use Rattle.sv_run.specs.Events.{Happening}
 use Rattle.sv_run.specs.Reacting.{Reacting, Reacts}
 use Rattle.sv_run.specs.declared.happening.Reaction.{Reaction}
@@ -34,6 +36,12 @@ pub along_join : {S : Type 0} (ways : Ways S) (before between after : Slot S) (a
 along_join {S} ways before between after [] more is later = let P : Slot S → Type 0 = λ p. Along ways p more after in subst P is later
 along_join ways before between after (action ∷ actions) more (middle, leads, front) later =
     (middle, leads, along_join ways middle between after actions more front later)
+
+pub counts_join : {S : Type 0} (most before between after : ℕ) (notes more : List (Note S)) → Counts most before notes between → Counts most between more after
+    → Counts most before (notes ++ more) after
+counts_join most before between after [] more is later = let P : ℕ → Type 0 = λ n. Counts most n more after in subst P is later
+counts_join most before between after (note ∷ notes) more (middle, here, front) later =
+    (middle, here, counts_join most middle between after notes more front later)
 
 -- What takes no event is followed by the same.
 quiet : {R : Type 0} (steps : Reacting R) (before between after : R) (happenings : List Happening) (results : List (Result Reaction StepFault)) → between ≡ before
@@ -118,4 +126,9 @@ module _ {R N C S : Type 0} (ways : Ways S) (steps : Reacting R) (awaits : R →
             subst Q (sym (flat_join (action_in number) notes more))
             (along_join ways (place_in before.table number) (place_in between.table number) (place_in after.table number)
             (actions_of number notes) (actions_of number more) (first.courses number) (second.courses number));
+        limits = second.limits ∙ first.limits;
+        counts =
+            let C : Limits → Type 0 = λ limits. Counts (most_open limits) (length between.table.entries) more (length after.table.entries) in
+            counts_join (most_open before.table.limits) (length before.table.entries) (length between.table.entries) (length after.table.entries) notes more first.counts
+            (subst C first.limits second.counts);
       }

@@ -4,7 +4,6 @@ use Rattle.std.proofs.lemmas.Bool.{ltb-true}
 use Rattle.std.specs.List.{AllByRecursion}
 use Rattle.sv_connection.specs.Connection.{AreTold}
 use Rattle.sv_connection.specs.Course.{Along}
-use Rattle.sv_connection.specs.Finishing.{IsFinishing}
 use Rattle.sv_connection.specs.Known.{none_left, place_in}
 use Rattle.sv_connection.specs.LoopLaws.{calls_of, end_calls, handed_of, sends_of}
 use Rattle.sv_connection.specs.LoopRuns.{AnEventLoopIsARun, IsARunOfAll, IsOverBy, IsServed, IsTaken, call_for, handed_to, of_all, round_notes, sent_to}
@@ -18,6 +17,7 @@ use Rattle.sv_connection.specs.Ways.{Ways}
 use Rattle.sv_connection.specs.declared.close_reason.CloseReason.{CloseReason}
 use Rattle.sv_connection.specs.declared.close_reason.CloseReason.TheVariants.{AnswerCloses, GivenUp, PeerEnded, ReadFails, WriteFails}
 use Rattle.sv_connection.specs.declared.event_loop.EventLoop.{EventLoop}
+use Rattle.sv_connection.specs.declared.limits.Limits.{Limits}
 use Rattle.sv_connection.specs.declared.poller.PollEvent.TheVariants.{Stop}
 use Rattle.sv_connection.specs.declared.over.Over as over
 use Rattle.sv_connection.specs.declared.over.Over.TheVariants.{Closed, Lost}
@@ -32,6 +32,7 @@ use Rattle.sv_run.proofs.Reactions.{reacts_join, run_of}
 use Rattle.sv_streams.specs.Calls.{given, taken}
 use Rattle.sv_streams.proofs.CallJoins.{given_join, taken_join}
 use Rattle.sv_connection.proofs.AloneLemmas.{all_join, flat_join, flat_one_more}
+use Rattle.sv_connection.proofs.FinishingLemmas.{IsQuiet, finishes_quiet}
 use Rattle.sv_connection.proofs.Joining.{along_join, called_join, goes_join, takes_react, told_join}
 use Rattle.sv_connection.proofs.LawLemmas.{EndsBy, ahead_of, course_given, course_sent, ends_so, is_yet, no_unused, unsent_of}
 use Rattle.sv_connection.proofs.Rounding.{rounds_are_one}
@@ -372,7 +373,7 @@ same_bytes by other same (action ∷ actions) = λ i. same action i ++ same_byte
 -- ---- The end of the loop takes no event
 
 module _ {S : Type 0} where
-  pub quiet_end : (notes : List (Note S)) → AllByRecursion IsFinishing notes → (events notes ≡ []) × (answers notes ≡ []) × (moments notes ≡ [])
+  pub quiet_end : (notes : List (Note S)) → AllByRecursion IsQuiet notes → (events notes ≡ []) × (answers notes ≡ []) × (moments notes ≡ [])
   quiet_end [] all = (refl, refl, refl)
   quiet_end (Reports event ∷ notes) (is, all) = quiet_end notes all
   quiet_end (Shows figures ∷ notes) (is, all) = quiet_end notes all
@@ -384,17 +385,17 @@ module _ {S : Type 0} where
   quiet_end (Of number action ∷ notes) (is, all) = absurd is
   quiet_end (note ∷ notes) (is, all) = absurd is
 
-unused_at_start : {S : Type 0} (number : ℕ) → ◌≡◌ {A = Slot S} (place_in (none_left 0) number) Unused
-unused_at_start {S} number = by (ltb number 0) (nat_eq number 0) refl
+unused_at_start : {S : Type 0} (limits : Limits) (number : ℕ) → ◌≡◌ {A = Slot S} (place_in (none_left limits 0) number) Unused
+unused_at_start {S} limits number = by (ltb number 0) (nat_eq number 0) refl
   where
     by : (b d : Bool) → ltb number 0 ≡ b → ◌≡◌ {A = Slot S} (cond b Over (cond d Unused Unused)) Unused
     by true d is = let less : number < 0 = ltb-true number 0 is in absurd (omega arith)
     by false true is = refl
     by false false is = refl
 
-closed_at_end : {S : Type 0} (numbers number : ℕ)
-    → ◌≡◌ {A = Slot S} (place_in (none_left numbers) number) Unused ⊎ ◌≡◌ {A = Slot S} (place_in (none_left numbers) number) Over
-closed_at_end {S} numbers number = by (ltb number numbers) (nat_eq number numbers)
+closed_at_end : {S : Type 0} (limits : Limits) (numbers number : ℕ)
+    → ◌≡◌ {A = Slot S} (place_in (none_left limits numbers) number) Unused ⊎ ◌≡◌ {A = Slot S} (place_in (none_left limits numbers) number) Over
+closed_at_end {S} limits numbers number = by (ltb number numbers) (nat_eq number numbers)
   where
     by : (b d : Bool) → ◌≡◌ {A = Slot S} (cond b Over (cond d Unused Unused)) Unused ⊎ ◌≡◌ {A = Slot S} (cond b Over (cond d Unused Unused)) Over
     by true d = inr refl
@@ -443,22 +444,22 @@ module _ {S : Type 0} (number : ℕ) where
 -- ---- The whole loop
 
 module _ {R N C S Context Words : Type 0} (ways : Ways S) (steps : Reacting R) (awaits : R → ℕ → Awaited) (tells : C → ℕ → C → Type 0) (polls : Polling N S)
-    (theory : Theory Context Words) (state_of : R → State Context Words) (like : StepsLike steps theory state_of) where
+    (theory : Theory Context Words) (state_of : R → State Context Words) (like : StepsLike steps theory state_of) (limits : Limits) where
   -- One connection.
   served_so : (notes : List (Note S)) (numbers : ℕ) (happenings : List Happening) (results : List (Result Reaction StepFault)) (number : ℕ)
-      → Along ways (place_in (none_left 0) number) (actions_of number notes) (place_in (none_left numbers) number)
+      → Along ways (place_in (none_left limits 0) number) (actions_of number notes) (place_in (none_left limits numbers) number)
       → of_all (handed_to number) happenings results ≡ flat_map handed_of (actions_of number notes)
       → of_all (sent_to number) happenings results ≡ flat_map sends_of (actions_of number notes)
       → IsServed ways number happenings results (poller_calls notes)
   served_so notes numbers happenings results number along handed sent =
-      let P : Slot S → Type 0 = λ s. Along ways s (actions_of number notes) (place_in (none_left numbers) number) in
-      let course = subst P (unused_at_start number) along in
-      let cover = covers ways (actions_of number notes) (place_in (none_left numbers) number) (closed_at_end numbers number) course in
+      let P : Slot S → Type 0 = λ s. Along ways s (actions_of number notes) (place_in (none_left limits numbers) number) in
+      let course = subst P (unused_at_start limits number) along in
+      let cover = covers ways (actions_of number notes) (place_in (none_left limits numbers) number) (closed_at_end limits numbers number) course in
       record {
         course = actions_of number notes;
-        place = place_in (none_left numbers) number;
+        place = place_in (none_left limits numbers) number;
         along = course;
-        is_closed = closed_at_end numbers number;
+        is_closed = closed_at_end limits numbers number;
         are_its_calls = calls_so number notes;
         unread = cover.unread;
         is_read = cover.is_read ∙ ap (λ text. text ++ cover.unread) (sym handed);
@@ -468,10 +469,10 @@ module _ {R N C S Context Words : Type 0} (ways : Ways S) (steps : Reacting R) (
 
   module _ (handler handler_after : R) (poller poller_after : N) (clock clock_after : C) (numbers : ℕ) where
     abbrev start : EventLoop R N C S
-    start = record { handler = handler; poller = poller; clock = clock; table = none_left 0 }
+    start = record { handler = handler; poller = poller; clock = clock; table = none_left limits 0 }
 
     abbrev finished : EventLoop R N C S
-    finished = record { handler = handler_after; poller = poller_after; clock = clock_after; table = none_left numbers }
+    finished = record { handler = handler_after; poller = poller_after; clock = clock_after; table = none_left limits numbers }
 
     -- All events were taken.
     taken_run : (notes : List (Note S)) (result : Result (Unit {0}) StepFault) → IsOverBy result (answers notes) → Goes ways steps awaits tells polls start notes finished
@@ -496,7 +497,7 @@ module _ {R N C S Context Words : Type 0} (ways : Ways S) (steps : Reacting R) (
     -- An event was refused after the front, and then the loop ended.
     module _ (front final : List (Note S)) (middle served : EventLoop R N C S) (happening : Happening) (fault : StepFault)
         (goes : Goes ways steps awaits tells polls start front middle) (refuses : Refuses ways steps awaits tells polls middle happening fault served)
-        (finishing : AllByRecursion IsFinishing final) (ends : Goes ways steps awaits tells polls served final finished) where
+        (finishing : AllByRecursion IsQuiet final) (ends : Goes ways steps awaits tells polls served final finished) where
       quiet_so : (events final ≡ []) × (answers final ≡ []) × (moments final ≡ [])
       quiet_so = quiet_end final finishing
 
@@ -535,12 +536,12 @@ module _ {R N C S Context Words : Type 0} (ways : Ways S) (steps : Reacting R) (
           (called_join polls poller middle.poller poller_after (poller_calls front) (poller_calls final) goes.polled
           (subst P (ap (λ (l : EventLoop R N C S). l.poller) same_loop) ends.polled))
 
-      all_courses : (number : ℕ) → Along ways (place_in (none_left 0) number) (actions_of number (front ++ final)) (place_in (none_left numbers) number)
+      all_courses : (number : ℕ) → Along ways (place_in (none_left limits 0) number) (actions_of number (front ++ final)) (place_in (none_left limits numbers) number)
       all_courses number =
-          let P : Slot S → Type 0 = λ s. Along ways s (actions_of number final) (place_in (none_left numbers) number) in
-          let Q : List (Action S) → Type 0 = λ actions. Along ways (place_in (none_left 0) number) actions (place_in (none_left numbers) number) in
+          let P : Slot S → Type 0 = λ s. Along ways s (actions_of number final) (place_in (none_left limits numbers) number) in
+          let Q : List (Action S) → Type 0 = λ actions. Along ways (place_in (none_left limits 0) number) actions (place_in (none_left limits numbers) number) in
           subst Q (sym (flat_join (action_in number) front final))
-          (along_join ways (place_in (none_left 0) number) (place_in middle.table number) (place_in (none_left numbers) number) (actions_of number front) (actions_of number final)
+          (along_join ways (place_in (none_left limits 0) number) (place_in middle.table number) (place_in (none_left limits numbers) number) (actions_of number front) (actions_of number final)
           (goes.courses number) (subst P (ap (λ (l : EventLoop R N C S). place_in l.table number) same_loop) (ends.courses number)))
 
       events_same : events (front ++ final) ≡ events front
@@ -583,7 +584,7 @@ module _ {R N C S Context Words : Type 0} (ways : Ways S) (steps : Reacting R) (
         ends
 
     whole_run : (result : Result (Unit {0}) StepFault) (served : EventLoop R N C S) → ServesAll ways steps awaits tells polls start result served
-        → (final : List (Note S)) → AllByRecursion IsFinishing final → Goes ways steps awaits tells polls served final finished → Whole result
+        → (final : List (Note S)) → AllByRecursion IsQuiet final → Goes ways steps awaits tells polls served final finished → Whole result
     whole_run (Ok done) served (rounds, between, are, inl stops) final finishing ends =
         taken_run ((flat_map round_notes rounds ++ Reports Stop ∷ []) ++ final) (Ok done) (all_taken ((flat_map round_notes rounds ++ Reports Stop ∷ []) ++ final))
         (joined rounds between served (Reports Stop ∷ []) final are stops ends)
@@ -605,5 +606,7 @@ module _ {R N C S Context Words : Type 0} (ways : Ways S) (steps : Reacting R) (
 
 pub an_event_loop_is_a_run : {R N C S Context Words : Type 0} (ways : Ways S) (steps : Reacting R) (awaits : R → ℕ → Awaited) (tells : C → ℕ → C → Type 0) (polls : Polling N S)
     (theory : Theory Context Words) (state_of : R → State Context Words) → AnEventLoopIsARun ways steps tells polls theory state_of awaits
-an_event_loop_is_a_run ways steps awaits tells polls theory state_of like handler handler_after poller poller_after clock clock_after result (served, numbers, serves, (final, finishing, ends)) =
-    whole_run ways steps awaits tells polls theory state_of like handler handler_after poller poller_after clock clock_after numbers result served serves final finishing ends
+an_event_loop_is_a_run ways steps awaits tells polls theory state_of like limits handler handler_after poller poller_after clock clock_after result (served, numbers, serves, finishes) =
+    let quiet =
+    finishes_quiet ways steps awaits tells polls served (record { handler = handler_after; poller = poller_after; clock = clock_after; table = none_left limits numbers }) finishes in
+    whole_run ways steps awaits tells polls theory state_of like limits handler handler_after poller poller_after clock clock_after numbers result served serves quiet.0 quiet.1 quiet.2

@@ -1,14 +1,17 @@
 -- One step of the event loop after another.
-use Rattle.std.proofs.Common.{◌≡◌, ◌≢◌, ℕ, Bool, true, false, nat_eq, eqb-true, inl, List, [], ◌∷◌, ◌++◌, Result, Ok, Err, refl, sym, ap, ◌∙◌, subst, flat_map, map, append_assoc, append-nil}
+use Rattle.std.proofs.Common.{◌≡◌, ◌≢◌, ℕ, Bool, true, false, nat_eq, eqb-true, inl, List, [], ◌∷◌, ◌++◌, Result, Ok, Err, length, refl, sym, ap, ◌∙◌, subst, flat_map, map, append_assoc, append-nil}
 use Rattle.std.proofs.lemmas.Bool.{cond-true, cond-false}
+use Rattle.std.proofs.lemmas.List.{map-append}
 use Rattle.std.specs.List.{AllByRecursion}
-use Rattle.std.specs.Prelude.{IsErrAnd}
+use Rattle.std.specs.Prelude.{IsErrAnd, OnOk}
+use Rattle.sv_connection.specs.Counting.{Counts, CountsAction}
 use Rattle.sv_connection.specs.Course.{Along}
-use Rattle.sv_connection.specs.Known.{place_in}
+use Rattle.sv_connection.specs.Holding.{IsWithin, StaysWithin}
+use Rattle.sv_connection.specs.Known.{most_open, place_in}
 use Rattle.sv_connection.specs.Loops.{Goes}
 use Rattle.sv_connection.specs.Notes.{Note, Of, Went, actions_of, poll_of, poller_calls}
 use Rattle.sv_connection.specs.Polling.{AreCalled, PollerCall, Polling}
-use Rattle.sv_connection.specs.Rounds.{IsOfConnections, Moves}
+use Rattle.sv_connection.specs.Rounds.{IsOfConnections, Moves, Settles}
 use Rattle.sv_connection.specs.Slots.{Accepted, Accepts, Action, Arms, Blocks, Hands, Leads, Open, Over, Reads, Unused, Writes}
 use Rattle.sv_connection.specs.States.{ConnectionState}
 use Rattle.sv_connection.specs.Ways.{Ways}
@@ -17,7 +20,7 @@ use Rattle.sv_run.specs.Reacting.{Reacting}
 use Rattle.sv_run.specs.declared.step_fault.StepFault.{StepFault}
 use Rattle.sv_run.specs.declared.step_fault.StepFault.TheVariants.{NoMemory}
 use Rattle.sv_connection.proofs.AloneLemmas.{all_join}
-use Rattle.sv_connection.proofs.Joining.{goes_join}
+use Rattle.sv_connection.proofs.Joining.{counts_join, goes_join}
 use Rattle.sv_connection.proofs.LawLemmas.{no_unused, over_stays}
 use Rattle.sv_connection.proofs.Placing.{other_number, same_number}
 use Rattle.sv_wire.specs.declared.inbox.Awaited.{Awaited}
@@ -86,20 +89,53 @@ module _ {S : Type 0} (ways : Ways S) where
   open_notes number (action ∷ actions) at b (Accepted s, leads, later) = absurd (not_accepted at action s leads)
   open_notes number (action ∷ actions) at b (Over, leads, later) = absurd (not_over actions b later)
 
+  step_counts : (most count : ℕ) (action : Action S) (at b : ConnectionState S) → Leads ways (Open at) action (Open b) → CountsAction most count action count
+  step_counts most count (Reads bytes) at b leads = refl
+  step_counts most count (Hands bytes moment reaction awaited) at b leads = refl
+  step_counts most count (Writes bytes) at b leads = refl
+  step_counts most count Blocks at b leads = refl
+  step_counts most count Arms at b leads = refl
+  step_counts most count action at b leads = absurd leads
+
+  -- While a connection stays open, no other is opened or closed.
+  pub open_counts : (number most count : ℕ) (actions : List (Action S)) (at b : ConnectionState S) → Along ways (Open at) actions (Open b)
+      → Counts most count (map (Of number) actions) count
+  open_counts number most count [] at b is = refl
+  open_counts number most count (action ∷ actions) at b (Open c, leads, later) =
+      (count, step_counts most count action at c leads, open_counts number most count actions c b later)
+  open_counts number most count (action ∷ actions) at b (Unused, leads, later) = absurd (no_unused ways (Open at) action leads)
+  open_counts number most count (action ∷ actions) at b (Accepted s, leads, later) = absurd (not_accepted at action s leads)
+  open_counts number most count (action ∷ actions) at b (Over, leads, later) = absurd (not_over actions b later)
+
+  -- Then another action follows.
+  pub last_counts : (number most count after : ℕ) (actions : List (Action S)) (last : Action S) (at b : ConnectionState S) → Along ways (Open at) actions (Open b)
+      → CountsAction most count last after → Counts most count (map (Of number) (actions ++ last ∷ [])) after
+  last_counts number most count after actions last at b along counts =
+      let N : List (Note S) → Type 0 = λ notes. Counts most count notes after in
+      subst N (sym (map-append (Of number) actions (last ∷ [])))
+      (counts_join most count count after (map (Of number) actions) (Of number last ∷ []) (open_counts number most count actions at b along) (after, counts, refl))
+
 module _ {R N C S : Type 0} (ways : Ways S) (steps : Reacting R) (awaits : R → ℕ → Awaited) (tells : C → ℕ → C → Type 0) (polls : Polling N S) where
   pub goes_none : (loop : EventLoop R N C S) → Goes ways steps awaits tells polls loop [] loop
-  goes_none loop = record { went = record { takes = refl; told = refl }; polled = refl; courses = λ number. refl }
+  goes_none loop = record { went = record { takes = refl; told = refl }; polled = refl; courses = λ number. refl; limits = refl; counts = refl }
 
   -- Actions of only one number.
   pub goes_by : (number : ℕ) (before after : EventLoop R N C S) (actions : List (Action S))
       → Went steps awaits tells before.handler before.clock (map (Of number) actions) after.handler after.clock
       → Along ways (place_in before.table number) actions (place_in after.table number)
       → AreCalled polls before.poller (flat_map (poll_of number) actions) after.poller
-      → ((other : ℕ) → other ≢ number → place_in after.table other ≡ place_in before.table other)
+      → ((other : ℕ) → other ≢ number → place_in after.table other ≡ place_in before.table other) → after.table.limits ≡ before.table.limits
+      → Counts (most_open before.table.limits) (length before.table.entries) (map (Of number) actions) (length after.table.entries)
       → Goes ways steps awaits tells polls before (map (Of number) actions) after
-  goes_by number before after actions went along called others =
+  goes_by number before after actions went along called others limited counted =
       let A : List (PollerCall S) → Type 0 = λ calls. AreCalled polls before.poller calls after.poller in
-      record { went = went; polled = subst A (sym (calls_same number actions)) called; courses = λ other. by other (nat_eq other number) refl }
+      record {
+        went = went;
+        polled = subst A (sym (calls_same number actions)) called;
+        courses = λ other. by other (nat_eq other number) refl;
+        limits = limited;
+        counts = counted;
+      }
     where
       differ : (other : ℕ) → nat_eq other number ≡ false → other ≡ number → ⊥
       differ other is same = let P : ℕ → Type 0 = λ n. nat_eq n number ≡ false in absurd (cc (subst P same is, same_number number))
@@ -123,11 +159,6 @@ module _ {R N C S : Type 0} (ways : Ways S) (steps : Reacting R) (awaits : R →
 
   pub moves_none : {A : Type 0} (done : A) (loop : EventLoop R N C S) → Moves ways steps awaits tells polls loop (Ok done) loop
   moves_none done loop = ([], tt, goes_none loop, λ rest. rest)
-
-  pub moves_same : {A : Type 0} (done : A) (loop after : EventLoop R N C S) → after ≡ loop → Moves ways steps awaits tells polls loop (Ok done) after
-  moves_same done loop after same =
-      let P : EventLoop R N C S → Type 0 = λ l. Moves ways steps awaits tells polls loop (Ok done) l in
-      subst P (sym same) (moves_none done loop)
 
   pub moves_join : {A B : Type 0} (done : A) (before between after : EventLoop R N C S) → Moves ways steps awaits tells polls before (Ok done) between
       → (result : Result B StepFault) → Moves ways steps awaits tells polls between result after → Moves ways steps awaits tells polls before result after
@@ -168,3 +199,56 @@ module _ {R N C S : Type 0} (ways : Ways S) (steps : Reacting R) (awaits : R →
   pub starved : {A : Type 0} (B : Type 0) (done : A) (before after : EventLoop R N C S) → Moves ways steps awaits tells polls before (Ok done) after
       → Moves ways steps awaits tells polls {A = B} before (Err NoMemory) after
   starved B done before after (notes, of, goes, rests) = (notes, [], after, of, none_last before after notes goes, inl (refl, refl, refl))
+
+  -- ---- The same, within the limit of what connections hold
+
+  pub settles_none : {A : Type 0} (done : A) (loop : EventLoop R N C S) → Settles ways steps awaits tells polls loop (Ok done) loop
+  settles_none done loop = (moves_none done loop, λ within. within)
+
+  pub settles_same : {A : Type 0} (done : A) (loop after : EventLoop R N C S) → after ≡ loop → Settles ways steps awaits tells polls loop (Ok done) after
+  settles_same done loop after same =
+      let P : EventLoop R N C S → Type 0 = λ l. Settles ways steps awaits tells polls loop (Ok done) l in subst P (sym same) (settles_none done loop)
+
+  pub settles_moves : {A : Type 0} (before after : EventLoop R N C S) (result : Result A StepFault) → Settles ways steps awaits tells polls before result after → Moves ways steps awaits tells polls before result after
+  settles_moves before after (Ok done) (moves, within) = moves
+  settles_moves before after (Err fault) moves = moves
+
+  pub settles_join : {A B : Type 0} (done : A) (before between after : EventLoop R N C S) → Settles ways steps awaits tells polls before (Ok done) between
+      → (result : Result B StepFault) → Settles ways steps awaits tells polls between result after → Settles ways steps awaits tells polls before result after
+  settles_join done before between after (moves, within) (Ok last) (moves_on, within_on) =
+      (moves_join done before between after moves (Ok last) moves_on, λ is. within_on (within is))
+  settles_join {B = B} done before between after (moves, within) (Err fault) fails = moves_join {B = B} done before between after moves (Err fault) fails
+
+  pub settles_as : {B D : Type 0} (before after : EventLoop R N C S) (other : Result D StepFault) (fault : StepFault) → other ≡ Err fault
+      → (result : Result B StepFault) → IsErrAnd result (λ e. e ≡ fault) → Settles ways steps awaits tells polls before other after → Settles ways steps awaits tells polls before result after
+  settles_as {B = B} {D = D} before after other fault is result same settles =
+      let P : Result B StepFault → Type 0 = λ r. Settles ways steps awaits tells polls before r after in
+      let Q : Result D StepFault → Type 0 = λ r. Settles ways steps awaits tells polls before r after in
+      let failed : Settles ways steps awaits tells polls {A = B} before (Err fault) after = subst Q is settles in
+      subst P (sym (refused_as fault result same)) failed
+
+  pub settles_broken : {A B D : Type 0} (done : A) (before between after : EventLoop R N C S) → Settles ways steps awaits tells polls before (Ok done) between
+      → (other : Result D StepFault) (fault : StepFault) → other ≡ Err fault → (result : Result B StepFault) → IsErrAnd result (λ e. e ≡ fault)
+      → Settles ways steps awaits tells polls between other after → Settles ways steps awaits tells polls before result after
+  settles_broken {B = B} done before between after first other fault is result same later =
+      settles_join {B = B} done before between after first result (settles_as between after other fault is result same later)
+
+  -- The fault of moves, as `?` returns it.
+  pub settles_failed : {B D : Type 0} (before after : EventLoop R N C S) (other : Result D StepFault) (fault : StepFault) → other ≡ Err fault
+      → (result : Result B StepFault) → IsErrAnd result (λ e. e ≡ fault) → Moves ways steps awaits tells polls before other after → Settles ways steps awaits tells polls before result after
+  settles_failed {B = B} {D = D} before after other fault is result same moves =
+      let P : Result B StepFault → Type 0 = λ r. Settles ways steps awaits tells polls before r after in
+      let Q : Result D StepFault → Type 0 = λ r. Moves ways steps awaits tells polls before r after in
+      let failed : Settles ways steps awaits tells polls {A = B} before (Err fault) after = subst Q is moves in
+      subst P (sym (refused_as fault result same)) failed
+
+  -- A connection was served that holds no more than before.
+  pub no_more : {A B : Type 0} (done : A) (last : B) (before after : EventLoop R N C S) → Moves ways steps awaits tells polls before (Ok done) after → StaysWithin before.table after.table
+      → Settles ways steps awaits tells polls before (Ok last) after
+  no_more done last before after moves within = (moves, within)
+
+  -- A connection was served, and then all hold no more than they may.
+  pub eased : {A B : Type 0} (done : A) (before between after : EventLoop R N C S) → Moves ways steps awaits tells polls before (Ok done) between
+      → (result : Result B StepFault) → Moves ways steps awaits tells polls between result after → OnOk result (IsWithin after.table) → Settles ways steps awaits tells polls before result after
+  eased done before between after moves (Ok last) moves_on within = (moves_join done before between after moves (Ok last) moves_on, λ is. within)
+  eased {B = B} done before between after moves (Err fault) fails within = moves_join {B = B} done before between after moves (Err fault) fails

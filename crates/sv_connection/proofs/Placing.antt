@@ -1,12 +1,13 @@
 -- The slots of numbers in the table.
-use Rattle.std.proofs.Common.{◌≡◌, ◌≢◌, IsSome, ℕ, ◌+◌, ◌<◌, ◌≤◌, Bool, true, false, cond, nat_eq, ltb, eqb-true, eq-eqb, List, Option, None, Some, refl, sym, ap, ◌∙◌, subst, arith}
+use Rattle.std.proofs.Common.{◌≡◌, ◌≢◌, IsSome, ℕ, ◌+◌, ◌<◌, ◌≤◌, Bool, true, false, cond, nat_eq, ltb, eqb-true, eq-eqb, length, List, Option, None, Some, refl, sym, ap, ◌∙◌, subst, arith}
 use Rattle.std.proofs.lemmas.Bool.{cond-true, cond-false, lt-ltb, ltb-false, ltb-true}
 use Rattle.std.specs.Cmp.{nat_eq_equiv}
 use Rattle.std.specs.Map.{lookup, set_value}
-use Rattle.std.proofs.lemmas.Map.{lookup-set_value}
-use Rattle.sv_connection.specs.Known.{AreAtRest, Known, OthersStay, accepted_or_unused, found, held_or_over, place_in}
+use Rattle.std.proofs.lemmas.Map.{length-set_value, lookup-set_value}
+use Rattle.sv_connection.specs.Known.{AreAtRest, Known, OthersStay, StaysOpen, accepted_or_unused, found, held_or_over, place_in}
 use Rattle.sv_connection.specs.Slots.{Accepted, Open, Over, Slot, Unused}
 use Rattle.sv_connection.specs.States.{ConnectionState}
+use Rattle.sv_connection.specs.declared.limits.Limits.{Limits}
 
 pub same_number : (number : ℕ) → nat_eq number number ≡ true
 same_number number = eq-eqb number number refl
@@ -105,19 +106,20 @@ module _ {S : Type 0} where
 
   pub both_stay : (number : ℕ) (known between known_after : Known S) → OthersStay number known between → OthersStay number between known_after → OthersStay number known known_after
   both_stay number known between known_after first second = record {
+    limits = second.limits ∙ first.limits;
     next = second.next ∙ first.next;
     accepted = second.accepted ∙ first.accepted;
     others = λ other apart. second.others other apart ∙ first.others other apart;
   }
 
   -- The state of an open connection is set in the table.
-  module _ (number next : ℕ) (accepted : Option S) (entries entries_after : List (ℕ × ConnectionState S)) (at at_after : ConnectionState S)
+  module _ (limits : Limits) (number next : ℕ) (accepted : Option S) (entries entries_after : List (ℕ × ConnectionState S)) (at at_after : ConnectionState S)
       (set : entries_after ≡ set_value (nat_eq number) entries at_after) (is : Some at ≡ lookup (nat_eq number) entries) where
     abbrev pub old : Known S
-    old = record { next = next; accepted = accepted; entries = entries }
+    old = record { limits = limits; next = next; accepted = accepted; entries = entries }
 
     abbrev pub new : Known S
-    new = record { next = next; accepted = accepted; entries = entries_after }
+    new = record { limits = limits; next = next; accepted = accepted; entries = entries_after }
 
     at_each : (other : ℕ) → found new other ≡ cond (nat_eq number other) (Some at_after) (found old other)
     at_each other =
@@ -127,10 +129,14 @@ module _ {S : Type 0} where
     pub set_found : found new number ≡ Some at_after
     set_found = at_each number ∙ cond-true (nat_eq number number) (Some at_after) (found old number) (same_number number)
 
-    pub set_stays : OthersStay number old new
+    set_stays : OthersStay number old new
     set_stays = record {
+      limits = refl;
       next = refl;
       accepted = refl;
       others = λ other apart.
           at_each other ∙ cond-false (nat_eq number other) (Some at_after) (found old other) (other_number other number (λ same. apart (sym same)));
     }
+
+    pub stays_open : StaysOpen number old new
+    stays_open = (set_stays, ap length set ∙ length-set_value (nat_eq number) entries at_after)

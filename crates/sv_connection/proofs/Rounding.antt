@@ -1,7 +1,8 @@
 -- One more round.
 use Rattle.std.proofs.Common.{◌≡◌, ℕ, ◌+◌, ◌-◌, ◌^◌, inl, inr, Bool, true, false, cond, ltb, nat_eq, List, [], ◌∷◌, ◌++◌, Result, Ok, Err, flat_map, length, length-append, refl, sym, ap, ◌∙◌, subst, arith}
 use Rattle.std.specs.Prelude.{IsErrAnd}
-use Rattle.sv_connection.specs.Known.{AreAtRest, none_left, place_in}
+use Rattle.sv_connection.specs.Holding.{IsSettled, IsWithin}
+use Rattle.sv_connection.specs.Known.{Known, none_left, place_in}
 use Rattle.sv_connection.specs.LoopRuns.{round_notes}
 use Rattle.sv_connection.specs.Loops.{Goes}
 use Rattle.sv_connection.specs.Notes.{Reports}
@@ -24,10 +25,10 @@ module _ {R N C S : Type 0} (ways : Ways S) (steps : Reacting R) (awaits : R →
   pub reported : (before : EventLoop R N C S) (poller : N) (event : PollEvent) → polls before.poller (Wait event) poller
       → Goes ways steps awaits tells polls before (Reports event ∷ []) (record before { poller = poller })
   reported before poller event call =
-      record { went = record { takes = (before.handler, refl, refl); told = refl }; polled = (poller, call, refl); courses = λ number. refl }
+      record { went = record { takes = (before.handler, refl, refl); told = refl }; polled = (poller, call, refl); courses = λ number. refl; limits = refl; counts = (length before.table.entries, refl, refl) }
 
   round_more : (before between after : EventLoop R N C S) (rounds : List (Round S)) (round : Round S) → Rounds ways steps awaits tells polls before rounds between
-      → IsRound round.event between.table round.notes → Goes ways steps awaits tells polls between (round_notes round) after → AreAtRest (place_in after.table)
+      → IsRound round.event between.table round.notes → Goes ways steps awaits tells polls between (round_notes round) after → IsSettled after.table
       → Rounds ways steps awaits tells polls before (rounds ++ round ∷ []) after
   round_more before between after [] round same is goes rests =
       let P : EventLoop R N C S → Type 0 = λ l. Rounds ways steps awaits tells polls l (round ∷ []) after in
@@ -38,11 +39,14 @@ module _ {R N C S : Type 0} (ways : Ways S) (steps : Reacting R) (awaits : R →
   -- The rounds so far, and their number.
   abbrev pub SoFar : EventLoop R N C S → ℕ → EventLoop R N C S → Type 0
   SoFar before count now =
-      (rounds : List (Round S)) × (length rounds ≡ count) × Rounds ways steps awaits tells polls before rounds now × AreAtRest (place_in now.table)
+      (rounds : List (Round S)) × (length rounds ≡ count) × Rounds ways steps awaits tells polls before rounds now × IsSettled now.table
 
-  pub no_rounds : (before : EventLoop R N C S) → before.table ≡ none_left 0 → SoFar before 0 before
-  no_rounds before none = ([], refl, refl, λ number at is. absurd (not_open number at is))
+  pub no_rounds : (before : EventLoop R N C S) → before.table ≡ none_left before.table.limits 0 → SoFar before 0 before
+  no_rounds before none = ([], refl, refl, (λ number at is. absurd (not_open number at is), nothing_held))
     where
+      nothing_held : IsWithin before.table
+      nothing_held = let P : Known S → Type 0 = λ k. IsWithin k in subst P (sym none) (omega arith)
+
       closed : (b d : Bool) (at : ConnectionState S) → cond b Over (cond d Unused Unused) ≡ Open at → ⊥
       closed true d at is = cc
       closed false true at is = cc
@@ -101,3 +105,13 @@ module _ {R N C S : Type 0} (ways : Ways S) (steps : Reacting R) (awaits : R →
       subst P (sym same) (goes_none ways steps awaits tells polls before)
   rounds_are_one before after (round ∷ rounds) (middle, is, goes, rests, later) =
       goes_join ways steps awaits tells polls before middle after (round_notes round) (flat_map round_notes rounds) goes (rounds_are_one middle after rounds later)
+
+  -- The limits stay.
+  pub serves_within : (before after : EventLoop R N C S) (result : Result (Unit {0}) StepFault) → ServesAll ways steps awaits tells polls before result after → after.table.limits ≡ before.table.limits
+  serves_within before after (Ok done) (rounds, between, are, inl stops) = stops.limits ∙ (rounds_are_one before between rounds are).limits
+  serves_within before after (Ok done) (rounds, between, are, inr (counted, same)) =
+      ap (λ (l : EventLoop R N C S). l.table.limits) same ∙ (rounds_are_one before between rounds are).limits
+  serves_within before after (Err fault) (rounds, between, are, event, notes, middle, goes, inl (is, same, round)) =
+      ap (λ (l : EventLoop R N C S). l.table.limits) same ∙ goes.limits ∙ (rounds_are_one before between rounds are).limits
+  serves_within before after (Err fault) (rounds, between, are, event, notes, middle, goes, inr (happening, is, refuses)) =
+      ap (λ (l : EventLoop R N C S). l.table.limits) refuses.2 ∙ goes.limits ∙ (rounds_are_one before between rounds are).limits

@@ -1,13 +1,15 @@
 -- Handling an event of the poller.
-use Rattle.std.proofs.Common.{◌≡◌, ℕ, inl, inr, List, [], ◌∷◌, ◌++◌, Option, None, Some, Result, Ok, Err, refl, sym, subst, append-nil}
+use Rattle.std.proofs.Common.{◌≡◌, ℕ, inl, inr, List, [], ◌∷◌, ◌++◌, Option, None, Some, Result, Ok, Err, length, refl, sym, subst, append-nil}
 use Rattle.std.specs.List.{AllByRecursion}
 use Rattle.std.specs.Prelude.{IsErrAnd}
 use Rattle.sv_connection.specs.Asking.{TakesAsked}
 use Rattle.sv_connection.specs.Figures.{figures_of}
+use Rattle.sv_connection.specs.Holding.{IsSettled, StaysWithin}
+use Rattle.sv_connection.specs.Known.{AreAtRest, Known, place_in}
 use Rattle.sv_connection.specs.Loops.{Goes, IsTried}
 use Rattle.sv_connection.specs.Notes.{Answers, Edits, Note, Ticks}
 use Rattle.sv_connection.specs.Polling.{Answer, Polling}
-use Rattle.sv_connection.specs.Rounds.{AsksOnce, IsOfConnections, IsRefusedIn, Moves, TakesEvent, TicksOnce}
+use Rattle.sv_connection.specs.Rounds.{AsksOnce, IsOfConnections, IsRefusedIn, Settles, TakesEvent, TicksOnce}
 use Rattle.sv_connection.specs.Ways.{Ways}
 use Rattle.sv_connection.specs.declared.event_loop.EventLoop.{EventLoop}
 use Rattle.sv_connection.specs.declared.poller.PollEvent.{PollEvent}
@@ -37,19 +39,22 @@ module _ {R N C S : Type 0} (ways : Ways S) (steps : Reacting R) (awaits : R →
       let Q : List (Note S) → Type 0 = λ l. AllByRecursion IsOfConnections l in
       subst P (sym none) (subst Q (sym (append-nil notes)) of)
 
+  both : (before after : Known S) → (AreAtRest (place_in before) → AreAtRest (place_in after)) → StaysWithin before after → IsSettled before → IsSettled after
+  both before after rests within settled = (rests settled.0, within settled.1)
+
   taken_of : (event : PollEvent) → IsPlain event → (before after : EventLoop R N C S) (result : Result (Unit {0}) StepFault)
-      → Moves ways steps awaits tells polls before result after → TakesEvent ways steps awaits tells polls event before result after
-  taken_of (Ready number) plain before after (Ok done) (notes, of, goes, rests) = (notes, of, goes, rests)
+      → Settles ways steps awaits tells polls before result after → TakesEvent ways steps awaits tells polls event before result after
+  taken_of (Ready number) plain before after (Ok done) ((notes, of, goes, rests), within) = (notes, of, goes, both before.table after.table rests within)
   taken_of (Ready number) plain before after (Err fault) (notes, last, middle, of, goes, inl (none, is, same)) =
       (notes ++ last, middle, goes, inl (is, same, all_so notes last of none))
   taken_of (Ready number) plain before after (Err fault) (notes, last, middle, of, goes, inr (happening, tried, refuses)) =
       (notes ++ last, middle, goes, inr (happening, (notes, last, refl, of, tried), refuses))
-  taken_of Incoming plain before after (Ok done) (notes, of, goes, rests) = (notes, of, goes, rests)
+  taken_of Incoming plain before after (Ok done) ((notes, of, goes, rests), within) = (notes, of, goes, both before.table after.table rests within)
   taken_of Incoming plain before after (Err fault) (notes, last, middle, of, goes, inl (none, is, same)) =
       (notes ++ last, middle, goes, inl (is, same, all_so notes last of none))
   taken_of Incoming plain before after (Err fault) (notes, last, middle, of, goes, inr (happening, tried, refuses)) =
       (notes ++ last, middle, goes, inr (happening, (notes, last, refl, of, tried), refuses))
-  taken_of Crowded plain before after (Ok done) (notes, of, goes, rests) = (notes, of, goes, rests)
+  taken_of Crowded plain before after (Ok done) ((notes, of, goes, rests), within) = (notes, of, goes, both before.table after.table rests within)
   taken_of Crowded plain before after (Err fault) (notes, last, middle, of, goes, inl (none, is, same)) =
       (notes ++ last, middle, goes, inl (is, same, all_so notes last of none))
   taken_of Crowded plain before after (Err fault) (notes, last, middle, of, goes, inr (happening, tried, refuses)) =
@@ -59,7 +64,7 @@ module _ {R N C S : Type 0} (ways : Ways S) (steps : Reacting R) (awaits : R →
   taken_of Stop plain before after result moves = absurd plain
 
   pub taken_as : (told event : PollEvent) → told ≡ event → IsPlain event → (before after : EventLoop R N C S) (result : Result (Unit {0}) StepFault)
-      → Moves ways steps awaits tells polls before result after → TakesEvent ways steps awaits tells polls told before result after
+      → Settles ways steps awaits tells polls before result after → TakesEvent ways steps awaits tells polls told before result after
   taken_as told event is plain before after result moves =
       let P : PollEvent → Type 0 = λ e. TakesEvent ways steps awaits tells polls e before result after in
       subst P (sym is) (taken_of event plain before after result moves)
@@ -73,6 +78,8 @@ module _ {R N C S : Type 0} (ways : Ways S) (steps : Reacting R) (awaits : R →
     went = record { takes = (before.handler, refl, (handler, step, refl)); told = refl };
     polled = (poller, call, refl);
     courses = λ number. refl;
+    limits = refl;
+    counts = (length before.table.entries, refl, (length before.table.entries, refl, refl));
   }
 
   answered_goes : (before : EventLoop R N C S) (handler : R) (poller : N) (asked : Option (List ℕ × Edit)) → handler ≡ before.handler
@@ -82,6 +89,8 @@ module _ {R N C S : Type 0} (ways : Ways S) (steps : Reacting R) (awaits : R →
     went = record { takes = (before.handler, refl, same); told = refl };
     polled = (poller, call, refl);
     courses = λ number. refl;
+    limits = refl;
+    counts = (length before.table.entries, refl, refl);
   }
 
   asked_now : (before : EventLoop R N C S) (handler : R) (poller : N) (result : Result (Unit {0}) StepFault) (asked : Option (List ℕ × Edit))
@@ -115,7 +124,13 @@ module _ {R N C S : Type 0} (ways : Ways S) (steps : Reacting R) (awaits : R →
       → steps before.handler (Tick moment) (Ok reaction) handler
       → Goes ways steps awaits tells polls before (Ticks moment reaction ∷ []) (record before { handler = handler; clock = clock })
   tick_goes before handler clock moment reaction told step =
-      record { went = record { takes = (handler, step, refl); told = (clock, told, refl) }; polled = refl; courses = λ number. refl }
+      record {
+        went = record { takes = (handler, step, refl); told = (clock, told, refl) };
+        polled = refl;
+        courses = λ number. refl;
+        limits = refl;
+        counts = (length before.table.entries, refl, refl);
+      }
 
   tried_in_second : (before now : EventLoop R N C S) (moment : ℕ) (reaction : Reaction) (more last : List (Note S)) → AllByRecursion IsOfConnections more
       → (happening : Happening) → IsTried now last happening → IsRefusedIn Second before.table (Ticks moment reaction ∷ (more ++ last)) now happening
@@ -128,14 +143,14 @@ module _ {R N C S : Type 0} (ways : Ways S) (steps : Reacting R) (awaits : R →
 
   second_now : (before after : EventLoop R N C S) (handler : R) (clock : C) (moment : ℕ) (reaction : Reaction) → tells before.clock moment clock
       → steps before.handler (Tick moment) (Ok reaction) handler → (result : Result (Unit {0}) StepFault)
-      → Moves ways steps awaits tells polls (record before { handler = handler; clock = clock }) result after
+      → Settles ways steps awaits tells polls (record before { handler = handler; clock = clock }) result after
       → TakesEvent ways steps awaits tells polls Second before result after
-  second_now before after handler clock moment reaction told step (Ok done) (notes, of, goes, rests) = (
+  second_now before after handler clock moment reaction told step (Ok done) ((notes, of, goes, rests), within) = (
     Ticks moment reaction ∷ notes,
     (moment, reaction, notes, refl, of),
     goes_join ways steps awaits tells polls before (record before { handler = handler; clock = clock }) after (Ticks moment reaction ∷ []) notes
         (tick_goes before handler clock moment reaction told step) goes,
-    rests,
+    both before.table after.table rests within,
   )
   second_now before after handler clock moment reaction told step (Err fault) (notes, last, middle, of, goes, inl (none, is, same)) = (
     Ticks moment reaction ∷ (notes ++ last),
@@ -153,9 +168,9 @@ module _ {R N C S : Type 0} (ways : Ways S) (steps : Reacting R) (awaits : R →
   )
 
   pub second_passed : (before ticked after : EventLoop R N C S) (done : Unit {0}) → TicksOnce steps tells before (Ok done) ticked → (result : Result (Unit {0}) StepFault)
-      → Moves ways steps awaits tells polls ticked result after → TakesEvent ways steps awaits tells polls Second before result after
+      → Settles ways steps awaits tells polls ticked result after → TakesEvent ways steps awaits tells polls Second before result after
   second_passed before ticked after done (moment, reaction, told, step, same) result moves =
-      let P : EventLoop R N C S → Type 0 = λ l. Moves ways steps awaits tells polls l result after in
+      let P : EventLoop R N C S → Type 0 = λ l. Settles ways steps awaits tells polls l result after in
       second_now before after ticked.handler ticked.clock moment reaction told step result (subst P same moves)
 
   pub tick_refused : (before after : EventLoop R N C S) (fault : StepFault) → TicksOnce steps tells before (Err fault) after

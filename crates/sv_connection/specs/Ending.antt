@@ -1,6 +1,7 @@
 -- How one connection ends.
 use Rattle.std.specs.Prelude.{◌≡◌, ◌⊎◌, ℕ, ◌+◌, ◌<◌, length, true, Bool, false, None, Some, Result, Ok, Err}
 use Rattle.sv_connection.specs.Closing.{closing_of, last_closing}
+use Rattle.sv_connection.specs.Holding.{StaysWithin}
 use Rattle.sv_connection.specs.Known.{ForgetsOne, found}
 use Rattle.sv_connection.specs.Notes.{over_by}
 use Rattle.sv_connection.specs.Polling.{Close, Polling}
@@ -21,7 +22,8 @@ module _ {R N C S : Type 0} (polls : Polling N S) where
     pub is_found : found before.table number ≡ Some at
     pub closes : polls before.poller (Close number at.stream closing) after.poller
     pub forgets : ForgetsOne number before.table after.table
-    pub fewer : length after.table.entries < length before.table.entries
+    pub one_fewer : length before.table.entries ≡ length after.table.entries + 1
+    pub within : StaysWithin before.table after.table
     pub same_handler : after.handler ≡ before.handler
     pub same_clock : after.clock ≡ before.clock
 

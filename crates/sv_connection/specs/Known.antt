@@ -1,20 +1,28 @@
 -- The connections of the table, by their numbers.
-use Rattle.std.specs.Prelude.{◌≡◌, ◌≢◌, ℕ, ◌+◌, ◌<◌, Bool, IsSome, false, true, List, [], cond, ltb, nat_eq, Option, None, Some, Result, Ok, Err}
+use Rattle.std.specs.Prelude.{◌≡◌, ◌≢◌, ℕ, ◌+◌, ◌<◌, Bool, IsSome, false, true, List, [], cond, length, ltb, min, nat_eq, Option, None, Some, Result, Ok, Err}
 use Rattle.std.specs.Map.{lookup}
 use Rattle.sv_connection.specs.Slots.{Accepted, Open, Over, Slot, Unused, fresh}
 use Rattle.sv_connection.specs.States.{ConnectionState}
+use Rattle.sv_connection.specs.declared.limits.Limits.{Limits}
+use Rattle.sv_run.specs.declared.limits.TheConstants.{MAX_CONNECTIONS}
 use Rattle.sv_text.specs.declared.no_memory.NoMemory.{NoMemory}
 
--- The next number, the stream that was accepted under it, if any, and the states of the open connections.
+-- The limits, which stay, the next number, the stream that was accepted under it, if any, and the states of the open
+-- connections.
 pub record Known (S : Type 0) : Type 0 where
+  pub limits : Limits
   pub next : ℕ
   pub accepted : Option S
   pub entries : List (ℕ × ConnectionState S)
 
+-- The most connections that may be open.
+abbrev pub most_open : Limits → ℕ
+most_open limits = min limits.connections MAX_CONNECTIONS
+
 module _ {S : Type 0} where
   -- No connection is open or accepted, and these numbers were used.
-  abbrev pub none_left : ℕ → Known S
-  none_left next = record { next = next; accepted = None; entries = [] }
+  abbrev pub none_left : Limits → ℕ → Known S
+  none_left limits next = record { limits = limits; next = next; accepted = None; entries = [] }
 
   abbrev pub found : Known S → ℕ → Option (ConnectionState S)
   found known number = lookup (nat_eq number) known.entries
@@ -38,9 +46,14 @@ module _ {S : Type 0} where
 
   -- Only the slot of this number may change.
   pub record OthersStay (number : ℕ) (before after : Known S) : Type 0 where
+    pub limits : after.limits ≡ before.limits
     pub next : after.next ≡ before.next
     pub accepted : after.accepted ≡ before.accepted
     pub others : (other : ℕ) → other ≢ number → found after other ≡ found before other
+
+  -- Only the state of the connection of this number may change, which stays open.
+  abbrev pub StaysOpen : ℕ → Known S → Known S → Type 0
+  StaysOpen number known known_after = OthersStay number known known_after × (length known_after.entries ≡ length known.entries)
 
   -- The connection of a number is no longer open, and the others stay.
   abbrev pub ForgetsOne : ℕ → Known S → Known S → Type 0
@@ -51,6 +64,7 @@ module _ {S : Type 0} where
   OpensNext known (Ok true) known_after =
       (stream : S) × (known.accepted ≡ Some stream) × (known_after.accepted ≡ None) × (known_after.next ≡ known.next + 1)
       × (found known_after known.next ≡ Some (fresh stream)) × ((other : ℕ) → other ≢ known.next → found known_after other ≡ found known other)
+      × (known_after.limits ≡ known.limits) × (length known_after.entries ≡ length known.entries + 1)
   OpensNext known (Ok false) known_after = known_after ≡ known
   OpensNext known (Err refused) known_after = known_after ≡ known
 

@@ -2,6 +2,7 @@ pub mod Alone
 pub mod Asking
 pub mod Closing
 pub mod Connection
+pub mod Counting
 pub mod Course
 pub mod Ending
 pub mod Figures

@@ -12,6 +12,7 @@ use Rattle.sv_connection.specs.Slots.{Action, Over, Slot, Unused}
 use Rattle.sv_connection.specs.Ways.{Ways}
 use Rattle.sv_connection.specs.Whole.{Serves}
 use Rattle.sv_connection.specs.declared.event_loop.EventLoop.{EventLoop}
+use Rattle.sv_connection.specs.declared.limits.Limits.{Limits}
 use Rattle.sv_run.specs.Contexts.{Theory}
 use Rattle.sv_run.specs.Events.{Happening, Piece}
 use Rattle.sv_run.specs.Reacting.{Reacting, Reacts, StepsLike, answer_shown}
@@ -108,6 +109,6 @@ module _ {R N C S Context Words : Type 0} (ways : Ways S) (steps : Reacting R) (
   abbrev pub AnEventLoopIsARun : (R → ℕ → Awaited) → Type 0
   AnEventLoopIsARun awaits =
       StepsLike steps theory state_of
-      → (handler handler_after : R) (poller poller_after : N) (clock clock_after : C) (result : Result (Unit {0}) StepFault)
-      → Serves ways steps awaits tells polls handler poller clock result handler_after poller_after clock_after
+      → (limits : Limits) (handler handler_after : R) (poller poller_after : N) (clock clock_after : C) (result : Result (Unit {0}) StepFault)
+      → Serves ways steps awaits tells polls limits handler poller clock result handler_after poller_after clock_after
       → IsARunOfAll handler poller clock result handler_after poller_after clock_after

@@ -1,8 +1,9 @@
 -- The event loop before and after its notes.
-use Rattle.std.specs.Prelude.{◌≡◌, ℕ, List, [], ◌∷◌, Err}
+use Rattle.std.specs.Prelude.{◌≡◌, ℕ, List, [], ◌∷◌, Err, length}
 use Rattle.sv_connection.specs.Connection.{AreTold}
 use Rattle.sv_connection.specs.Course.{Along}
-use Rattle.sv_connection.specs.Known.{place_in}
+use Rattle.sv_connection.specs.Counting.{Counts}
+use Rattle.sv_connection.specs.Known.{most_open, place_in}
 use Rattle.sv_connection.specs.Notes.{Note, Of, Went, actions_of, over_by, poller_calls}
 use Rattle.sv_connection.specs.Polling.{AreCalled, Polling}
 use Rattle.sv_connection.specs.Slots.{EndsUntold, Open, OpensUntold}
@@ -26,11 +27,14 @@ times_of other = []
 
 module _ {R N C S : Type 0} (ways : Ways S) (steps : Reacting R) (awaits : R → ℕ → Awaited) (tells : C → ℕ → C → Type 0) (polls : Polling N S) where
   -- The handler takes the events of notes, the clock gives their times, the poller makes their calls, and each number
-  -- is led by its actions from its slot before to its slot after.
+  -- is led by its actions from its slot before to its slot after. The limits stay, and a connection is opened only if
+  -- fewer are open than may be.
   pub record Goes (before : EventLoop R N C S) (notes : List (Note S)) (after : EventLoop R N C S) : Type 0 where
     pub went : Went steps awaits tells before.handler before.clock notes after.handler after.clock
     pub polled : AreCalled polls before.poller (poller_calls notes) after.poller
     pub courses : (number : ℕ) → Along ways (place_in before.table number) (actions_of number notes) (place_in after.table number)
+    pub limits : after.table.limits ≡ before.table.limits
+    pub counts : Counts (most_open before.table.limits) (length before.table.entries) notes (length after.table.entries)
 
   -- The handler refuses an event, whose time the clock gives. Nothing else is done.
   abbrev pub Refuses : EventLoop R N C S → Happening → StepFault → EventLoop R N C S → Type 0

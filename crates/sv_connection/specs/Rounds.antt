@@ -3,6 +3,7 @@ use Rattle.std.specs.Prelude.{◌≡◌, ◌⊎◌, ℕ, ◌-◌, ◌^◌, List,
 use Rattle.std.specs.List.{AllByRecursion}
 use Rattle.sv_connection.specs.Asking.{AnswersOne}
 use Rattle.sv_connection.specs.Figures.{figures_of}
+use Rattle.sv_connection.specs.Holding.{IsSettled, StaysWithin}
 use Rattle.sv_connection.specs.Known.{AreAtRest, Known, place_in}
 use Rattle.sv_connection.specs.Loops.{Goes, IsTried, Refuses}
 use Rattle.sv_connection.specs.Notes.{Answers, Edits, NoneWaits, Note, Of, Reports, Ticks}
@@ -73,6 +74,11 @@ module _ {R N C S : Type 0} (ways : Ways S) (steps : Reacting R) (awaits : R →
       × (((last ≡ []) × (fault ≡ NoMemory) × (after ≡ middle))
       ⊎ ((happening : Happening) × IsTried middle last happening × Refuses ways steps awaits tells polls middle happening fault after))
 
+  -- The same, and the connections then hold no more bytes than they may, if they did not before.
+  abbrev pub Settles : {A : Type 0} → EventLoop R N C S → Result A StepFault → EventLoop R N C S → Type 0
+  Settles {A} before (Ok done) after = Moves {A = A} before (Ok done) after × StaysWithin before.table after.table
+  Settles {A} before (Err fault) after = Moves {A = A} before (Err fault) after
+
   -- A round ends with a fault: after these notes an event was refused, or memory ran out.
   abbrev pub FailsIn : PollEvent → Known S → List (Note S) → StepFault → EventLoop R N C S → EventLoop R N C S → Type 0
   FailsIn event known notes fault middle after =
@@ -83,17 +89,17 @@ module _ {R N C S : Type 0} (ways : Ways S) (steps : Reacting R) (awaits : R →
   abbrev pub TakesEvent : PollEvent → EventLoop R N C S → Result (Unit {0}) StepFault → EventLoop R N C S → Type 0
   TakesEvent event before (Ok done) after =
       (notes : List (Note S)) × IsRound event before.table notes × Goes ways steps awaits tells polls before notes after
-      × (AreAtRest (place_in before.table) → AreAtRest (place_in after.table))
+      × (IsSettled before.table → IsSettled after.table)
   TakesEvent event before (Err fault) after =
       (notes : List (Note S)) × (middle : EventLoop R N C S) × Goes ways steps awaits tells polls before notes middle
       × FailsIn event before.table notes fault middle after
 
-  -- Rounds that each leave all connections at rest.
+  -- Rounds that each leave all connections at rest, and within the limit of what they hold.
   abbrev pub Rounds : EventLoop R N C S → List (Round S) → EventLoop R N C S → Type 0
   Rounds before [] after = after ≡ before
   Rounds before (round ∷ rounds) after =
       (between : EventLoop R N C S) × IsRound round.event before.table round.notes
-      × Goes ways steps awaits tells polls before (Reports round.event ∷ round.notes) between × AreAtRest (place_in between.table)
+      × Goes ways steps awaits tells polls before (Reports round.event ∷ round.notes) between × IsSettled between.table
       × Rounds between rounds after
 
   -- Rounds until the poller reports a stop, or 2^64 - 1 of them; or until an event is refused or memory runs out.

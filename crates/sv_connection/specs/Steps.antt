@@ -1,6 +1,6 @@
 -- One connection, as far as it gets without blocking.
 use Rattle.std.specs.Prelude.{◌≡◌, ◌⊎◌, ℕ, ◌+◌, ◌<◌, ◌≤◌, true, List, [], ◌∷◌, ◌++◌, Option, None, Some, Result, Ok, Err, flat_map, length}
-use Rattle.sv_connection.specs.Known.{Known, OthersStay, found}
+use Rattle.sv_connection.specs.Known.{Known, StaysOpen, found}
 use Rattle.sv_connection.specs.LoopLaws.{calls_of}
 use Rattle.sv_connection.specs.Notes.{Talks}
 use Rattle.sv_connection.specs.Pieces.{IsPiece}
@@ -117,4 +117,4 @@ module _ {R C S : Type 0} (ways : Ways S) (steps : Reacting R) (awaits : R → �
   DrivesOne known result after clock_after known_after =
       ((result ≡ Ok None) × (after ≡ before) × (clock_after ≡ clock) × (known_after ≡ known))
       ⊎ ((at at_after : ConnectionState S) × (number < known.next) × (found known number ≡ Some at) × (found known_after number ≡ Some at_after)
-      × OthersStay number known known_after × Drives at result after clock_after at_after)
+      × StaysOpen number known known_after × Drives at result after clock_after at_after)

@@ -1,10 +1,10 @@
 //! Serving one of many connections, from its readiness to its end.
 
-ghost use Rattle.std.specs.Prelude.{◌≡◌, ◌≤◌, IfOk, OnOk, false};
+ghost use Rattle.std.specs.Prelude.{◌≡◌, IfOk, OnOk, false};
 ghost use Rattle.sv_connection.specs.Ending.{ClosesOne, EndsOne, TurnsOneAway};
-ghost use Rattle.sv_connection.specs.Holding.{HoldsWithin, held, weight_in};
+ghost use Rattle.sv_connection.specs.Holding.{IsWithin, StaysWithin};
 ghost use Rattle.sv_connection.specs.Notes.{over_by};
-ghost use Rattle.sv_connection.specs.Rounds.{Moves};
+ghost use Rattle.sv_connection.specs.Rounds.{Moves, Settles};
 ghost use Rattle.sv_connection.specs.Turns.{over_event};
 ghost use Rattle.sv_run.specs.Seen.{happening_of};
 
@@ -23,30 +23,21 @@ impl<P: Peer + Drop, R: EventHandler, N: Poller<Peer = P>, C: Clock> EventLoop<R
     /// # Errors
     /// The fault of a refused event, or out of memory.
     pub fn serve(&mut self, number: u64) -> Result<(), StepFault>
-        ensures { Moves P.ways R.steps R.awaited C.tells N.polls self.old result self.new }
-    {
-        let most = self.table.most_held();
-        self.serve_within(most, number)
-    }
-
-    // Serves the connection of a number. All connections together may hold `most` bytes.
-    fn serve_within(&mut self, most: u64, number: u64) -> Result<(), StepFault>
-        ensures moves { Moves P.ways R.steps R.awaited C.tells N.polls self.old result self.new }
-        ensures within { OnOk result (HoldsWithin most number self.old.table self.new.table) }
+        ensures { Settles P.ways R.steps R.awaited C.tells N.polls self.old result self.new }
     {
         if !self.serve_one(number)? {
             return Ok(());
         }
-        self.ease(most)
+        self.ease()
     }
 
-    // Gives up connections until all together hold at most `most` bytes.
-    fn ease(&mut self, most: u64) -> Result<(), StepFault>
+    // Gives up connections until all together hold at most as many bytes as they may.
+    fn ease(&mut self) -> Result<(), StepFault>
         ensures moves { Moves P.ways R.steps R.awaited C.tells N.polls self.old result self.new }
-        ensures within { OnOk result (held self.new.table ≤ most) }
+        ensures within { OnOk result (IsWithin self.new.table) }
     {
         for _ in 0..u64::MAX {
-            if self.table.held() <= most {
+            if self.table.is_within() {
                 return Ok(());
             }
             let Some(number) = self.table.slowest() else {
@@ -57,18 +48,18 @@ impl<P: Peer + Drop, R: EventHandler, N: Poller<Peer = P>, C: Clock> EventLoop<R
         Err(StepFault::NoMemory)
     }
 
-    // Drives the connection of a number, if it is open, and ends it if it is over. Returns whether it then holds more
+    // Drives the connection of a number, if it is open, and ends it if it is over. Returns whether it came to hold more
     // bytes than before.
     fn serve_one(&mut self, number: u64) -> Result<bool, StepFault>
         ensures moves { Moves P.ways R.steps R.awaited C.tells N.polls self.old result self.new }
-        ensures grows { IfOk result (λ grows. grows ≡ false → weight_in self.new.table number ≤ weight_in self.old.table number) }
+        ensures within { IfOk result (λ grows. grows ≡ false → StaysWithin self.old.table self.new.table) }
     {
         let mut grows = false;
         let now = self.poller.seconds();
         match self.table.drive(number, &mut self.handler, &mut self.clock, now, &mut grows) {
             Ok(None) => Ok(grows),
             Ok(Some(cause)) => match self.end(number, cause) {
-                Ok(()) => Ok(false),
+                Ok(()) => Ok(grows),
                 Err(fault) => Err(fault),
             },
             Err(fault) => Err(fault),
@@ -80,7 +71,7 @@ impl<P: Peer + Drop, R: EventHandler, N: Poller<Peer = P>, C: Clock> EventLoop<R
     /// # Errors
     /// The fault of the refused event.
     pub fn give_up(&mut self, number: u64) -> Result<(), StepFault>
-        ensures { Moves P.ways R.steps R.awaited C.tells N.polls self.old result self.new }
+        ensures { Settles P.ways R.steps R.awaited C.tells N.polls self.old result self.new }
     {
         self.end(number, CloseReason::GivenUp)
     }

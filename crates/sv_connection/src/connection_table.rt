@@ -3,8 +3,8 @@
 ghost use Rattle.std.specs.Prelude.{◌≡◌};
 ghost use Rattle.sv_connection.specs.Figures.{figures_of, writing};
 ghost use Rattle.sv_connection.specs.Finishing.{WritesOutOne};
-ghost use Rattle.sv_connection.specs.Holding.{held, weight_in};
-ghost use Rattle.sv_connection.specs.Known.{DropsAccepted, ForgetsOne, OpensNext, found, none_left};
+ghost use Rattle.sv_connection.specs.Holding.{IsWithin, StaysWithin, held};
+ghost use Rattle.sv_connection.specs.Known.{DropsAccepted, ForgetsOne, OpensNext, found, most_open, none_left};
 ghost use Rattle.sv_connection.specs.Steps.{DrivesOne};
 
 use crate::close_reason::CloseReason;
@@ -38,17 +38,18 @@ impl<P> Model for ConnectionTable<P> {
 
     ghost Value = { Known P };
 
-    ghost view = { λ f. record { next = f.next; accepted = f.accepted; entries = f.connections.entries } };
+    ghost view = { λ f. record { limits = f.limits; next = f.next; accepted = f.accepted; entries = f.connections.entries } };
 
     ghost invariant = { λ f. (IsSome f.accepted → f.next < 2 ^ 64 - 1) × AreBelow f.next f.connections.entries };
 }
 
 impl<P: Peer + Drop> ConnectionTable<P> {
-    ghost use Rattle.std.specs.Prelude.{[], ◌<◌, ◌≤◌, ◌-◌, ◌^◌, IfNone, IfSome, IsTrue, IsSome, Some, None, is_some, false, length};
+    ghost use Rattle.std.specs.Prelude.{[], ◌<◌, ◌≤◌, ◌+◌, ◌-◌, ◌^◌, IfNone, IfSome, IsTrue, IsSome, Some, None, is_some, false, length, ltb};
+    ghost use Rattle.sv_connection.specs.States.{ConnectionState, is_writing};
 
     /// Creates an empty table.
     pub fn new(alloc: Global, limits: Limits) -> ConnectionTable<P>
-        ensures { result ≡ none_left 0 }
+        ensures { result ≡ none_left limits 0 }
     {
         ConnectionTable {
             alloc,
@@ -60,13 +61,10 @@ impl<P: Peer + Drop> ConnectionTable<P> {
         }
     }
 
-    /// Returns the number of bytes that all connections may hold together.
-    pub fn most_held(&self) -> u64 {
-        self.limits.held_bytes
-    }
-
     /// Returns whether one more connection may be open.
-    pub fn has_room(&self) -> bool {
+    pub fn has_room(&self) -> bool
+        ensures { result ≡ ltb (length self.now.entries) (most_open self.now.limits) }
+    {
         let most = self.limits.connections.min(MAX_CONNECTIONS);
         self.connections.len() < most
     }
@@ -110,7 +108,8 @@ impl<P: Peer + Drop> ConnectionTable<P> {
     /// # Errors
     /// Memory ran out. Nothing has changed.
     pub fn open(&mut self, now: u64) -> Result<bool, NoMemory>
-        ensures { OpensNext self.old result self.new }
+        ensures opens { OpensNext self.old result self.new }
+        ensures within { StaysWithin self.old self.new }
     {
         let Some(stream) = self.accepted.take() else {
             return Ok(false);
@@ -165,13 +164,20 @@ impl<P: Peer + Drop> ConnectionTable<P> {
         self.next
     }
 
-    /// Returns the number of bytes that all connections hold together.
-    pub fn held(&self) -> u64
+    // Returns the number of bytes that all connections hold together.
+    fn held(&self) -> u64
         ensures { result ≡ held self.now }
     {
         self.connections
             .values()
             .fold(0, |sum: u64, it| sum.saturating_add(it.weight()))
+    }
+
+    /// Returns whether all connections together hold at most as many bytes as they may.
+    pub fn is_within(&self) -> bool
+        ensures { IsTrue result → IsWithin self.now }
+    {
+        self.held() <= self.limits.held_bytes
     }
 
     /// Returns the connection whose timeout expires first, among those that hold bytes.
@@ -200,7 +206,7 @@ impl<P: Peer + Drop> ConnectionTable<P> {
         grows: &mut bool,
     ) -> Result<Option<CloseReason>, StepFault>
         ensures drives { DrivesOne P.ways R.steps R.awaited C.tells number handler.old clock.old self.old result handler.new clock.new self.new }
-        ensures grows { grows.new ≡ false → weight_in self.new number ≤ weight_in self.old number }
+        ensures within { grows.new ≡ false → StaysWithin self.old self.new }
     {
         *grows = false;
         self.turns = self.turns.saturating_add(1);
@@ -222,7 +228,8 @@ impl<P: Peer + Drop> ConnectionTable<P> {
         ensures gives { result ≡ found self.old number }
         ensures below { IsSome result → number < self.old.next }
         ensures none { IfNone result (self.new ≡ self.old) }
-        ensures fewer { IfSome result (λ _. length self.new.entries < length self.old.entries) }
+        ensures fewer { IfSome result (λ _. length self.old.entries ≡ length self.new.entries + 1) }
+        ensures within { StaysWithin self.old self.new }
         ensures forgets { ForgetsOne number self.old self.new }
     {
         self.connections.remove(&number)
@@ -252,7 +259,9 @@ impl<P: Peer + Drop> ConnectionTable<P> {
     }
 
     /// Returns a connection that has nothing to write.
-    pub fn written(&self) -> Option<u64> {
+    pub fn written(&self) -> Option<u64>
+        ensures { IfSome result (λ number. (at : ConnectionState P) → found self.now number ≡ Some at → is_writing at ≡ false) }
+    {
         for (number, connection) in self.connections.iter() {
             if !connection.is_writing() {
                 return Some(*number);

@@ -1,8 +1,8 @@
 //! The event loop over all connections.
 
-ghost use Rattle.std.specs.Prelude.{◌≡◌, ◌≢◌, Ok};
-ghost use Rattle.sv_connection.specs.Known.{none_left};
-ghost use Rattle.sv_connection.specs.Rounds.{AsksOnce, Moves, ServesAll, TakesEvent, TicksOnce};
+ghost use Rattle.std.specs.Prelude.{◌<◌, ◌≡◌, ◌≢◌, Ok, length};
+ghost use Rattle.sv_connection.specs.Known.{most_open, none_left};
+ghost use Rattle.sv_connection.specs.Rounds.{AsksOnce, ServesAll, Settles, TakesEvent, TicksOnce};
 ghost use Rattle.sv_connection.specs.Whole.{Serves};
 ghost use Rattle.sv_connection.specs.declared.poller.PollEvent.TheVariants.{Second, Stop};
 
@@ -30,7 +30,8 @@ pub struct LoopEnd<R, N, C> {
 
 /// Serves all connections of a poller at once, within these limits, until the poller reports a stop. Connections that
 /// are ready are read, their pieces passed to the handler, and the responses written, as far as this is possible
-/// without blocking. No connection waits for another.
+/// without blocking. No connection waits for another. A connection is opened only if fewer are open than the limits
+/// allow. After each event, all connections together hold at most `limits.held_bytes` bytes.
 ///
 /// The poller answers queries by the figures and by the handler, which may take an edit. A query acts on no connection.
 /// After the last event, the bytes that wait are written, for at most [`FINISH_SECONDS`](crate::FINISH_SECONDS), and
@@ -45,7 +46,7 @@ pub fn run_event_loop<R: EventHandler + Queries, N: Poller, C: Clock>(
     poller: N,
     clock: C,
 ) -> LoopEnd<R, N, C>
-    ensures { Serves N.Peer.ways R.steps R.awaited C.tells N.polls handler poller clock result.result result.handler result.poller result.clock }
+    ensures { Serves N.Peer.ways R.steps R.awaited C.tells N.polls limits handler poller clock result.result result.handler result.poller result.clock }
 {
     let mut event_loop = EventLoop {
         handler,
@@ -86,7 +87,7 @@ impl<P: Peer + Drop, R: EventHandler + Queries, N: Poller<Peer = P>, C: Clock> E
 > {
     // Handles the events of the poller, until it reports a stop.
     fn serve_all(&mut self) -> Result<(), StepFault>
-        requires { self.old.table ≡ none_left 0 }
+        requires { self.old.table ≡ none_left self.old.table.limits 0 }
         ensures { ServesAll P.ways R.steps R.awaited C.tells N.polls self.old result self.new }
     {
         for round in 0..u64::MAX {
@@ -144,7 +145,7 @@ impl<P: Peer + Drop, R: EventHandler, N: Poller<Peer = P>, C: Clock> EventLoop<R
 
     // Gives up the connections whose timeout has expired.
     fn give_up_late(&mut self) -> Result<(), StepFault>
-        ensures { Moves P.ways R.steps R.awaited C.tells N.polls self.old result self.new }
+        ensures { Settles P.ways R.steps R.awaited C.tells N.polls self.old result self.new }
     {
         let now = self.poller.seconds();
         for _ in 0..MAX_CONNECTIONS {
@@ -159,7 +160,7 @@ impl<P: Peer + Drop, R: EventHandler, N: Poller<Peer = P>, C: Clock> EventLoop<R
     // Gives up a connection whose timeout has expired, unless the reads and writes that are possible at once extend it.
     // A peer that takes a response slowly makes room for more of it before the system reports this.
     fn give_up_due(&mut self, number: u64, now: u64) -> Result<(), StepFault>
-        ensures { Moves P.ways R.steps R.awaited C.tells N.polls self.old result self.new }
+        ensures { Settles P.ways R.steps R.awaited C.tells N.polls self.old result self.new }
     {
         self.serve(number)?;
         if self.table.due(now) != Some(number) {
@@ -170,7 +171,7 @@ impl<P: Peer + Drop, R: EventHandler, N: Poller<Peer = P>, C: Clock> EventLoop<R
 
     // Accepts connections that wait, up to [`ACCEPTED_AT_ONCE`] of them.
     fn accept_some(&mut self) -> Result<(), StepFault>
-        ensures { Moves P.ways R.steps R.awaited C.tells N.polls self.old result self.new }
+        ensures { Settles P.ways R.steps R.awaited C.tells N.polls self.old result self.new }
     {
         for _ in 0..ACCEPTED_AT_ONCE {
             if !self.accept_one()? {
@@ -183,7 +184,7 @@ impl<P: Peer + Drop, R: EventHandler, N: Poller<Peer = P>, C: Clock> EventLoop<R
     // Accepts a connection, if one waits and there is room, or an idle one can make room. Returns whether another may
     // wait.
     fn accept_one(&mut self) -> Result<bool, StepFault>
-        ensures { Moves P.ways R.steps R.awaited C.tells N.polls self.old result self.new }
+        ensures { Settles P.ways R.steps R.awaited C.tells N.polls self.old result self.new }
     {
         if !self.accept() {
             return Ok(false);
@@ -194,7 +195,7 @@ impl<P: Peer + Drop, R: EventHandler, N: Poller<Peer = P>, C: Clock> EventLoop<R
 
     // Accepts a stream, if one waits and its connection may have room. Returns whether one is accepted.
     fn accept(&mut self) -> bool
-        ensures { Moves P.ways R.steps R.awaited C.tells N.polls self.old (Ok result) self.new }
+        ensures { Settles P.ways R.steps R.awaited C.tells N.polls self.old (Ok result) self.new }
     {
         if self.table.has_accepted() {
             return true;
@@ -212,7 +213,7 @@ impl<P: Peer + Drop, R: EventHandler, N: Poller<Peer = P>, C: Clock> EventLoop<R
     // Opens the connection of the accepted stream and serves it, since its first bytes have often been received. The
     // stream is closed if there is no room. Returns whether the connection was opened.
     fn open(&mut self) -> Result<bool, StepFault>
-        ensures { Moves P.ways R.steps R.awaited C.tells N.polls self.old result self.new }
+        ensures { Settles P.ways R.steps R.awaited C.tells N.polls self.old result self.new }
     {
         if !self.table.has_room() {
             self.turn_away();
@@ -226,9 +227,10 @@ impl<P: Peer + Drop, R: EventHandler, N: Poller<Peer = P>, C: Clock> EventLoop<R
         Ok(true)
     }
 
-    // Opens the connection of the accepted stream, if there is one. Returns whether there is one.
+    // Opens the connection of the accepted stream, if there is one, since there is room. Returns whether there is one.
     fn open_accepted(&mut self) -> Result<bool, StepFault>
-        ensures { Moves P.ways R.steps R.awaited C.tells N.polls self.old result self.new }
+        requires { length self.old.table.entries < most_open self.old.table.limits }
+        ensures { Settles P.ways R.steps R.awaited C.tells N.polls self.old result self.new }
     {
         let connection = self.table.next();
         match self.table.open(self.poller.seconds()) {
@@ -242,7 +244,7 @@ impl<P: Peer + Drop, R: EventHandler, N: Poller<Peer = P>, C: Clock> EventLoop<R
 
     // Gives up the longest idle connection while there is no room.
     fn make_room(&mut self) -> Result<(), StepFault>
-        ensures { Moves P.ways R.steps R.awaited C.tells N.polls self.old result self.new }
+        ensures { Settles P.ways R.steps R.awaited C.tells N.polls self.old result self.new }
     {
         for _ in 0..MAX_CONNECTIONS + 1 {
             if self.table.has_room() {
@@ -258,7 +260,7 @@ impl<P: Peer + Drop, R: EventHandler, N: Poller<Peer = P>, C: Clock> EventLoop<R
 
     // Gives up the longest idle connection, if any: the system has no capacity for one more.
     fn make_way(&mut self) -> Result<(), StepFault>
-        ensures { Moves P.ways R.steps R.awaited C.tells N.polls self.old result self.new }
+        ensures { Settles P.ways R.steps R.awaited C.tells N.polls self.old result self.new }
     {
         match self.table.longest_idle() {
             Some(number) => self.give_up_idle(number),
@@ -268,7 +270,7 @@ impl<P: Peer + Drop, R: EventHandler, N: Poller<Peer = P>, C: Clock> EventLoop<R
 
     // Gives up an idle connection, unless it has bytes that were not read yet: then it is served.
     fn give_up_idle(&mut self, number: u64) -> Result<(), StepFault>
-        ensures { Moves P.ways R.steps R.awaited C.tells N.polls self.old result self.new }
+        ensures { Settles P.ways R.steps R.awaited C.tells N.polls self.old result self.new }
     {
         self.serve(number)?;
         if self.table.longest_idle() != Some(number) {

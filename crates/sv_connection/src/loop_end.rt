@@ -1,8 +1,9 @@
 //! The end of the event loop: the bytes that wait are written, every connection is closed, and nothing else is done.
 
-ghost use Rattle.std.specs.Prelude.{◌≡◌, []};
+ghost use Rattle.std.specs.Prelude.{◌≡◌, ◌≢◌, []};
 ghost use Rattle.sv_connection.specs.Ending.{ClosesLast};
-ghost use Rattle.sv_connection.specs.Finishing.{EndsAll, Finishes, TakesLast};
+ghost use Rattle.sv_connection.specs.Finishing.{EndsAll, IsClose, IsCloseOfWritten, IsLastOf, OnlyDoes, TakesLast, WritesRest};
+ghost use Rattle.sv_connection.specs.declared.poller.PollEvent.TheVariants.{Stop};
 
 use crate::event_loop::EventLoop;
 use crate::limits::FINISH_SECONDS;
@@ -27,7 +28,7 @@ impl<P: Peer + Drop, R: EventHandler, N: Poller<Peer = P>, C: Clock> EventLoop<R
 
     // Closes the connections that have nothing to write.
     fn close_written(&mut self)
-        ensures { Finishes P.ways R.steps R.awaited C.tells N.polls self.old self.new }
+        ensures { OnlyDoes P.ways R.steps R.awaited C.tells N.polls IsCloseOfWritten self.old self.new }
     {
         for _ in 0..MAX_CONNECTIONS {
             let Some(number) = self.table.written() else {
@@ -39,7 +40,7 @@ impl<P: Peer + Drop, R: EventHandler, N: Poller<Peer = P>, C: Clock> EventLoop<R
 
     // Writes the bytes that wait, until none wait, [`FINISH_SECONDS`] have passed, or the poller reports a stop.
     fn write_rest(&mut self)
-        ensures { Finishes P.ways R.steps R.awaited C.tells N.polls self.old self.new }
+        ensures { WritesRest P.ways R.steps R.awaited C.tells N.polls self.old self.new }
     {
         let end = self.poller.seconds().saturating_add(FINISH_SECONDS);
         for _ in 0..u64::MAX {
@@ -56,19 +57,23 @@ impl<P: Peer + Drop, R: EventHandler, N: Poller<Peer = P>, C: Clock> EventLoop<R
 
     // Handles an event of the poller, but only writes and answers status queries.
     fn take_last(&mut self, told: PollEvent)
+        requires { told ≢ Stop }
         ensures { TakesLast P.ways R.steps R.awaited C.tells N.polls told self.old self.new }
     {
         match told {
             PollEvent::Ready(number) => self.send_out(number),
             PollEvent::Asked => self.poller.answer_status(self.table.figures()),
-            PollEvent::Incoming | PollEvent::Crowded | PollEvent::Second | PollEvent::Stop => {}
+            PollEvent::Incoming => {}
+            PollEvent::Crowded => {}
+            PollEvent::Second => {}
+            PollEvent::Stop => {}
         }
     }
 
     // Writes the bytes that wait to the connection of a number, if it is open, as far as this is possible without
     // blocking. The connection is closed when no bytes wait or a write fails.
     fn send_out(&mut self, number: u64)
-        ensures { Finishes P.ways R.steps R.awaited C.tells N.polls self.old self.new }
+        ensures { OnlyDoes P.ways R.steps R.awaited C.tells N.polls (IsLastOf number) self.old self.new }
     {
         match self.table.write_out(number) {
             None => {}
@@ -79,7 +84,7 @@ impl<P: Peer + Drop, R: EventHandler, N: Poller<Peer = P>, C: Clock> EventLoop<R
 
     // Closes all connections.
     fn close_all(&mut self)
-        ensures finishes { Finishes P.ways R.steps R.awaited C.tells N.polls self.old self.new }
+        ensures closes { OnlyDoes P.ways R.steps R.awaited C.tells N.polls IsClose self.old self.new }
         ensures none { self.new.table.entries ≡ [] }
     {
         while let Some(number) = self.table.any() {

@@ -19,8 +19,8 @@ pub is_lawful : {S F L W R N C P : Type 0} (moving : ComponentSteps S F L) (draw
     → RequestsEnterExactlyWhereAllowed (theory moving draws)
     → ((seen : R → State (ContextState S F L) W) → AnEventLoopIsARun ways steps tells polls (theory moving draws) seen awaits)
     → WhatAnEventLoopDoesIsLawful moving draws ways steps tells polls awaits
-is_lawful moving draws ways steps tells polls awaits every enters runs state_of like handler handler_after poller poller_after clock clock_after result serves =
-    let run = runs state_of like handler handler_after poller poller_after clock clock_after result serves in
+is_lawful moving draws ways steps tells polls awaits every enters runs state_of like limits handler handler_after poller poller_after clock clock_after result serves =
+    let run = runs state_of like limits handler handler_after poller poller_after clock clock_after result serves in
     let holds = enters (state_of handler) (state_of handler_after) run.happenings run.answered run.runs in
     record {
       served = run;

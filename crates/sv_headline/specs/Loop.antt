@@ -7,6 +7,7 @@ use Rattle.sv_connection.specs.LoopRuns.{IsARunOfAll}
 use Rattle.sv_connection.specs.Polling.{Polling}
 use Rattle.sv_connection.specs.Ways.{Ways}
 use Rattle.sv_connection.specs.Whole.{Serves}
+use Rattle.sv_connection.specs.declared.limits.Limits.{Limits}
 use Rattle.sv_context.specs.State.{ContextState}
 use Rattle.sv_context.specs.Theory.{theory}
 use Rattle.sv_headline.specs.Until.{IsLawfulUntilRefused}
@@ -34,6 +35,6 @@ module _ {S F L W R N C P : Type 0} (moving : ComponentSteps S F L) (draws : W �
   abbrev pub WhatAnEventLoopDoesIsLawful : (R → ℕ → Awaited) → Type 0
   WhatAnEventLoopDoesIsLawful awaits =
       (state_of : R → State (ContextState S F L) W) → StepsLike steps (theory moving draws) state_of
-      → (handler handler_after : R) (poller poller_after : N) (clock clock_after : C) (result : Result (Unit {0}) StepFault)
-      → Serves ways steps awaits tells polls handler poller clock result handler_after poller_after clock_after
+      → (limits : Limits) (handler handler_after : R) (poller poller_after : N) (clock clock_after : C) (result : Result (Unit {0}) StepFault)
+      → Serves ways steps awaits tells polls limits handler poller clock result handler_after poller_after clock_after
       → IsServedLawfully state_of handler poller clock result handler_after poller_after clock_after

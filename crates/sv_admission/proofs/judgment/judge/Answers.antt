@@ -22,7 +22,7 @@ returns-in-None-clause-outcome c =
     let by : Option Caller → OwnedDecision = λ caller. verdict standing.constraints standing.rules asked.message.method asked.canon.path caller in
     subst (GivesAnswer c.decided-in-None.result)
     (ap (λ (caller : Option Caller). verdict_outcome (is_some app.login) (by caller)) c.caller_held-caller.ensures
-    ∙ decided_so (is_protected asked.canon.path) app.login (λ (pages : FormLogin). login c.args.users.now (post_in asked) c.args.held asked.words asked.moment c.args.sessions.now)
-    (by (caller_held c.args.users.now c.args.held c.args.sessions.now)) (ap is_protected (sym c.as_str.ensures) ∙ sym c.is_protected.ensures ∙ c.if-is_protected.false) (c.is_none.ensures ∙ ap not c.if-is_none.false)
+    ∙ decided_so (is_protected asked.canon.path) app.login (λ (pages : FormLogin). login c.args.users.now (post_in asked) c.args.held asked.words asked.moment c.args.sessions.now.store)
+    (by (caller_held c.args.users.now c.args.held c.args.sessions.now.store)) (ap is_protected (sym c.as_str.ensures) ∙ sym c.is_protected.ensures ∙ c.if-is_protected.false) (c.is_none.ensures ∙ ap not c.if-is_none.false)
     (λ pages. sym c.in_ok-login.ensures.outcome ∙ c.in-None.is))
     c.decided-in-None.ensures

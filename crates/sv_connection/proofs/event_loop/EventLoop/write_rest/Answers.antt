@@ -1,14 +1,18 @@
-use Rattle.sv_connection.proofs.FinishingLemmas.{finishes_join, took_last, waited}
+use Rattle.std.proofs.Common.{rules}
+use Rattle.sv_connection.proofs.FinishingLemmas.{no_more_rounds, one_last_round, stopped_last}
 use Rattle.sv_connection.proofs.event_loop.EventLoop.write_rest.Goals as goal
+
+pub returns-then-is_empty : goal.returns-then-is_empty
+returns-then-is_empty g c = no_more_rounds g.P.Peer.ways g.R.EventHandler.steps g.R.EventHandler.awaited g.C.Clock.tells g.N.Poller.polls c.args.self.now c.loop.self c.loop.invariant
 
 pub returns-then-eq : goal.returns-then-eq
 returns-then-eq g c =
-    finishes_join g.P.Peer.ways g.R.EventHandler.steps g.R.EventHandler.awaited g.C.Clock.tells g.N.Poller.polls c.args.self.now c.loop.self (record c.loop.self { poller = c.wait-told.new.self }) c.loop.invariant
-    (waited g.P.Peer.ways g.R.EventHandler.steps g.R.EventHandler.awaited g.C.Clock.tells g.N.Poller.polls c.loop.self c.wait-told.new.self c.wait-told.result c.wait-told.ensures)
+    stopped_last g.P.Peer.ways g.R.EventHandler.steps g.R.EventHandler.awaited g.C.Clock.tells g.N.Poller.polls c.args.self.now c.loop.self c.wait-told.new.self c.wait-told.result c.loop.invariant c.wait-told.ensures (search rules)
 
 pub loop-preserved : goal.loop-preserved
 loop-preserved g c =
-    finishes_join g.P.Peer.ways g.R.EventHandler.steps g.R.EventHandler.awaited g.C.Clock.tells g.N.Poller.polls c.args.self.now c.loop.self c.take_last.new.self c.loop.invariant
-    (finishes_join g.P.Peer.ways g.R.EventHandler.steps g.R.EventHandler.awaited g.C.Clock.tells g.N.Poller.polls c.loop.self (record c.loop.self { poller = c.wait-told.new.self }) c.take_last.new.self
-    (waited g.P.Peer.ways g.R.EventHandler.steps g.R.EventHandler.awaited g.C.Clock.tells g.N.Poller.polls c.loop.self c.wait-told.new.self c.wait-told.result c.wait-told.ensures)
-    (took_last g.P.Peer.ways g.R.EventHandler.steps g.R.EventHandler.awaited g.C.Clock.tells g.N.Poller.polls c.wait-told.result (record c.loop.self { poller = c.wait-told.new.self }) c.take_last.new.self c.take_last.ensures))
+    one_last_round g.P.Peer.ways g.R.EventHandler.steps g.R.EventHandler.awaited g.C.Clock.tells g.N.Poller.polls c.args.self.now c.loop.self c.take_last.new.self c.wait-told.new.self c.wait-told.result c.loop.invariant c.wait-told.ensures
+    c.take_last.ensures
+
+pub returns : goal.returns
+returns g c = no_more_rounds g.P.Peer.ways g.R.EventHandler.steps g.R.EventHandler.awaited g.C.Clock.tells g.N.Poller.polls c.args.self.now c.loop.self c.loop.invariant
