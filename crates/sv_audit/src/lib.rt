@@ -6,12 +6,16 @@ mod access;
 mod cells;
 mod coverage;
 mod escaped;
+mod finding;
+mod finding_lines;
+mod findings;
 mod groups;
 mod laws;
 mod lines;
 mod patterns;
 mod roles;
 mod rows;
+mod same_callers;
 mod secure;
 mod sorted;
 mod tables;
@@ -19,7 +23,11 @@ mod values;
 mod words;
 
 pub use access::{Access, Cell};
-pub use laws::{only_transport_changes, served_paths_are_rooted, tables_are_right};
+pub use finding::Finding;
+pub use findings::findings_of;
+pub use laws::{
+    findings_are_right, only_transport_changes, served_paths_are_rooted, tables_are_right,
+};
 pub use lines::{METHODS_WIDTH, PATTERN_WIDTH, WHO_WIDTH, audit_text};
 pub use rows::{ContextTable, Group, Row, Table};
 pub use secure::without_transport;
