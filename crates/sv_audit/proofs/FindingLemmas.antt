@@ -56,7 +56,7 @@ module _ {X : Type 0} (R : Type 0) (test : X → Bool) where
   found_at x xs true is some all rest = All-head (λ y. test y ≡ true → R) x xs all is
   found_at x xs false is some all rest = rest some
 
-  found : (xs : List X) → list_any test xs ≡ true → All (λ y. test y ≡ true → R) xs → R
+  pub found : (xs : List X) → list_any test xs ≡ true → All (λ y. test y ≡ true → R) xs → R
   found [] some all = absurd (false≢true some)
   found (x ∷ xs) some all = found_at x xs (test x) refl some all (λ there. found xs there (All-tail (λ y. test y ≡ true → R) x xs all))
 
@@ -113,11 +113,11 @@ module _ (constraints : List Constraint) (rules : Rules) (pattern : List ℕ) wh
   abbrev cell_for : List ℕ → Cell
   cell_for method = cell_at rules (Some pattern) (covering constraints (Some pattern) method)
 
-  in_row : (method : List ℕ) → All (λ (x : Group). has_method method x ≡ true → x.cell ≡ cell_for method) groups
+  pub in_row : (method : List ℕ) → All (λ (x : Group). has_method method x ≡ true → x.cell ≡ cell_for method) groups
   in_row method = groups_have method (cell_for method) groups (row_cell constraints rules pattern method)
 
   -- The cell says what the verdict is.
-  says : (method path : List ℕ) (caller : Option Caller) (cell : Cell) → best_pattern (all_patterns constraints) path ≡ Some pattern → cell ≡ cell_for method → said_to caller cell.access ≡ kind_and_cause (verdict constraints rules method path caller)
+  pub says : (method path : List ℕ) (caller : Option Caller) (cell : Cell) → best_pattern (all_patterns constraints) path ≡ Some pattern → cell ≡ cell_for method → said_to caller cell.access ≡ kind_and_cause (verdict constraints rules method path caller)
   unfolding cell_at
   says method path caller cell best is =
       ap (λ (c : Cell). said_to caller c.access) is ∙ said rules caller (Some pattern) (covering constraints (Some pattern) method)
@@ -252,16 +252,16 @@ module _ (constraints : List Constraint) (rules : Rules) where
         (last_row (match_every_path (all_patterns constraints))))
 
 module _ (constraints : List Constraint) (rules : Rules) where
-  abbrev uncovered : List Finding
+  abbrev pub uncovered : List Finding
   uncovered = flat_map (λ (row : Row). uncovered_at row.pattern row.groups) (table_of constraints rules).rows
 
-  abbrev dead : List Finding
+  abbrev pub dead : List Finding
   dead = dead_among (lists (all_patterns constraints) (codes "/*")) constraints
 
-  abbrev unknown : List Finding
+  abbrev pub unknown : List Finding
   unknown = flat_map (λ (c : Constraint). unknown_roles rules.declared c.number c.auth) constraints
 
-  abbrev heads : List Finding
+  abbrev pub heads : List Finding
   heads = flat_map (λ (row : Row). head_at row.pattern row.groups) (table_of constraints rules).rows
 
   all_right : All (IsRight constraints rules) (findings_of constraints rules (table_of constraints rules))

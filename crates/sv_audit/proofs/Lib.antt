@@ -6,6 +6,7 @@ pub mod RowCells
 pub mod Found
 pub mod Callers
 pub mod FindingLemmas
+pub mod FoundFindings
 pub mod CellLemmas
 pub mod Made
 pub mod JsonLemmas

@@ -1,5 +1,7 @@
 -- What findings say of the verdicts (Jakarta Servlet 6.0, sections 12.1 and 13.8).
-use Rattle.std.specs.Prelude.{◌≡◌, ◌≢◌, ℕ, false, List, [], codes, Option, Some, All, Contains, IsTrue}
+use Rattle.std.specs.Prelude.{◌≡◌, ◌≢◌, ℕ, Bool, false, ◌&&◌, List, [], codes, Option, Some, All, Contains, IsTrue}
+use Rattle.std.specs.List.{list_any}
+use Rattle.std.specs.Str.{bytes_eq}
 use Rattle.sv_mapping.specs.BestMatch.{best_pattern}
 use Rattle.sv_mapping.specs.Segments.{is_rooted}
 use Rattle.sv_realm.specs.declared.caller.Caller.{Caller}
@@ -10,6 +12,7 @@ use Rattle.sv_constraints.specs.declared.constraint.Auth.{Auth}
 use Rattle.sv_constraints.specs.declared.constraint.Auth.TheVariants as auth
 use Rattle.sv_constraints.specs.declared.constraint.Constraint.{Constraint}
 use Rattle.sv_constraints.specs.declared.constraint.Rules.{Rules}
+use Rattle.sv_policy.specs.Uncovered.{is_uncovered}
 use Rattle.sv_audit.specs.Findings.{findings_of}
 use Rattle.sv_audit.specs.Reading.{kind_and_cause}
 use Rattle.sv_audit.specs.Rows.{table_of}
@@ -40,3 +43,29 @@ IsRight constraints rules (HeadDiffers pattern) = (caller : Option Caller) × ((
 -- Each finding of constraints and their table is right.
 abbrev pub FindingsAreRight : Type 0
 FindingsAreRight = (constraints : List Constraint) (rules : Rules) → All (IsRight constraints rules) (findings_of constraints rules (table_of constraints rules))
+
+-- Whether the finding says that the method is uncovered at the pattern.
+abbrev pub says_uncovered : List ℕ → List ℕ → Finding → Bool
+says_uncovered pattern method (Uncovered its_pattern methods) = bytes_eq its_pattern pattern && covers_method methods method
+says_uncovered pattern method (Dead its_number) = false
+says_uncovered pattern method (UnknownRole its_number role) = false
+says_uncovered pattern method (HeadDiffers its_pattern) = false
+
+-- Whether the finding says that GET and HEAD differ at the pattern.
+abbrev pub says_head : List ℕ → Finding → Bool
+says_head pattern (Uncovered its_pattern methods) = false
+says_head pattern (Dead its_number) = false
+says_head pattern (UnknownRole its_number role) = false
+says_head pattern (HeadDiffers its_pattern) = bytes_eq its_pattern pattern
+
+-- Each method is found that no constraint covers at a pattern of the constraints, if they cover another method there.
+abbrev pub UncoveredIsFound : Type 0
+UncoveredIsFound = (constraints : List Constraint) (rules : Rules) (pattern method other : List ℕ) → IsTrue (lists (all_patterns constraints) pattern) →
+    IsTrue (is_uncovered constraints pattern method) → is_uncovered constraints pattern other ≡ false → IsTrue (list_any (says_uncovered pattern method) (findings_of constraints rules (table_of constraints rules)))
+
+-- Each pattern is found that is the best match of a path at which a caller, or a request without one, fares differently
+-- with GET and with HEAD.
+abbrev pub HeadIsFound : Type 0
+HeadIsFound = (constraints : List Constraint) (rules : Rules) (pattern path : List ℕ) (caller : Option Caller) → best_pattern (all_patterns constraints) path ≡ Some pattern →
+    (kind_and_cause (verdict constraints rules (codes "GET") path caller)).0 ≢ (kind_and_cause (verdict constraints rules (codes "HEAD") path caller)).0 →
+    IsTrue (list_any (says_head pattern) (findings_of constraints rules (table_of constraints rules)))

@@ -1,6 +1,6 @@
 //! Theorems about access tables, each the contract of a function that only calls other theorems.
 
-ghost use Rattle.sv_audit.specs.FindingLaws.{FindingsAreRight};
+ghost use Rattle.sv_audit.specs.FindingLaws.{FindingsAreRight, HeadIsFound, UncoveredIsFound};
 ghost use Rattle.sv_audit.specs.Reading.{NumbersAreRight, ServedPathsAreRooted, TablesAreRight};
 ghost use Rattle.sv_audit.specs.Secure.{OnlyTransportChanges};
 
@@ -26,6 +26,15 @@ pub fn tables_are_right()
 pub fn findings_are_right()
     ensures { FindingsAreRight }
 {}
+
+/// No uncovered method is missed at a pattern of the constraints at which another method is covered, and no difference
+/// between GET and HEAD is missed.
+pub fn findings_are_complete()
+    ensures uncovered { UncoveredIsFound }
+    ensures heads { HeadIsFound }
+{
+    best_is_a_match();
+}
 
 /// Dropping the transport requirements changes only decisions about the transport, and no decision is about it
 /// afterwards.

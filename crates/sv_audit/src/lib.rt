@@ -26,7 +26,8 @@ pub use access::{Access, Cell};
 pub use finding::Finding;
 pub use findings::findings_of;
 pub use laws::{
-    findings_are_right, only_transport_changes, served_paths_are_rooted, tables_are_right,
+    findings_are_complete, findings_are_right, only_transport_changes, served_paths_are_rooted,
+    tables_are_right,
 };
 pub use lines::{METHODS_WIDTH, PATTERN_WIDTH, WHO_WIDTH, audit_text};
 pub use rows::{ContextTable, Group, Row, Table};
