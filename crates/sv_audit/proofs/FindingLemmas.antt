@@ -28,8 +28,8 @@ use Rattle.sv_audit.proofs.RowCells.{row_cell}
 use Rattle.sv_audit.proofs.Said.{said}
 use Rattle.sv_audit.specs.Access.{cell_at}
 use Rattle.sv_audit.specs.FindingLaws.{FindingsAreRight, IsRight, names_in}
-use Rattle.sv_audit.specs.Findings.{dead_among, findings_of, has_method, head_at, head_differs, head_strays, is_beaten, is_dead, is_left_out, is_uncovered, is_unknown, same_callers, uncovered_at, unknown_roles}
-use Rattle.sv_audit.specs.Reading.{Kind, kind_and_cause, said_to}
+use Rattle.sv_audit.specs.Findings.{dead_among, findings_of, has_method, head_at, head_differs, head_strays, is_beaten, is_dead, is_left_open, is_left_out, is_unknown, same_callers, uncovered_at, unknown_roles}
+use Rattle.sv_audit.specs.Reading.{Kind, Passes, kind_and_cause, said_to}
 use Rattle.sv_audit.specs.Rows.{in_row_order, match_every_path, other_paths, row_at, table_of}
 use Rattle.sv_audit.specs.declared.access.Access.{Access}
 use Rattle.sv_audit.specs.declared.access.Access.TheVariants.{Unconstrained, Uncovered, UncoveredDenied, Precluded, NeedsTls, Everyone, AnyLogin, Roles}
@@ -95,15 +95,15 @@ module _ (method : List ℕ) (cell : Cell) where
   groups_have gs is =
       groups_all gs (All-same (λ (c : Cell). c ≡ cell) (map (λ (x : Group). x.cell) (filter (has_method method) gs)) (cell ∷ []) is (All-cons (λ (c : Cell). c ≡ cell) cell [] refl (All-nil (λ (c : Cell). c ≡ cell))))
 
-left_out_cause : (caller : Option Caller) (access : Access) → is_uncovered access ≡ true → (said_to caller access).1 ≡ cause.Uncovered
-left_out_cause caller Unconstrained is = absurd (false≢true is)
-left_out_cause caller Uncovered is = refl
-left_out_cause caller UncoveredDenied is = refl
-left_out_cause caller Precluded is = absurd (false≢true is)
-left_out_cause caller NeedsTls is = absurd (false≢true is)
-left_out_cause caller Everyone is = absurd (false≢true is)
-left_out_cause caller AnyLogin is = absurd (false≢true is)
-left_out_cause caller (Roles names) is = absurd (false≢true is)
+left_out_passes : (caller : Option Caller) (access : Access) → is_left_open access ≡ true → said_to caller access ≡ (Passes, cause.Uncovered)
+left_out_passes caller Unconstrained is = absurd (false≢true is)
+left_out_passes caller Uncovered is = refl
+left_out_passes caller UncoveredDenied is = absurd (false≢true is)
+left_out_passes caller Precluded is = absurd (false≢true is)
+left_out_passes caller NeedsTls is = absurd (false≢true is)
+left_out_passes caller Everyone is = absurd (false≢true is)
+left_out_passes caller AnyLogin is = absurd (false≢true is)
+left_out_passes caller (Roles names) is = absurd (false≢true is)
 
 -- ---- The findings of a row.
 module _ (constraints : List Constraint) (rules : Rules) (pattern : List ℕ) where
@@ -129,8 +129,8 @@ module _ (constraints : List Constraint) (rules : Rules) (pattern : List ℕ) wh
       All-map (IsRight constraints rules) (λ (group : Group). finding.Uncovered pattern group.methods) (filter is_left_out groups)
       (kept_all (λ (group : Group). IsRight constraints rules (finding.Uncovered pattern group.methods)) is_left_out groups
       (λ k d within left method path caller best has.
-      ap (λ (x : Kind × Cause). x.1) (sym (says method path caller (slice_index_or groups k d).cell best (in_row method k d within has)))
-      ∙ left_out_cause caller (slice_index_or groups k d).cell.access left))
+      sym (says method path caller (slice_index_or groups k d).cell best (in_row method k d within has))
+      ∙ left_out_passes caller (slice_index_or groups k d).cell.access left))
 
   apart_here : (get head : Cell) → get ≡ cell_for (codes "GET") → head ≡ cell_for (codes "HEAD") → not (same_callers get.access head.access) ≡ true → IsRight constraints rules (finding.HeadDiffers pattern)
   apart_here get head is was differ =

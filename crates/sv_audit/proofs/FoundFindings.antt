@@ -27,7 +27,7 @@ use Rattle.sv_audit.proofs.Found.{in_texts, ordered_lists}
 use Rattle.sv_audit.proofs.RowCells.{row_cell}
 use Rattle.sv_audit.specs.Access.{cell_at}
 use Rattle.sv_audit.specs.FindingLaws.{HeadIsFound, UncoveredIsFound, says_head, says_uncovered}
-use Rattle.sv_audit.specs.Findings.{has_method, head_at, head_differs, head_strays, is_closed, is_left_out, is_open, is_uncovered, same_callers, same_logins, uncovered_at}
+use Rattle.sv_audit.specs.Findings.{has_method, head_at, head_differs, head_strays, is_closed, is_left_open, is_left_out, is_open, same_callers, same_logins, uncovered_at}
 use Rattle.sv_audit.specs.Reading.{Kind, IsDenied, Passes, kind_and_cause, said_to}
 use Rattle.sv_audit.specs.Rows.{in_row_order, match_every_path, other_paths, row_at, table_of}
 use Rattle.sv_audit.specs.declared.access.Access.{Access}
@@ -63,13 +63,13 @@ any_last : {X : Type 0} (test : X → Bool) (xs ys : List X) → list_any test y
 any_last test xs ys some = list_any-append test xs ys ∙ or_last (list_any test xs) (list_any test ys) some
 
 -- ---- The access of uncovered and of covered methods.
-uncovered_from : (none denied : Bool) (rest : Access) → none ≡ true → is_uncovered (cond none (cond denied UncoveredDenied Uncovered) rest) ≡ true
-uncovered_from true true rest is = refl
-uncovered_from true false rest is = refl
-uncovered_from false denied rest is = absurd (false≢true is)
+uncovered_from : (none denied : Bool) (rest : Access) → none ≡ true → denied ≡ false → is_left_open (cond none (cond denied UncoveredDenied Uncovered) rest) ≡ true
+uncovered_from true true rest is open_to_all = absurd (false≢true (sym open_to_all))
+uncovered_from true false rest is open_to_all = refl
+uncovered_from false denied rest is open_to_all = absurd (false≢true is)
 
 covered_from : (none precluded transport opened any : Bool) (first : Access) (names : List (List ℕ)) → none ≡ false
-    → is_uncovered (cond none first (cond precluded Precluded (cond transport NeedsTls (cond opened Everyone (cond any AnyLogin (Roles names)))))) ≡ false
+    → is_left_open (cond none first (cond precluded Precluded (cond transport NeedsTls (cond opened Everyone (cond any AnyLogin (Roles names)))))) ≡ false
 covered_from true precluded transport opened any first names is = absurd (false≢true (sym is))
 covered_from false true transport opened any first names is = refl
 covered_from false false true opened any first names is = refl
@@ -90,34 +90,34 @@ module _ (constraints : List Constraint) (rules : Rules) (pattern : List ℕ) wh
       sym (some_filtered (has_method method) groups)
       ∙ ap (λ n. not (n == 0)) (sym (length_seen (λ (x : Group). x.cell) (filter (has_method method) groups)) ∙ ap length (row_cell constraints rules pattern method))
 
-  uncovered_cell : (method : List ℕ) → is_uncovered_at constraints pattern method ≡ true → is_uncovered (cell_for method).access ≡ true
+  uncovered_cell : (method : List ℕ) → is_uncovered_at constraints pattern method ≡ true → rules.deny_uncovered ≡ false → is_left_open (cell_for method).access ≡ true
   unfolding cell_at
-  uncovered_cell method none = uncovered_from (length (covering constraints (Some pattern) method) == 0) rules.deny_uncovered _ none
+  uncovered_cell method none open_to_all = uncovered_from (length (covering constraints (Some pattern) method) == 0) rules.deny_uncovered _ none open_to_all
 
-  covered_cell : (method : List ℕ) → is_uncovered_at constraints pattern method ≡ false → is_uncovered (cell_for method).access ≡ false
+  covered_cell : (method : List ℕ) → is_uncovered_at constraints pattern method ≡ false → is_left_open (cell_for method).access ≡ false
   unfolding cell_at
   covered_cell method some = covered_from (length (covering constraints (Some pattern) method) == 0) _ _ _ _ _ _ some
 
-  left_out : (method : List ℕ) → is_uncovered_at constraints pattern method ≡ true → list_any (λ (g : Group). is_left_out g && has_method method g) groups ≡ true
-  left_out method none =
+  left_out : (method : List ℕ) → is_uncovered_at constraints pattern method ≡ true → rules.deny_uncovered ≡ false → list_any (λ (g : Group). is_left_out g && has_method method g) groups ≡ true
+  left_out method none open_to_all =
       found (list_any (λ (g : Group). is_left_out g && has_method method g) groups ≡ true) (has_method method) groups (some_group method)
       (λ k d within has.
       list_any_at (λ (g : Group). is_left_out g && has_method method g) groups k d within
-      (both (is_left_out (slice_index_or groups k d)) (has_method method (slice_index_or groups k d)) (ap (λ (c : Cell). is_uncovered c.access) (in_row constraints rules pattern method k d within has) ∙ uncovered_cell method none) has))
+      (both (is_left_out (slice_index_or groups k d)) (has_method method (slice_index_or groups k d)) (ap (λ (c : Cell). is_left_open c.access) (in_row constraints rules pattern method k d within has) ∙ uncovered_cell method none open_to_all) has))
 
   not_all : (method : List ℕ) → is_uncovered_at constraints pattern method ≡ false → list_all is_left_out groups ≡ false
   not_all method some =
       found (list_all is_left_out groups ≡ false) (has_method method) groups (some_group method)
-      (λ k d within has. list_all_at is_left_out groups k d within (ap (λ (c : Cell). is_uncovered c.access) (in_row constraints rules pattern method k d within has) ∙ covered_cell method some))
+      (λ k d within has. list_all_at is_left_out groups k d within (ap (λ (c : Cell). is_left_open c.access) (in_row constraints rules pattern method k d within has) ∙ covered_cell method some))
 
-  reported : (method other : List ℕ) → is_uncovered_at constraints pattern method ≡ true → is_uncovered_at constraints pattern other ≡ false → list_any (says_uncovered pattern method) (uncovered_at (Some pattern) groups) ≡ true
-  reported method other none some =
+  reported : (method other : List ℕ) → rules.deny_uncovered ≡ false → is_uncovered_at constraints pattern method ≡ true → is_uncovered_at constraints pattern other ≡ false → list_any (says_uncovered pattern method) (uncovered_at (Some pattern) groups) ≡ true
+  reported method other open_to_all none some =
       ap (λ b. list_any (says_uncovered pattern method) (cond b [] (map (λ (group : Group). finding.Uncovered pattern group.methods) (filter is_left_out groups)))) (not_all other some)
       ∙ any_seen (says_uncovered pattern method) (λ (group : Group). finding.Uncovered pattern group.methods) (filter is_left_out groups)
       ∙ kept_any (λ (group : Group). bytes_eq pattern pattern && has_method method group) is_left_out groups
       ∙ any_same (λ (group : Group). is_left_out group && (bytes_eq pattern pattern && has_method method group)) (λ (group : Group). is_left_out group && has_method method group)
       (λ (group : Group). ap (λ b. is_left_out group && (b && has_method method group)) (same_text pattern)) groups
-      ∙ left_out method none
+      ∙ left_out method none open_to_all
 
   -- What is found at the row of a pattern is found in the table.
   in_table : (test : Finding → Bool) (at : Option (List ℕ) → List Group → List Finding) → lists (all_patterns constraints) pattern ≡ true → list_any test (at (Some pattern) groups) ≡ true
@@ -129,11 +129,11 @@ module _ (constraints : List Constraint) (rules : Rules) (pattern : List ℕ) wh
       ∙ listed_any (λ p. list_any test (at (Some p) (row_at constraints rules p).groups)) (in_row_order (all_patterns constraints)) pattern (ordered_lists (all_patterns constraints) pattern ∙ there) some)
 
 pub uncovered_found : UncoveredIsFound
-uncovered_found constraints rules pattern method other there none some =
+uncovered_found constraints rules pattern method other open_to_all there none some =
     any_first (says_uncovered pattern method) ((uncovered constraints rules ++ dead constraints rules) ++ unknown constraints rules) (heads constraints rules)
     (any_first (says_uncovered pattern method) (uncovered constraints rules ++ dead constraints rules) (unknown constraints rules)
     (any_first (says_uncovered pattern method) (uncovered constraints rules) (dead constraints rules)
-    (in_table constraints rules pattern (says_uncovered pattern method) uncovered_at there (reported constraints rules pattern method other none some))))
+    (in_table constraints rules pattern (says_uncovered pattern method) uncovered_at there (reported constraints rules pattern method other open_to_all none some))))
 
 -- ---- The same callers fare alike.
 module _ (caller : Option Caller) where

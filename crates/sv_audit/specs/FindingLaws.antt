@@ -14,7 +14,7 @@ use Rattle.sv_constraints.specs.declared.constraint.Constraint.{Constraint}
 use Rattle.sv_constraints.specs.declared.constraint.Rules.{Rules}
 use Rattle.sv_policy.specs.Uncovered.{is_uncovered}
 use Rattle.sv_audit.specs.Findings.{findings_of}
-use Rattle.sv_audit.specs.Reading.{kind_and_cause}
+use Rattle.sv_audit.specs.Reading.{Passes, kind_and_cause}
 use Rattle.sv_audit.specs.Rows.{table_of}
 use Rattle.sv_audit.specs.declared.finding.Finding.{Finding}
 use Rattle.sv_audit.specs.declared.finding.Finding.TheVariants.{Uncovered, Dead, UnknownRole, HeadDiffers}
@@ -29,11 +29,11 @@ abbrev pub CoversNothing : List Constraint → Constraint → Type 0
 CoversNothing constraints constraint = (method path pattern : List ℕ) → IsTrue (is_rooted path) → best_pattern (all_patterns constraints) path ≡ Some pattern →
     covers constraint pattern method ≡ false
 
--- Each method of the finding is uncovered at each path of the pattern; the constraint covers nothing; the constraint
+-- Each method of the finding passes at each path of the pattern, since it is uncovered; the constraint covers nothing; the constraint
 -- names the role, which is not declared; a caller, or a request without one, fares differently with GET and with HEAD.
 abbrev pub IsRight : List Constraint → Rules → Finding → Type 0
 IsRight constraints rules (Uncovered pattern methods) = (method path : List ℕ) (caller : Option Caller) → best_pattern (all_patterns constraints) path ≡ Some pattern →
-    IsTrue (covers_method methods method) → (kind_and_cause (verdict constraints rules method path caller)).1 ≡ cause.Uncovered
+    IsTrue (covers_method methods method) → kind_and_cause (verdict constraints rules method path caller) ≡ (Passes, cause.Uncovered)
 IsRight constraints rules (Dead its_number) = (constraint : Constraint) × Contains constraints constraint × (constraint.number ≡ its_number) × CoversNothing constraints constraint
 IsRight constraints rules (UnknownRole its_number role) = (constraint : Constraint) × Contains constraints constraint × (constraint.number ≡ its_number)
     × IsTrue (lists (names_in constraint.auth) role) × (lists rules.declared role ≡ false)
@@ -58,9 +58,10 @@ says_head pattern (Dead its_number) = false
 says_head pattern (UnknownRole its_number role) = false
 says_head pattern (HeadDiffers its_pattern) = bytes_eq its_pattern pattern
 
--- Each method is found that no constraint covers at a pattern of the constraints, if they cover another method there.
+-- Unless uncovered methods are denied, each method is found that no constraint covers at a pattern of the constraints, if
+-- they cover another method there.
 abbrev pub UncoveredIsFound : Type 0
-UncoveredIsFound = (constraints : List Constraint) (rules : Rules) (pattern method other : List ℕ) → IsTrue (lists (all_patterns constraints) pattern) →
+UncoveredIsFound = (constraints : List Constraint) (rules : Rules) (pattern method other : List ℕ) → rules.deny_uncovered ≡ false → IsTrue (lists (all_patterns constraints) pattern) →
     IsTrue (is_uncovered constraints pattern method) → is_uncovered constraints pattern other ≡ false → IsTrue (list_any (says_uncovered pattern method) (findings_of constraints rules (table_of constraints rules)))
 
 -- Each pattern is found that is the best match of a path at which a caller, or a request without one, fares differently

@@ -15,21 +15,21 @@ use Rattle.sv_audit.specs.declared.finding.Finding.TheVariants as finding
 use Rattle.sv_audit.specs.declared.rows.Group.{Group}
 use Rattle.sv_audit.specs.declared.rows.Table.{Table}
 
--- Whether no constraint covers the methods (section 13.8.4).
-abbrev pub is_uncovered : Access → Bool
-is_uncovered Unconstrained = false
-is_uncovered Uncovered = true
-is_uncovered UncoveredDenied = true
-is_uncovered Precluded = false
-is_uncovered NeedsTls = false
-is_uncovered Everyone = false
-is_uncovered AnyLogin = false
-is_uncovered (Roles names) = false
+-- Whether everyone may use the methods since no constraint covers them (section 13.8.4).
+abbrev pub is_left_open : Access → Bool
+is_left_open Unconstrained = false
+is_left_open Uncovered = true
+is_left_open UncoveredDenied = false
+is_left_open Precluded = false
+is_left_open NeedsTls = false
+is_left_open Everyone = false
+is_left_open AnyLogin = false
+is_left_open (Roles names) = false
 
 abbrev pub is_left_out : Group → Bool
-is_left_out group = is_uncovered group.cell.access
+is_left_out group = is_left_open group.cell.access
 
--- The uncovered methods at a pattern at which other methods are covered.
+-- The methods that are left open at a pattern at which other methods are covered.
 abbrev pub uncovered_at : Option (List ℕ) → List Group → List Finding
 uncovered_at None groups = []
 uncovered_at (Some pattern) groups =

@@ -6,7 +6,8 @@ use sv_text::Text;
 /// A part of security constraints that probably says something else than was meant.
 #[derive(Drop)]
 pub enum Finding {
-    /// The uncovered methods at a pattern at which other methods are covered (Jakarta Servlet 6.0, section 13.8.4).
+    /// The methods that everyone may use at a pattern, since constraints cover only other methods there (Jakarta Servlet
+    /// 6.0, section 13.8.4).
     Uncovered(Text, Methods),
     /// The number of a constraint that covers no request, since `/*` is chosen before each of its patterns (section
     /// 12.1).

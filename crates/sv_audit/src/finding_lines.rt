@@ -11,7 +11,7 @@ use std::alloc::Global;
 use sv_constraints::Methods;
 use sv_text::NoMemory;
 
-/// Appends a line for each finding.
+/// Appends two lines for each finding: what it is, and what to write.
 pub fn push_findings(text: &mut String, alloc: Global, findings: &[Finding]) -> Result<(), NoMemory>
     ensures { OnOk result (string_bytes text.new ≡ string_bytes text.old ++ flat_map spec.finding_line findings.now) }
 {
@@ -48,7 +48,7 @@ fn push_uncovered(
     text.push_str(shown_pattern(alloc, pattern)?.as_str())?;
     text.push_str(": ")?;
     text.push_str(methods_text(alloc, methods)?.as_str())?;
-    Ok(text.push_str(". Cover all methods there, or set deny-uncovered-http-methods.\n")?)
+    Ok(text.push_str("\n  Cover all methods there, or set deny-uncovered-http-methods.\n")?)
 }
 
 fn push_dead(text: &mut String, alloc: Global, number: u64) -> Result<(), NoMemory>
@@ -57,7 +57,7 @@ fn push_dead(text: &mut String, alloc: Global, number: u64) -> Result<(), NoMemo
     text.push_str("finding: constraint ")?;
     text.push_str(number_text(alloc, Some(number))?.as_str())?;
     Ok(text.push_str(
-        " covers no request, since /* is chosen before its patterns. Change its patterns, or remove it.\n",
+        " covers no request\n  /* is chosen before its patterns. Change them, or remove it.\n",
     )?)
 }
 
@@ -71,9 +71,9 @@ fn push_unknown_role(
 {
     text.push_str("finding: constraint ")?;
     text.push_str(number_text(alloc, Some(number))?.as_str())?;
-    text.push_str(" names a role that is not declared: ")?;
+    text.push_str(" names the undeclared role ")?;
     text.push_str(escaped(alloc, role)?.as_str())?;
-    Ok(text.push_str(". Declare it in a security-role, or correct the name.\n")?)
+    Ok(text.push_str("\n  Declare it in a security-role, or correct the name.\n")?)
 }
 
 fn push_head(text: &mut String, alloc: Global, pattern: &str) -> Result<(), NoMemory>
@@ -81,5 +81,5 @@ fn push_head(text: &mut String, alloc: Global, pattern: &str) -> Result<(), NoMe
 {
     text.push_str("finding: GET and HEAD are open to different callers at ")?;
     text.push_str(shown_pattern(alloc, pattern)?.as_str())?;
-    Ok(text.push_str(". Name HEAD wherever GET is named.\n")?)
+    Ok(text.push_str("\n  Name HEAD wherever GET is named.\n")?)
 }

@@ -18,7 +18,7 @@ use sv_mapping::Pattern;
 use sv_policy::copied_methods;
 use sv_text::{Listed, NoMemory, Text};
 
-/// Returns the findings of constraints, their rules and their access table: uncovered methods, dead constraints, roles
+/// Returns the findings of constraints, their rules and their access table: methods left open, dead constraints, roles
 /// that are not declared, and differences between GET and HEAD, in this order.
 ///
 /// # Errors
@@ -52,7 +52,7 @@ fn push_uncovered(findings: &mut Vec<Finding>, alloc: Global, rows: &[Row]) -> R
     Ok(())
 }
 
-/// Appends the uncovered methods at a pattern, unless all methods are uncovered there.
+/// Appends the methods that are left open at a pattern, unless all are.
 fn push_uncovered_at(
     findings: &mut Vec<Finding>,
     alloc: Global,
@@ -98,14 +98,14 @@ fn are_left_out(groups: &[Group]) -> bool
 fn is_left_out(group: &Group) -> bool
     ensures { result ≡ spec.is_left_out group.now }
 {
-    is_uncovered(&group.cell.access)
+    is_left_open(&group.cell.access)
 }
 
-/// Returns whether no constraint covers the methods (Jakarta Servlet 6.0, section 13.8.4).
-fn is_uncovered(access: &Access) -> bool
-    ensures { result ≡ spec.is_uncovered access.now }
+/// Returns whether everyone may use the methods since no constraint covers them (Jakarta Servlet 6.0, section 13.8.4).
+fn is_left_open(access: &Access) -> bool
+    ensures { result ≡ spec.is_left_open access.now }
 {
-    matches!(access, Access::Uncovered | Access::UncoveredDenied)
+    matches!(access, Access::Uncovered)
 }
 
 /// Returns whether `/*` is among the patterns of the constraints.

@@ -19,16 +19,16 @@ pub fn tables_are_right()
     best_is_of_texts();
 }
 
-/// Each finding of constraints and their table is right. The methods of an uncovered finding are uncovered at each path
-/// of its pattern. A dead constraint covers no request. An unknown role is named and not declared. Where GET and HEAD
+/// Each finding of constraints and their table is right. The methods of an uncovered finding pass at each path of its
+/// pattern, since they are uncovered. A dead constraint covers no request. An unknown role is named and not declared. Where GET and HEAD
 /// differ, there is a caller, or a request without one, that passes with one of them and not with the other, or is asked
 /// to log in only for one.
 pub fn findings_are_right()
     ensures { FindingsAreRight }
 {}
 
-/// No uncovered method is missed at a pattern of the constraints at which another method is covered, and no difference
-/// between GET and HEAD is missed.
+/// Unless uncovered methods are denied, none is missed at a pattern of the constraints at which another method is
+/// covered. No difference between GET and HEAD is missed.
 pub fn findings_are_complete()
     ensures uncovered { UncoveredIsFound }
     ensures heads { HeadIsFound }
