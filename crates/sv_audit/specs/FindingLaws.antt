@@ -47,16 +47,12 @@ FindingsAreRight = (constraints : List Constraint) (rules : Rules) → All (IsRi
 -- Whether the finding says that the method is uncovered at the pattern.
 abbrev pub says_uncovered : List ℕ → List ℕ → Finding → Bool
 says_uncovered pattern method (Uncovered its_pattern methods) = bytes_eq its_pattern pattern && covers_method methods method
-says_uncovered pattern method (Dead its_number) = false
-says_uncovered pattern method (UnknownRole its_number role) = false
-says_uncovered pattern method (HeadDiffers its_pattern) = false
+says_uncovered pattern method other = false
 
 -- Whether the finding says that GET and HEAD differ at the pattern.
 abbrev pub says_head : List ℕ → Finding → Bool
-says_head pattern (Uncovered its_pattern methods) = false
-says_head pattern (Dead its_number) = false
-says_head pattern (UnknownRole its_number role) = false
 says_head pattern (HeadDiffers its_pattern) = bytes_eq its_pattern pattern
+says_head pattern other = false
 
 -- Unless uncovered methods are denied, each method is found that no constraint covers at a pattern of the constraints, if
 -- they cover another method there.

@@ -17,14 +17,8 @@ use Rattle.sv_audit.specs.declared.rows.Table.{Table}
 
 -- Whether everyone may use the methods since no constraint covers them (section 13.8.4).
 abbrev pub is_left_open : Access → Bool
-is_left_open Unconstrained = false
 is_left_open Uncovered = true
-is_left_open UncoveredDenied = false
-is_left_open Precluded = false
-is_left_open NeedsTls = false
-is_left_open Everyone = false
-is_left_open AnyLogin = false
-is_left_open (Roles names) = false
+is_left_open access = false
 
 abbrev pub is_left_out : Group → Bool
 is_left_out group = is_left_open group.cell.access
@@ -59,25 +53,17 @@ unknown_roles declared number (auth.Roles names) = map (finding.UnknownRole numb
 abbrev pub is_open : Access → Bool
 is_open Unconstrained = true
 is_open Uncovered = true
-is_open UncoveredDenied = false
-is_open Precluded = false
-is_open NeedsTls = false
 is_open Everyone = true
-is_open AnyLogin = false
-is_open (Roles names) = false
+is_open access = false
 
 -- Whether nobody passes.
 abbrev pub is_closed : Access → Bool
-is_closed Unconstrained = false
-is_closed Uncovered = false
 is_closed UncoveredDenied = true
 is_closed Precluded = true
 is_closed NeedsTls = true
-is_closed Everyone = false
-is_closed AnyLogin = false
-is_closed (Roles names) = false
+is_closed access = false
 
--- Whether both texts have the same roles.
+-- Whether both lists have the same roles.
 abbrev pub same_roles : List (List ℕ) → List (List ℕ) → Bool
 same_roles names others = list_all (lists others) names && list_all (lists names) others
 

@@ -1,5 +1,6 @@
 //! Access tables: which methods the security constraints of a context open to whom, by URL pattern (Jakarta Servlet
-//! 6.0, section 13.8). A table says of every path, method and caller what the constraints decide.
+//! 6.0, section 13.8). A table says of every path, method and caller what the constraints decide. Its findings say what
+//! was probably left open by mistake, or has no effect.
 #![tactic(auto)]
 
 mod access;
