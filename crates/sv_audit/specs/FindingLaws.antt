@@ -29,8 +29,9 @@ abbrev pub CoversNothing : List Constraint → Constraint → Type 0
 CoversNothing constraints constraint = (method path pattern : List ℕ) → IsTrue (is_rooted path) → best_pattern (all_patterns constraints) path ≡ Some pattern →
     covers constraint pattern method ≡ false
 
--- Each method of the finding passes at each path of the pattern, since it is uncovered; the constraint covers nothing; the constraint
--- names the role, which is not declared; a caller, or a request without one, fares differently with GET and with HEAD.
+-- Each method of the finding passes at each path of the pattern, since it is uncovered; the constraint covers nothing;
+-- the constraint names the role, which is not declared; a caller, or a request without one, fares differently with GET
+-- and with HEAD.
 abbrev pub IsRight : List Constraint → Rules → Finding → Type 0
 IsRight constraints rules (Uncovered pattern methods) = (method path : List ℕ) (caller : Option Caller) → best_pattern (all_patterns constraints) path ≡ Some pattern →
     IsTrue (covers_method methods method) → kind_and_cause (verdict constraints rules method path caller) ≡ (Passes, cause.Uncovered)
