@@ -1,6 +1,5 @@
 -- Kinds of access with different callers decide differently for a request without a caller, or for some caller.
 use Rattle.std.proofs.lemmas.Bool.{false≢true}
-use Rattle.std.proofs.lemmas.Bool.Decides.{same_from_decides}
 use Rattle.std.proofs.lemmas.Slice.Eq.{bytes_eq-Decides}
 use Rattle.std.proofs.Common.{◌≡◌, ℕ, Bool, true, false, not, ◌||◌, ◌&&◌, List, [], ◌∷◌, refl, ap, ap₂, sym, ◌∙◌, cond, Option, None, Some}
 use Rattle.std.specs.Prelude.{◌≢◌}
@@ -10,6 +9,8 @@ use Rattle.sv_realm.specs.declared.caller.Caller.{Caller}
 use Rattle.sv_constraints.specs.Covering.{lists}
 use Rattle.sv_constraints.specs.declared.cause.Cause.{Cause}
 use Rattle.sv_constraints.specs.declared.cause.Cause.TheVariants as cause
+use Rattle.sv_policy.proofs.Best.{or_right}
+use Rattle.sv_policy.proofs.Grouping.{or_none, turned}
 use Rattle.sv_policy.proofs.Steps.{any_same}
 use Rattle.sv_audit.specs.Findings.{is_closed, is_open, same_callers, same_logins}
 use Rattle.sv_audit.specs.Reading.{Kind, Passes, NeedsLogin, IsDenied, said_to}
@@ -59,13 +60,6 @@ closes AnyLogin is = absurd (false≢true (ap denies is))
 closes (Roles names) is = absurd (false≢true (ap denies is))
 
 -- ---- With a caller of some roles.
-turned : (a b : List ℕ) → bytes_eq a b ≡ bytes_eq b a
-turned a b = same_from_decides (bytes_eq a b) (bytes_eq b a) (bytes_eq-Decides a b) ((λ h. sym ((bytes_eq-Decides b a).0 h)), (λ e. (bytes_eq-Decides b a).1 (sym e)))
-
-or_none : (a : Bool) → (a || false) ≡ a
-or_none true = refl
-or_none false = refl
-
 held : (role : List ℕ) (names : List (List ℕ)) → list_any (lists (role ∷ [])) names ≡ lists names role
 held role names = any_same (lists (role ∷ [])) (λ listed. bytes_eq listed role) (λ name. or_none (bytes_eq role name) ∙ turned role name) names
 
@@ -82,10 +76,6 @@ holding_differs first second holds lacks same = false≢true (sym (ap passes (ap
 -- A role that is among the first texts only.
 abbrev IsOutside : List (List ℕ) → List (List ℕ) → Type 0
 IsOutside names others = (role : List ℕ) × (lists names role ≡ true) × (lists others role ≡ false)
-
-or_right : (a b : Bool) → b ≡ true → (a || b) ≡ true
-or_right true b h = refl
-or_right false b h = h
 
 outside_at : (others : List (List ℕ)) (name : List ℕ) (names : List (List ℕ)) (there : Bool) → lists others name ≡ there → (there && list_all (lists others) names) ≡ false → (list_all (lists others) names ≡ false → IsOutside names others) → IsOutside (name ∷ names) others
 outside_at others name names true is fails below =

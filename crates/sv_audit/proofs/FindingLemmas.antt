@@ -4,8 +4,8 @@ use Rattle.std.proofs.lemmas.Bool.Decides.{Decides-eqb}
 use Rattle.std.proofs.lemmas.List.Elements.{All-append, All-cons, All-contains_itself, All-head, All-map, All-nil, All-same, All-tail}
 use Rattle.std.proofs.lemmas.List.Sums.{AllPass-from_list_all}
 use Rattle.std.proofs.lemmas.Slice.Eq.{bytes_eq-Decides, starts_is}
-use Rattle.std.proofs.Common.{◌≡◌, ℕ, Bool, true, false, not, ◌||◌, ◌&&◌, List, [], ◌∷◌, ◌++◌, map, drop, codes, refl, ap, sym, ◌∙◌, cond, Option, None, Some, is_some}
-use Rattle.std.specs.Prelude.{All, Contains, filter, find, slice_index_or, unwrap_or}
+use Rattle.std.proofs.Common.{◌≡◌, ℕ, Bool, true, false, not, ◌||◌, ◌&&◌, List, [], ◌∷◌, ◌++◌, map, drop, codes, refl, ap, sym, ◌∙◌, cond, Option, None, Some}
+use Rattle.std.specs.Prelude.{All, Contains, filter, slice_index_or}
 use Rattle.std.specs.List.{flat_map, list_all, list_any}
 use Rattle.std.specs.Str.{bytes_eq}
 use Rattle.sv_mapping.specs.BestMatch.{best_pattern, is_best, outranks}
@@ -21,6 +21,7 @@ use Rattle.sv_constraints.specs.declared.constraint.Auth.{Auth}
 use Rattle.sv_constraints.specs.declared.constraint.Auth.TheVariants as auth
 use Rattle.sv_constraints.specs.declared.constraint.Constraint.{Constraint}
 use Rattle.sv_constraints.specs.declared.constraint.Rules.{Rules}
+use Rattle.sv_policy.proofs.Best.{found_in}
 use Rattle.sv_audit.proofs.Callers.{apart}
 use Rattle.sv_audit.proofs.Equal.{and_left, and_right, both}
 use Rattle.sv_audit.proofs.Found.{any_of, in_texts, root_matches}
@@ -63,16 +64,6 @@ module _ {X : Type 0} (R : Type 0) (test : X → Bool) where
 joined : {A X : Type 0} (P : X → Type 0) (f : A → List X) (xs : List A) → All (λ a. All P (f a)) xs → All P (flat_map f xs)
 joined P f [] all = All-nil P
 joined P f (x ∷ xs) all = All-append P (f x) (flat_map f xs) (All-head (λ a. All P (f a)) x xs all) (joined P f xs (All-tail (λ a. All P (f a)) x xs all))
-
--- The first item that passes does pass.
-module _ (test : List ℕ → Bool) where
-  first_at : (y x : List ℕ) (b : Bool) → test y ≡ b → (rest : Option (List ℕ)) → cond b (Some y) rest ≡ Some x → (rest ≡ Some x → test x ≡ true) → test x ≡ true
-  first_at y x true is rest first below = ap test (sym (ap (λ o. unwrap_or o x) first)) ∙ is
-  first_at y x false is rest first below = below first
-
-  first_passes : (xs : List (List ℕ)) (x : List ℕ) → find test xs ≡ Some x → test x ≡ true
-  first_passes [] x first = absurd (false≢true (ap is_some first))
-  first_passes (y ∷ xs) x first = first_at y x (test y) refl (find test xs) first (first_passes xs x)
 
 not_true : (a : Bool) → not a ≡ true → a ≡ false
 not_true true h = absurd (false≢true h)
@@ -178,7 +169,7 @@ module _ (constraints : List Constraint) where
   never_best : (path pattern : List ℕ) → is_rooted path ≡ true → has_prefix ≡ true → (bytes_eq pattern (codes "/") || is_extension_pattern pattern) ≡ true → best_pattern patterns path ≡ Some pattern → ⊥
   never_best path pattern rooted there beaten best =
       let none : list_any (λ other. matches other path && outranks other pattern) patterns ≡ false =
-      not_true (list_any (λ other. matches other path && outranks other pattern) patterns) (and_right (matches pattern path) (not (list_any (λ other. matches other path && outranks other pattern) patterns)) (first_passes (is_best patterns path) patterns pattern best)) in
+      not_true (list_any (λ other. matches other path && outranks other pattern) patterns) (and_right (matches pattern path) (not (list_any (λ other. matches other path && outranks other pattern) patterns)) (found_in (is_best patterns path) patterns pattern best).0) in
       false≢true (sym (any_of (λ other. matches other path && outranks other pattern) patterns (codes "/*") none
       (both (matches (codes "/*") path) (outranks (codes "/*") pattern) (root_matches path rooted) (below_at pattern (bytes_eq pattern (codes "/")) refl beaten))) ∙ there)
 

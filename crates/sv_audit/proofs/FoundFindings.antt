@@ -16,7 +16,7 @@ use Rattle.sv_constraints.specs.declared.cause.Cause.{Cause}
 use Rattle.sv_constraints.specs.declared.cause.Cause.TheVariants as cause
 use Rattle.sv_constraints.specs.declared.constraint.Constraint.{Constraint}
 use Rattle.sv_constraints.specs.declared.constraint.Rules.{Rules}
-use Rattle.sv_policy.proofs.Best.{any_listed}
+use Rattle.sv_policy.proofs.Best.{any_in, any_listed, or_right}
 use Rattle.sv_policy.proofs.Listed.{any_seen, length_seen, some_filtered}
 use Rattle.sv_policy.proofs.Rising.{same_text}
 use Rattle.sv_policy.proofs.Steps.{any_of_joined, any_same}
@@ -39,11 +39,6 @@ use Rattle.sv_audit.specs.declared.rows.Group.{Group}
 use Rattle.sv_audit.specs.declared.rows.Row.{Row}
 
 -- ---- Lists.
-listed_any : (test : List ℕ → Bool) (xs : List (List ℕ)) (x : List ℕ) → lists xs x ≡ true → test x ≡ true → list_any test xs ≡ true
-listed_any test xs x there passes =
-    found (list_any test xs ≡ true) (λ listed. bytes_eq listed x) xs there
-    (λ k d within same. list_any_at test xs k d within (ap test ((bytes_eq-Decides (slice_index_or xs k d) x).0 same) ∙ passes))
-
 kept_any_at : {X : Type 0} (test : X → Bool) (b : Bool) (x : X) (xs : List X) → list_any test (cond b (x ∷ xs) xs) ≡ (b && test x || list_any test xs)
 kept_any_at test true x xs = refl
 kept_any_at test false x xs = refl
@@ -55,12 +50,8 @@ kept_any test keep (x ∷ xs) = kept_any_at test (keep x) x (filter keep xs) ∙
 any_first : {X : Type 0} (test : X → Bool) (xs ys : List X) → list_any test xs ≡ true → list_any test (xs ++ ys) ≡ true
 any_first test xs ys some = list_any-append test xs ys ∙ ap (λ b. b || list_any test ys) some
 
-or_last : (a b : Bool) → b ≡ true → (a || b) ≡ true
-or_last true b h = refl
-or_last false b h = h
-
 any_last : {X : Type 0} (test : X → Bool) (xs ys : List X) → list_any test ys ≡ true → list_any test (xs ++ ys) ≡ true
-any_last test xs ys some = list_any-append test xs ys ∙ or_last (list_any test xs) (list_any test ys) some
+any_last test xs ys some = list_any-append test xs ys ∙ or_right (list_any test xs) (list_any test ys) some
 
 -- ---- The access of uncovered and of covered methods.
 uncovered_from : (none denied : Bool) (rest : Access) → none ≡ true → is_uncovered (cond none (cond denied UncoveredDenied Uncovered) rest) ≡ true
@@ -126,7 +117,7 @@ module _ (constraints : List Constraint) (rules : Rules) (pattern : List ℕ) wh
       any_of_joined test (λ (row : Row). at row.pattern row.groups) (table_of constraints rules).rows
       ∙ any_first (λ (row : Row). list_any test (at row.pattern row.groups)) (map (row_at constraints rules) (in_row_order (all_patterns constraints))) (cond (match_every_path (all_patterns constraints)) [] (other_paths ∷ []))
       (any_seen (λ (row : Row). list_any test (at row.pattern row.groups)) (row_at constraints rules) (in_row_order (all_patterns constraints))
-      ∙ listed_any (λ p. list_any test (at (Some p) (row_at constraints rules p).groups)) (in_row_order (all_patterns constraints)) pattern (ordered_lists (all_patterns constraints) pattern ∙ there) some)
+      ∙ any_in (λ p. list_any test (at (Some p) (row_at constraints rules p).groups)) (in_row_order (all_patterns constraints)) pattern (ordered_lists (all_patterns constraints) pattern ∙ there) some)
 
 pub uncovered_found : UncoveredIsFound
 uncovered_found constraints rules pattern method other there none some =
