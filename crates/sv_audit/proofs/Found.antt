@@ -16,6 +16,7 @@ use Rattle.sv_mapping.specs.Segments.{is_rooted}
 use Rattle.sv_constraints.specs.Covering.{all_patterns, covering, lists}
 use Rattle.sv_constraints.specs.declared.constraint.Constraint.{Constraint}
 use Rattle.sv_constraints.specs.declared.constraint.Rules.{Rules}
+use Rattle.sv_policy.proofs.Best.{or_right}
 use Rattle.sv_policy.proofs.Rising.{rising_lists, rising_rises, rising_same}
 use Rattle.sv_policy.proofs.Steps.{passing_lists}
 use Rattle.sv_policy.specs.Patterns.{BestIsOfTexts}
@@ -135,7 +136,7 @@ differ_at : (test : List ℕ → Bool) (x text : List ℕ) (same first : Bool) �
 differ_at test x text true first is was fails passes = absurd (false≢true (sym (was ∙ fails) ∙ ap test ((bytes_eq-Decides x text).0 is) ∙ passes))
 differ_at test x text false first is was fails passes = refl
 
-any_of : (test : List ℕ → Bool) (texts : List (List ℕ)) (text : List ℕ) → list_any test texts ≡ false → test text ≡ true → lists texts text ≡ false
+pub any_of : (test : List ℕ → Bool) (texts : List (List ℕ)) (text : List ℕ) → list_any test texts ≡ false → test text ≡ true → lists texts text ≡ false
 any_of test [] text none passes = refl
 any_of test (x ∷ texts) text none passes =
     or_false (bytes_eq x text) (lists texts text) (differ_at test x text (bytes_eq x text) (test x) refl refl ((or_parts (test x) (list_any test texts) none).0) passes)
@@ -145,7 +146,7 @@ slash_matches : (path : List ℕ) → matches (codes "/") path ≡ true
 unfolding form
 slash_matches path = refl
 
-root_matches : (path : List ℕ) → is_rooted path ≡ true → matches (codes "/*") path ≡ true
+pub root_matches : (path : List ℕ) → is_rooted path ≡ true → matches (codes "/*") path ≡ true
 unfolding form
 root_matches path rooted = rooted
 
@@ -157,14 +158,10 @@ no_match best_exists patterns path rooted none =
 or_first : (a b : Bool) → a ≡ true → (a || b) ≡ true
 or_first a b h = ap (λ x. x || b) h
 
-or_second : (a b : Bool) → b ≡ true → (a || b) ≡ true
-or_second true b h = refl
-or_second false b h = h
-
-in_texts : (texts : List (List ℕ)) (text : List ℕ) → Contains texts text → lists texts text ≡ true
+pub in_texts : (texts : List (List ℕ)) (text : List ℕ) → Contains texts text → lists texts text ≡ true
 in_texts [] text there = let no : ⊥ = omega (arith, there.1) in absurd no
 in_texts (x ∷ texts) text (zero, within, is) = or_first (bytes_eq x text) (lists texts text) ((bytes_eq-Decides x text).1 is)
-in_texts (x ∷ texts) text (suc i, within, is) = or_second (bytes_eq x text) (lists texts text) (in_texts texts text (i, omega (arith, within), is))
+in_texts (x ∷ texts) text (suc i, within, is) = or_right (bytes_eq x text) (lists texts text) (in_texts texts text (i, omega (arith, within), is))
 
 -- ---- The cell of a method and a path.
 module _ (best_exists : BestExists) (best_is_a_match : BestIsAMatch) (best_same : BestIsOfTexts) (constraints : List Constraint) (rules : Rules) (method path : List ℕ) (rooted : is_rooted path ≡ true) where

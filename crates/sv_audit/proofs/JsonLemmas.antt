@@ -4,7 +4,10 @@ use Rattle.serde_json.specs.Data.{Data, string}
 use Rattle.serde_json.specs.View.{items_of}
 use Rattle.serde_json.specs.Written.{has_float, items_have_float}
 use Rattle.sv_policy.specs.Covering.{method_names}
-use Rattle.sv_audit.specs.Json.{audit_value, context_value, group_value, number_value, roles_in, row_value, strings, text_value}
+use Rattle.sv_constraints.specs.declared.constraint.Methods.{Methods}
+use Rattle.sv_audit.specs.Json.{audit_value, context_value, dead_value, finding_value, group_value, head_value, number_value, roles_in, row_value, strings, text_value, uncovered_value, unknown_role_value}
+use Rattle.sv_audit.specs.declared.finding.Finding.{Finding}
+use Rattle.sv_audit.specs.declared.finding.Finding.TheVariants.{Uncovered, Dead, UnknownRole, HeadDiffers}
 use Rattle.sv_audit.specs.declared.rows.ContextTable.{ContextTable}
 use Rattle.sv_audit.specs.declared.rows.Group.{Group}
 use Rattle.sv_audit.specs.declared.rows.Row.{Row}
@@ -37,9 +40,32 @@ in_row : (has_login : Bool) (row : Row) → has_float (row_value has_login row) 
 unfolding row_value
 in_row has_login row = ap₂ (λ a b. a || (b || false)) (no_floats (group_value has_login) (in_group has_login) row.groups) (in_text row.pattern)
 
+in_uncovered : (pattern : List ℕ) (methods : Methods) → has_float (uncovered_value pattern methods) ≡ false
+unfolding uncovered_value
+in_uncovered pattern methods = ap (λ a. a || false) (in_strings (method_names methods))
+
+in_dead : (number : ℕ) → has_float (dead_value number) ≡ false
+unfolding dead_value
+in_dead number = refl
+
+in_unknown_role : (number : ℕ) (role : List ℕ) → has_float (unknown_role_value number role) ≡ false
+unfolding unknown_role_value
+in_unknown_role number role = refl
+
+in_head : (pattern : List ℕ) → has_float (head_value pattern) ≡ false
+unfolding head_value
+in_head pattern = refl
+
+in_finding : (finding : Finding) → has_float (finding_value finding) ≡ false
+in_finding (Uncovered pattern methods) = in_uncovered pattern methods
+in_finding (Dead number) = in_dead number
+in_finding (UnknownRole number role) = in_unknown_role number role
+in_finding (HeadDiffers pattern) = in_head pattern
+
 in_context : (context : ContextTable) → has_float (context_value context) ≡ false
 unfolding context_value
-in_context context = ap (λ a. a || false) (no_floats (row_value context.has_login) (in_row context.has_login) context.table.rows)
+in_context context =
+    ap₂ (λ a b. a || (b || false)) (no_floats finding_value in_finding context.findings) (no_floats (row_value context.has_login) (in_row context.has_login) context.table.rows)
 
 pub in_audit : (contexts : List ContextTable) → has_float (audit_value contexts) ≡ false
 unfolding audit_value

@@ -1,8 +1,12 @@
 pub mod Filters
+pub mod Pushed
 pub mod Equal
 pub mod Said
 pub mod RowCells
 pub mod Found
+pub mod Callers
+pub mod FindingLemmas
+pub mod FoundFindings
 pub mod CellLemmas
 pub mod Made
 pub mod JsonLemmas

@@ -1,4 +1,4 @@
--- Access tables as JSON (RFC 8259).
+-- Access tables and their findings as JSON (RFC 8259).
 use Rattle.std.specs.Prelude.{ℕ, Bool, true, false, List, [], ◌∷◌, ◌++◌, codes, map, Option, None, Some, if◌then◌else◌}
 use Rattle.serde_json.specs.Data.{Data, null, boolean, number, string, array, object, unsigned, member, no_members}
 use Rattle.serde_json.specs.View.{items_of}
@@ -9,6 +9,8 @@ use Rattle.sv_policy.specs.Covering.{method_names}
 use Rattle.sv_uri.specs.ContextPath.{shown_context}
 use Rattle.sv_audit.specs.declared.access.Access.{Access}
 use Rattle.sv_audit.specs.declared.access.Access.TheVariants.{Unconstrained, Uncovered, UncoveredDenied, Precluded, NeedsTls, Everyone, AnyLogin, Roles}
+use Rattle.sv_audit.specs.declared.finding.Finding.{Finding}
+use Rattle.sv_audit.specs.declared.finding.Finding.TheVariants as finding
 use Rattle.sv_audit.specs.declared.rows.ContextTable.{ContextTable}
 use Rattle.sv_audit.specs.declared.rows.Group.{Group}
 use Rattle.sv_audit.specs.declared.rows.Row.{Row}
@@ -80,12 +82,43 @@ row_value has_login row = object
     (member (codes "groups") (array (items_of (map (group_value has_login) row.groups)))
     (member (codes "pattern") (text_value row.pattern) no_members))
 
--- The table of a context.
+-- The findings.
+unfoldable pub uncovered_value : List ℕ → Methods → Data
+uncovered_value pattern methods = object
+    (member (codes "kind") (string (codes "uncovered"))
+    (member (codes "methods") (strings (method_names methods))
+    (member (codes "others") (boolean (are_excepted methods))
+    (member (codes "pattern") (string pattern) no_members))))
+
+unfoldable pub dead_value : ℕ → Data
+dead_value its_number = object
+    (member (codes "constraint") (number_value (Some its_number))
+    (member (codes "kind") (string (codes "dead")) no_members))
+
+unfoldable pub unknown_role_value : ℕ → List ℕ → Data
+unknown_role_value its_number role = object
+    (member (codes "constraint") (number_value (Some its_number))
+    (member (codes "kind") (string (codes "unknown-role"))
+    (member (codes "role") (string role) no_members)))
+
+unfoldable pub head_value : List ℕ → Data
+head_value pattern = object
+    (member (codes "kind") (string (codes "head-differs"))
+    (member (codes "pattern") (string pattern) no_members))
+
+abbrev pub finding_value : Finding → Data
+finding_value (finding.Uncovered pattern methods) = uncovered_value pattern methods
+finding_value (finding.Dead its_number) = dead_value its_number
+finding_value (finding.UnknownRole its_number role) = unknown_role_value its_number role
+finding_value (finding.HeadDiffers pattern) = head_value pattern
+
+-- The table of a context, and its findings.
 unfoldable pub context_value : ContextTable → Data
 context_value context = object
     (member (codes "context") (string (shown_context context.path))
+    (member (codes "findings") (array (items_of (map finding_value context.findings)))
     (member (codes "login") (boolean context.has_login)
-    (member (codes "rows") (array (items_of (map (row_value context.has_login) context.table.rows))) no_members)))
+    (member (codes "rows") (array (items_of (map (row_value context.has_login) context.table.rows))) no_members))))
 
 unfoldable pub audit_value : List ContextTable → Data
 audit_value contexts = object (member (codes "contexts") (array (items_of (map context_value contexts))) no_members)

@@ -1,14 +1,10 @@
--- The text of access tables.
-use Rattle.std.specs.Prelude.{ℕ, ◌-◌, Bool, nat_lt, List, [], ◌∷◌, ◌++◌, codes, length, replicate, Option, None, Some, if◌then◌else◌}
-use Rattle.std.specs.Fmt.{decimal}
+-- The text of access tables and their findings.
+use Rattle.std.specs.Prelude.{ℕ, ◌-◌, Bool, nat_lt, List, [], ◌∷◌, ◌++◌, codes, length, replicate, if◌then◌else◌}
 use Rattle.std.specs.List.{flat_map}
-use Rattle.std.specs.Option.{option_map_or}
-use Rattle.sv_constraints.specs.declared.constraint.Methods.{Methods}
-use Rattle.sv_constraints.specs.declared.constraint.Methods.TheVariants.{All, Only, Except}
 use Rattle.sv_uri.specs.ContextPath.{shown_context}
 use Rattle.sv_audit.specs.Escaped.{escaped}
-use Rattle.sv_audit.specs.declared.access.Access.{Access}
-use Rattle.sv_audit.specs.declared.access.Access.TheVariants.{Unconstrained, Uncovered, UncoveredDenied, Precluded, NeedsTls, Everyone, AnyLogin, Roles}
+use Rattle.sv_audit.specs.FindingText.{finding_line}
+use Rattle.sv_audit.specs.Words.{methods_text, number_text, pattern_text, who_text}
 use Rattle.sv_audit.specs.declared.lines.TheConstants.{METHODS_WIDTH, PATTERN_WIDTH, WHO_WIDTH}
 use Rattle.sv_audit.specs.declared.rows.ContextTable.{ContextTable}
 use Rattle.sv_audit.specs.declared.rows.Group.{Group}
@@ -24,43 +20,6 @@ padded width text = text ++ replicate (gap_after width text) 32
 -- A line of four columns.
 unfoldable pub line_text : List ℕ → List ℕ → List ℕ → List ℕ → List ℕ
 line_text pattern methods who constraint = padded PATTERN_WIDTH pattern ++ padded METHODS_WIDTH methods ++ padded WHO_WIDTH who ++ constraint ++ codes "\n"
-
--- Names, separated by commas.
-abbrev pub others_text : List (List ℕ) → List ℕ
-others_text names = flat_map (λ name. codes ", " ++ escaped name) names
-
-abbrev pub names_text : List (List ℕ) → List ℕ
-names_text [] = []
-names_text (name ∷ names) = escaped name ++ others_text names
-
-abbrev pub pattern_text : Option (List ℕ) → List ℕ
-pattern_text None = codes "other paths"
-pattern_text (Some []) = codes "\"\""
-pattern_text (Some (first ∷ rest)) = escaped (first ∷ rest)
-
-abbrev pub methods_text : Methods → List ℕ
-methods_text All = codes "all"
-methods_text (Only names) = names_text names
-methods_text (Except []) = codes "all"
-methods_text (Except (name ∷ names)) = codes "others"
-
--- Callers who log in, if the context has a login configuration.
-abbrev pub logged_in : Bool → List ℕ → List ℕ
-logged_in has_login text = if has_login then text else codes "nobody (no login)"
-
-abbrev pub who_text : Bool → Access → List ℕ
-who_text has_login Unconstrained = codes "everyone (no constraint)"
-who_text has_login Uncovered = codes "everyone (uncovered)"
-who_text has_login UncoveredDenied = codes "nobody (uncovered, denied)"
-who_text has_login Precluded = codes "nobody (no role is allowed)"
-who_text has_login NeedsTls = codes "needs TLS"
-who_text has_login Everyone = codes "everyone"
-who_text has_login AnyLogin = logged_in has_login (codes "any login")
-who_text has_login (Roles []) = codes "nobody (no such role)"
-who_text has_login (Roles (name ∷ names)) = logged_in has_login (codes "role " ++ names_text (name ∷ names))
-
-abbrev pub number_text : Option ℕ → List ℕ
-number_text number = option_map_or decimal number (codes "-")
 
 -- The line of a group, with the text of its pattern.
 abbrev pub group_line : Bool → List ℕ → Group → List ℕ
@@ -90,6 +49,7 @@ abbrev pub context_text : ContextTable → List ℕ
 context_text context =
     codes "context " ++ escaped (shown_context context.path) ++ codes "\n" ++ title_line
     ++ flat_map (row_lines context.has_login) context.table.rows ++ hidden_line ++ login_line context.has_login
+    ++ flat_map finding_line context.findings
 
 -- The lines of contexts, with an empty line between two.
 abbrev pub audit_text : List ContextTable → List ℕ

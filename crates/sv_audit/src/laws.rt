@@ -1,5 +1,6 @@
 //! Theorems about access tables, each the contract of a function that only calls other theorems.
 
+ghost use Rattle.sv_audit.specs.FindingLaws.{FindingsAreRight, HeadIsFound, UncoveredIsFound};
 ghost use Rattle.sv_audit.specs.Reading.{NumbersAreRight, ServedPathsAreRooted, TablesAreRight};
 ghost use Rattle.sv_audit.specs.Secure.{OnlyTransportChanges};
 
@@ -16,6 +17,23 @@ pub fn tables_are_right()
     best_exists();
     best_is_a_match();
     best_is_of_texts();
+}
+
+/// Each finding of constraints and their table is right. The methods of an uncovered finding pass at each path of its
+/// pattern, since they are uncovered. A dead constraint covers no request. An unknown role is named and not declared. Where GET and HEAD
+/// differ, there is a caller, or a request without one, that passes with one of them and not with the other, or is asked
+/// to log in only for one.
+pub fn findings_are_right()
+    ensures { FindingsAreRight }
+{}
+
+/// Unless uncovered methods are denied, none is missed at a pattern of the constraints at which another method is
+/// covered. No difference between GET and HEAD is missed.
+pub fn findings_are_complete()
+    ensures uncovered { UncoveredIsFound }
+    ensures heads { HeadIsFound }
+{
+    best_is_a_match();
 }
 
 /// Dropping the transport requirements changes only decisions about the transport, and no decision is about it

@@ -1,17 +1,22 @@
 //! Access tables: which methods the security constraints of a context open to whom, by URL pattern (Jakarta Servlet
-//! 6.0, section 13.8). A table says of every path, method and caller what the constraints decide.
+//! 6.0, section 13.8). A table says of every path, method and caller what the constraints decide. Its findings say what
+//! was probably left open by mistake, or has no effect.
 #![tactic(auto)]
 
 mod access;
 mod cells;
 mod coverage;
 mod escaped;
+mod finding;
+mod finding_lines;
+mod findings;
 mod groups;
 mod laws;
 mod lines;
 mod patterns;
 mod roles;
 mod rows;
+mod same_callers;
 mod secure;
 mod sorted;
 mod tables;
@@ -19,7 +24,12 @@ mod values;
 mod words;
 
 pub use access::{Access, Cell};
-pub use laws::{only_transport_changes, served_paths_are_rooted, tables_are_right};
+pub use finding::Finding;
+pub use findings::findings_of;
+pub use laws::{
+    findings_are_complete, findings_are_right, only_transport_changes, served_paths_are_rooted,
+    tables_are_right,
+};
 pub use lines::{METHODS_WIDTH, PATTERN_WIDTH, WHO_WIDTH, audit_text};
 pub use rows::{ContextTable, Group, Row, Table};
 pub use secure::without_transport;

@@ -6,6 +6,7 @@ ghost use Rattle.sv_text.specs.Gives.{GivesAnswer};
 ghost use Rattle.sv_audit.specs.Text as spec;
 
 use crate::escaped::escaped;
+use crate::finding_lines::push_findings;
 use crate::rows::{ContextTable, Group, Row};
 use crate::words::{methods_text, number_text, pattern_text, who_text};
 use std::alloc::Global;
@@ -30,8 +31,8 @@ struct Columns<'a> {
     constraint: &'a str,
 }
 
-/// Returns the text of the access tables of contexts: a line for each group of methods, and lines for the folders that
-/// are never served and for the login post. Control characters are escaped.
+/// Returns the text of the access tables of contexts: a line for each group of methods, lines for the folders that are
+/// never served and for the login post, and a line for each finding. Control characters are escaped.
 ///
 /// # Errors
 /// `NoMemory` if memory runs out.
@@ -97,7 +98,8 @@ fn push_context(text: &mut String, alloc: Global, context: &ContextTable) -> Res
         context.table.rows.as_slice(),
     )?;
     push_hidden(text)?;
-    push_login(text, context.has_login)
+    push_login(text, context.has_login)?;
+    push_findings(text, alloc, context.findings.as_slice())
 }
 
 fn push_title(text: &mut String) -> Result<(), NoMemory>

@@ -1,7 +1,10 @@
 //! The patterns of constraints.
 
 ghost use Rattle.std.specs.Prelude.{◌≡◌, ◌++◌, IfOk, OnOk, map};
+ghost use Rattle.std.specs.List.{list_any};
+ghost use Rattle.std.specs.Str.{bytes_eq};
 ghost use Rattle.sv_constraints.specs.Covering.{all_patterns, patterns_in};
+ghost use Rattle.sv_mapping.specs.Pattern.{is_extension_pattern};
 
 use std::alloc::Global;
 use sv_constraints::Constraint;
@@ -39,4 +42,18 @@ fn push_patterns<'a>(texts: &mut Vec<&'a str>, patterns: &'a [Pattern]) -> Resul
         texts.push(pattern.text())?;
     }
     Ok(())
+}
+
+/// Returns whether the text is among the texts.
+pub fn is_among(patterns: &[&str], text: &str) -> bool
+    ensures { result ≡ list_any (λ pattern. bytes_eq pattern.now text.now) patterns.now }
+{
+    patterns.iter().any(|pattern| *pattern == text)
+}
+
+/// Returns whether the text is an extension pattern (Jakarta Servlet 6.0, section 12.2).
+pub fn is_extension_pattern(text: &str) -> bool
+    ensures { result ≡ is_extension_pattern text.now }
+{
+    text.starts_with("*.") && !text.as_bytes().contains(&b'/')
 }

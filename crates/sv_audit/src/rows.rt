@@ -1,6 +1,7 @@
 //! The parts of an access table.
 
 use crate::access::Cell;
+use crate::finding::Finding;
 use sv_constraints::Methods;
 use sv_text::{Listed, Text};
 
@@ -31,7 +32,7 @@ pub struct Table {
     pub rows: Listed<Row>,
 }
 
-/// The access table of a context.
+/// The access table of a context, and its findings.
 #[derive(Drop)]
 pub struct ContextTable {
     /// The path of the context, which is empty for the root context.
@@ -40,6 +41,8 @@ pub struct ContextTable {
     pub has_login: bool,
     /// The table.
     pub table: Table,
+    /// The findings of the constraints and the table.
+    pub findings: Listed<Finding>,
 }
 
 /// A method that constraints name at a pattern.

@@ -1,8 +1,6 @@
 //! The access table of constraints.
 
 ghost use Rattle.std.specs.Prelude.{◌≡◌, ◌++◌, ◌∷◌, [], IfOk, List, OnOk, filter, if◌then◌else◌, map, not};
-ghost use Rattle.std.specs.List.{list_any};
-ghost use Rattle.std.specs.Str.{bytes_eq};
 ghost use Rattle.sv_constraints.specs.Covering.{all_patterns};
 ghost use Rattle.sv_constraints.specs.declared.constraint.Constraint.{Constraint};
 ghost use Rattle.sv_mapping.specs.Pattern.{is_extension_pattern};
@@ -12,7 +10,7 @@ ghost use Rattle.sv_audit.specs.Rows.{in_row_order, match_every_path, other_path
 
 use crate::access::{Access, Cell};
 use crate::groups::row_at;
-use crate::patterns::all_patterns;
+use crate::patterns::{all_patterns, is_among, is_extension_pattern};
 use crate::rows::{Group, Row, Table};
 use crate::sorted::sorted;
 use std::alloc::Global;
@@ -76,24 +74,11 @@ fn push_extension_patterns<'a>(
     Ok(())
 }
 
-/// Returns whether the text is an extension pattern (Jakarta Servlet 6.0, section 12.2).
-fn is_extension_pattern(text: &str) -> bool
-    ensures { result ≡ is_extension_pattern text.now }
-{
-    text.starts_with("*.") && !text.as_bytes().contains(&b'/')
-}
-
 /// Returns whether each path matches one of the patterns.
 fn match_every_path(patterns: &[&str]) -> bool
     ensures { result ≡ match_every_path (map (λ pattern. pattern.now) patterns.now) }
 {
     is_among(patterns, "/") || is_among(patterns, "/*")
-}
-
-fn is_among(patterns: &[&str], text: &str) -> bool
-    ensures { result ≡ list_any (λ pattern. bytes_eq pattern.now text.now) patterns.now }
-{
-    patterns.iter().any(|pattern| *pattern == text)
 }
 
 /// Returns the rows of the patterns, in order.

@@ -1,4 +1,4 @@
-//! Access tables as JSON.
+//! Access tables and their findings as JSON.
 
 ghost use Rattle.std.specs.Prelude.{◌≡◌, ◌==◌, IfOk, OnOk, if◌then◌else◌, length, map};
 ghost use Rattle.serde_json.specs.Data.{array, boolean, put as with_member, string};
@@ -8,6 +8,7 @@ ghost use Rattle.sv_text.specs.Gives.{GivesAnswer};
 ghost use Rattle.sv_audit.specs.Json as spec;
 
 use crate::access::Access;
+use crate::finding::Finding;
 use crate::rows::{ContextTable, Group, Row};
 use serde_json::{Map, Value, json, put};
 use std::alloc::Global;
@@ -15,7 +16,7 @@ use sv_constraints::Methods;
 use sv_text::{NoMemory, Text};
 use sv_uri::shown_context;
 
-/// Returns the access tables of contexts as one line of JSON (RFC 8259). The members of objects are in byte order of
+/// Returns the access tables and the findings of contexts as one line of JSON (RFC 8259). The members of objects are in byte order of
 /// their names.
 ///
 /// # Errors
@@ -49,10 +50,79 @@ fn context_values(alloc: Global, contexts: &[ContextTable]) -> Result<Value, NoM
 fn context_value(alloc: Global, context: &ContextTable) -> Result<Value, NoMemory>
     ensures { IfOk result (λ value. view value ≡ spec.context_value context.now) }
 {
+    let findings = finding_values(alloc, context.findings.as_slice())?;
     let rows = row_values(alloc, context.has_login, context.table.rows.as_slice())?;
-    let path = shown_context(context.path.as_str());
-    let has_login = context.has_login;
-    Ok(json!(in alloc; {"context": path, "login": has_login, "rows": rows})?)
+    let mut members = Map::new(alloc);
+    put_text(
+        &mut members,
+        alloc,
+        "context",
+        shown_context(context.path.as_str()),
+    )?;
+    put_value(&mut members, alloc, "findings", findings)?;
+    put_truth(&mut members, alloc, "login", context.has_login)?;
+    put_value(&mut members, alloc, "rows", rows)?;
+    Ok(Value::Object(members))
+}
+
+fn finding_values(alloc: Global, findings: &[Finding]) -> Result<Value, NoMemory>
+    ensures { IfOk result (λ value. view value ≡ array (items_of (map spec.finding_value findings.now))) }
+{
+    let mut values = Vec::with_capacity(alloc, findings.len())?;
+    for finding in findings {
+        values.push(finding_value(alloc, finding)?)?;
+    }
+    Ok(Value::Array(values))
+}
+
+fn finding_value(alloc: Global, finding: &Finding) -> Result<Value, NoMemory>
+    ensures { IfOk result (λ value. view value ≡ spec.finding_value finding.now) }
+{
+    match finding {
+        Finding::Uncovered(pattern, methods) => uncovered_value(alloc, pattern.as_str(), methods),
+        Finding::Dead(number) => dead_value(alloc, *number),
+        Finding::UnknownRole(number, role) => unknown_role_value(alloc, *number, role.as_str()),
+        Finding::HeadDiffers(pattern) => head_value(alloc, pattern.as_str()),
+    }
+}
+
+fn uncovered_value(alloc: Global, pattern: &str, methods: &Methods) -> Result<Value, NoMemory>
+    ensures { IfOk result (λ value. view value ≡ spec.uncovered_value pattern.now methods.now) }
+{
+    let mut members = Map::new(alloc);
+    put_text(&mut members, alloc, "kind", "uncovered")?;
+    put_texts(&mut members, alloc, "methods", names_in(methods))?;
+    put_truth(&mut members, alloc, "others", are_excepted(methods))?;
+    put_text(&mut members, alloc, "pattern", pattern)?;
+    Ok(Value::Object(members))
+}
+
+fn dead_value(alloc: Global, number: u64) -> Result<Value, NoMemory>
+    ensures { IfOk result (λ value. view value ≡ spec.dead_value number) }
+{
+    let mut members = Map::new(alloc);
+    put_number(&mut members, alloc, "constraint", Some(number))?;
+    put_text(&mut members, alloc, "kind", "dead")?;
+    Ok(Value::Object(members))
+}
+
+fn unknown_role_value(alloc: Global, number: u64, role: &str) -> Result<Value, NoMemory>
+    ensures { IfOk result (λ value. view value ≡ spec.unknown_role_value number role.now) }
+{
+    let mut members = Map::new(alloc);
+    put_number(&mut members, alloc, "constraint", Some(number))?;
+    put_text(&mut members, alloc, "kind", "unknown-role")?;
+    put_text(&mut members, alloc, "role", role)?;
+    Ok(Value::Object(members))
+}
+
+fn head_value(alloc: Global, pattern: &str) -> Result<Value, NoMemory>
+    ensures { IfOk result (λ value. view value ≡ spec.head_value pattern.now) }
+{
+    let mut members = Map::new(alloc);
+    put_text(&mut members, alloc, "kind", "head-differs")?;
+    put_text(&mut members, alloc, "pattern", pattern)?;
+    Ok(Value::Object(members))
 }
 
 fn row_values(alloc: Global, has_login: bool, rows: &[Row]) -> Result<Value, NoMemory>
@@ -106,6 +176,17 @@ fn put_text(
     ensures { OnOk result (members_view members.new.entries ≡ with_member name.now (string text.now) (members_view members.old.entries)) }
 {
     let value = Value::try_from_str(alloc, text)?;
+    Ok(put(members, alloc, name, value)?)
+}
+
+fn put_value(
+    members: &mut Map<String, Value>,
+    alloc: Global,
+    name: &str,
+    value: Value,
+) -> Result<(), NoMemory>
+    ensures { OnOk result (members_view members.new.entries ≡ with_member name.now (view value) (members_view members.old.entries)) }
+{
     Ok(put(members, alloc, name, value)?)
 }
 

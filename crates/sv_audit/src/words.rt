@@ -3,7 +3,7 @@
 ghost use Rattle.std.specs.Prelude.{◌≡◌, ◌++◌, OnOk, codes, string_bytes};
 ghost use Rattle.sv_text.specs.Gives.{GivesAnswer};
 ghost use Rattle.sv_audit.specs.Escaped as escapes;
-ghost use Rattle.sv_audit.specs.Text as spec;
+ghost use Rattle.sv_audit.specs.Words as spec;
 
 use crate::access::Access;
 use crate::escaped::escaped;
@@ -21,7 +21,8 @@ pub fn pattern_text(alloc: Global, pattern: &Option<Text>) -> Result<Text, NoMem
     }
 }
 
-fn shown_pattern(alloc: Global, pattern: &str) -> Result<Text, NoMemory>
+/// Returns the text of a pattern.
+pub fn shown_pattern(alloc: Global, pattern: &str) -> Result<Text, NoMemory>
     ensures { GivesAnswer result (spec.pattern_text (Some pattern.now)) }
 {
     if pattern.is_empty() {

@@ -12,7 +12,7 @@ use Rattle.sv_mapping.specs.Pattern.{matches}
 use Rattle.sv_constraints.specs.Covering.{lists}
 use Rattle.sv_policy.specs.Patterns.{BestIsOfTexts}
 
-or_right : (a b : Bool) → b ≡ true → (a || b) ≡ true
+pub or_right : (a b : Bool) → b ≡ true → (a || b) ≡ true
 or_right true b h = refl
 or_right false b h = h
 
@@ -22,7 +22,7 @@ module _ (test : List ℕ → Bool) where
   any_at y x xs false at there passes below = or_right (test y) (list_any test xs) (below there)
 
   -- One of the listed texts passes.
-  any_in : (xs : List (List ℕ)) (x : List ℕ) → lists xs x ≡ true → test x ≡ true → list_any test xs ≡ true
+  pub any_in : (xs : List (List ℕ)) (x : List ℕ) → lists xs x ≡ true → test x ≡ true → list_any test xs ≡ true
   any_in [] x there passes = absurd (false≢true there)
   any_in (y ∷ xs) x there passes = any_at y x xs (bytes_eq y x) refl there passes (λ below. any_in xs x below passes)
 
@@ -57,7 +57,8 @@ module _ (test : List ℕ → Bool) where
       unwrap (Some z) = z
   found_at y x xs false is found below = ((below found).0, or_right (bytes_eq y x) (lists xs x) (below found).1)
 
-  found_in : (xs : List (List ℕ)) (x : List ℕ) → find test xs ≡ Some x → (test x ≡ true) × (lists xs x ≡ true)
+  -- The first text that passes passes, and is one of the texts.
+  pub found_in : (xs : List (List ℕ)) (x : List ℕ) → find test xs ≡ Some x → (test x ≡ true) × (lists xs x ≡ true)
   found_in [] x found = absurd (false≢true (ap is_some found))
   found_in (y ∷ xs) x found = found_at y x xs (test y) refl found (found_in xs x)
 

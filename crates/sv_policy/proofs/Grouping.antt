@@ -19,7 +19,7 @@ use Rattle.sv_policy.specs.declared.table.Table.{Table}
 use Rattle.sv_policy.specs.Patterns.{different, kept_once, listed_in, lists_pattern}
 use Rattle.sv_policy.proofs.Steps.{filter_pass, filter_stop, passing_lists, seen_more}
 
-turned : (a b : List ℕ) → bytes_eq a b ≡ bytes_eq b a
+pub turned : (a b : List ℕ) → bytes_eq a b ≡ bytes_eq b a
 turned a b = same_from_decides (bytes_eq a b) (bytes_eq b a) (bytes_eq-Decides a b) ((λ h. sym ((bytes_eq-Decides b a).0 h)), (λ e. (bytes_eq-Decides b a).1 (sym e)))
 
 -- ---- Each text once.
@@ -71,7 +71,7 @@ seen_pushed new old false x is = ap (map (λ (m : Bor Constraint). m.now)) is �
 absorbed : (a : Bool) → a ≡ true → (a || true) ≡ a
 absorbed a is = ap (λ b. b || true) is ∙ sym is
 
-or_none : (a : Bool) → (a || false) ≡ a
+pub or_none : (a : Bool) → (a || false) ≡ a
 or_none true = refl
 or_none false = refl
 

@@ -9,8 +9,8 @@ ghost use Rattle.sv_program.specs.Configuration.{each};
 use crate::command_fault::CommandFault;
 use crate::configuration::{ContextTexts, descriptor_in};
 use std::alloc::Global;
-use sv_audit::{ContextTable, audit_json, audit_text, table_of, without_transport};
-use sv_constraints::Constraint;
+use sv_audit::{ContextTable, audit_json, audit_text, findings_of, table_of, without_transport};
+use sv_constraints::{Constraint, Rules};
 use sv_text::{Listed, NoMemory, Text};
 
 /// The form of a report.
@@ -31,7 +31,7 @@ pub struct AccessOptions {
     pub is_secure: bool,
 }
 
-/// Returns the access tables of contexts whose descriptors have these texts.
+/// Returns the access tables and the findings of contexts whose descriptors have these texts.
 ///
 /// # Errors
 /// The first fault of the descriptors, in order: [`CommandFault::File`] or [`CommandFault::Descriptor`]. Or
@@ -47,7 +47,7 @@ pub fn access_text(
     Ok(written(alloc, tables.as_slice(), options.format)?)
 }
 
-/// Returns the access tables of contexts, in order.
+/// Returns the access tables of contexts, in order, with their findings.
 fn tables_of(
     alloc: Global,
     texts: &[ContextTexts],
@@ -63,7 +63,7 @@ fn tables_of(
     Ok(Listed::from_vec(tables))
 }
 
-/// Returns the access table of a context.
+/// Returns the access table of a context, with its findings.
 fn context_table(
     alloc: Global,
     texts: &ContextTexts,
@@ -74,11 +74,33 @@ fn context_table(
     let web_app = descriptor_in(alloc, texts)?.into_web_app();
     let has_login = web_app.login.is_some();
     let constraints = asked_constraints(alloc, web_app.constraints, is_secure)?;
-    let table = table_of(alloc, constraints.as_slice(), &web_app.rules)?;
+    let path = texts.context.path.as_str();
+    Ok(audited(
+        alloc,
+        path,
+        has_login,
+        constraints.as_slice(),
+        &web_app.rules,
+    )?)
+}
+
+/// Returns the access table of constraints of the context at this path, with their findings.
+fn audited(
+    alloc: Global,
+    path: &str,
+    has_login: bool,
+    constraints: &[Constraint],
+    rules: &Rules,
+) -> Result<ContextTable, NoMemory>
+    ensures { GivesAnswer result (spec.audited path.now has_login constraints.now rules.now) }
+{
+    let table = table_of(alloc, constraints, rules)?;
+    let findings = findings_of(alloc, constraints, rules, &table)?;
     Ok(ContextTable {
-        path: Text::copy_of(alloc, texts.context.path.as_str())?,
+        path: Text::copy_of(alloc, path)?,
         has_login,
         table,
+        findings,
     })
 }
 

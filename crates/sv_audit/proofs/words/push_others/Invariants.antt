@@ -1,6 +1,6 @@
 use Rattle.std.proofs.Common.{◌≡◌, ◌++◌, take}
 use Rattle.std.specs.String.{string_bytes}
-use Rattle.sv_audit.specs.Text.{others_text}
+use Rattle.sv_audit.specs.Words.{others_text}
 use Rattle.sv_audit.proofs.words.push_others.Given as goal
 
 abbrev pub invariant-loop-other : goal.invariant-loop-other

@@ -1,0 +1,8 @@
+use Rattle.sv_audit.proofs.FoundFindings.{head_found, uncovered_found}
+use Rattle.sv_audit.proofs.laws.findings_are_complete.Goals as goal
+
+pub returns-clause-uncovered : goal.returns-clause-uncovered
+returns-clause-uncovered c = uncovered_found
+
+pub returns-clause-heads : goal.returns-clause-heads
+returns-clause-heads c = head_found c.best_is_a_match.ensures

@@ -1,0 +1,103 @@
+-- What constraints leave open by mistake, or state without effect (Jakarta Servlet 6.0, sections 12.1 and 13.8).
+use Rattle.std.specs.Prelude.{ℕ, Bool, true, false, not, ◌&&◌, ◌||◌, List, [], ◌∷◌, ◌++◌, codes, filter, map, Option, None, Some, if◌then◌else◌}
+use Rattle.std.specs.List.{flat_map, list_all, list_any}
+use Rattle.std.specs.Str.{bytes_eq}
+use Rattle.sv_mapping.specs.Pattern.{is_extension_pattern}
+use Rattle.sv_constraints.specs.Covering.{all_patterns, covers_method, lists}
+use Rattle.sv_constraints.specs.declared.constraint.Auth.{Auth}
+use Rattle.sv_constraints.specs.declared.constraint.Auth.TheVariants as auth
+use Rattle.sv_constraints.specs.declared.constraint.Constraint.{Constraint}
+use Rattle.sv_constraints.specs.declared.constraint.Rules.{Rules}
+use Rattle.sv_audit.specs.declared.access.Access.{Access}
+use Rattle.sv_audit.specs.declared.access.Access.TheVariants.{Unconstrained, Uncovered, UncoveredDenied, Precluded, NeedsTls, Everyone, AnyLogin, Roles}
+use Rattle.sv_audit.specs.declared.finding.Finding.{Finding}
+use Rattle.sv_audit.specs.declared.finding.Finding.TheVariants as finding
+use Rattle.sv_audit.specs.declared.rows.Group.{Group}
+use Rattle.sv_audit.specs.declared.rows.Table.{Table}
+
+-- Whether everyone may use the methods since no constraint covers them (section 13.8.4).
+abbrev pub is_left_open : Access → Bool
+is_left_open Uncovered = true
+is_left_open access = false
+
+abbrev pub is_left_out : Group → Bool
+is_left_out group = is_left_open group.cell.access
+
+-- The methods that are left open at a pattern at which other methods are covered.
+abbrev pub uncovered_at : Option (List ℕ) → List Group → List Finding
+uncovered_at None groups = []
+uncovered_at (Some pattern) groups =
+    if list_all is_left_out groups then [] else map (λ group. finding.Uncovered pattern group.methods) (filter is_left_out groups)
+
+-- Whether `/*` takes each path from the pattern: it matches every path of a context, and is chosen before `/` and
+-- before extension patterns (section 12.1).
+abbrev pub is_beaten : Bool → List ℕ → Bool
+is_beaten has_prefix pattern = has_prefix && (bytes_eq pattern (codes "/") || is_extension_pattern pattern)
+
+-- Whether each pattern of the constraint is beaten, so that the constraint covers no request.
+abbrev pub is_dead : Bool → Constraint → Bool
+is_dead has_prefix constraint = list_all (λ collection. list_all (is_beaten has_prefix) collection.patterns) constraint.collections
+
+abbrev pub dead_among : Bool → List Constraint → List Finding
+dead_among has_prefix constraints = map (λ constraint. finding.Dead constraint.number) (filter (is_dead has_prefix) constraints)
+
+-- Whether the name is a role that is not declared. `*` and `**` are no roles (section 13.8.1).
+abbrev pub is_unknown : List (List ℕ) → List ℕ → Bool
+is_unknown declared name = not (bytes_eq name (codes "*") || bytes_eq name (codes "**") || lists declared name)
+
+abbrev pub unknown_roles : List (List ℕ) → ℕ → Auth → List Finding
+unknown_roles declared number auth.Absent = []
+unknown_roles declared number (auth.Roles names) = map (finding.UnknownRole number) (filter (is_unknown declared) names)
+
+-- Whether everyone passes, without a caller.
+abbrev pub is_open : Access → Bool
+is_open Unconstrained = true
+is_open Uncovered = true
+is_open Everyone = true
+is_open access = false
+
+-- Whether nobody passes.
+abbrev pub is_closed : Access → Bool
+is_closed UncoveredDenied = true
+is_closed Precluded = true
+is_closed NeedsTls = true
+is_closed access = false
+
+-- Whether both lists have the same roles.
+abbrev pub same_roles : List (List ℕ) → List (List ℕ) → Bool
+same_roles names others = list_all (lists others) names && list_all (lists names) others
+
+-- Whether both need a login, of the same callers.
+abbrev pub same_logins : Access → Access → Bool
+same_logins AnyLogin AnyLogin = true
+same_logins (Roles names) (Roles others) = same_roles names others
+same_logins access other = false
+
+-- Whether the same callers pass.
+abbrev pub same_callers : Access → Access → Bool
+same_callers access other = is_open access && is_open other || is_closed access && is_closed other || same_logins access other
+
+-- Whether the method is in the group.
+abbrev pub has_method : List ℕ → Group → Bool
+has_method method group = covers_method group.methods method
+
+-- Whether HEAD is in a group of other callers than this group of GET.
+abbrev pub head_strays : List Group → Group → Bool
+head_strays groups get = list_any (λ head. has_method (codes "HEAD") head && not (same_callers get.cell.access head.cell.access)) groups
+
+abbrev pub head_differs : List Group → Bool
+head_differs groups = list_any (λ get. has_method (codes "GET") get && head_strays groups get) groups
+
+-- GET and HEAD at a pattern are open to different callers.
+abbrev pub head_at : Option (List ℕ) → List Group → List Finding
+head_at None groups = []
+head_at (Some pattern) groups = if head_differs groups then finding.HeadDiffers pattern ∷ [] else []
+
+-- The findings of constraints and their table: uncovered methods, dead constraints, roles that are not declared, and
+-- differences between GET and HEAD.
+abbrev pub findings_of : List Constraint → Rules → Table → List Finding
+findings_of constraints rules table =
+    flat_map (λ row. uncovered_at row.pattern row.groups) table.rows
+    ++ dead_among (lists (all_patterns constraints) (codes "/*")) constraints
+    ++ flat_map (λ constraint. unknown_roles rules.declared constraint.number constraint.auth) constraints
+    ++ flat_map (λ row. head_at row.pattern row.groups) table.rows

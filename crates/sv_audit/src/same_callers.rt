@@ -1,0 +1,100 @@
+//! Whether GET and HEAD are open to the same callers.
+
+ghost use Rattle.std.specs.Prelude.{◌≡◌, codes};
+ghost use Rattle.std.specs.List.{list_all};
+ghost use Rattle.sv_constraints.specs.Covering.{covers_method};
+ghost use Rattle.sv_constraints.specs.Covering as covering;
+ghost use Rattle.sv_audit.specs.Findings as spec;
+
+use crate::access::Access;
+use crate::rows::Group;
+use sv_constraints::{Methods, lists};
+use sv_text::Text;
+
+/// Returns whether GET and HEAD are open to different callers.
+pub fn head_differs(groups: &[Group]) -> bool
+    ensures { result ≡ spec.head_differs groups.now }
+{
+    groups
+        .iter()
+        .any(|get| is_method_of("GET", get) && head_strays(groups, get))
+}
+
+/// Returns whether HEAD is in a group of other callers than this group of GET.
+fn head_strays(groups: &[Group], get: &Group) -> bool
+    ensures { result ≡ spec.head_strays groups.now get.now }
+{
+    groups.iter().any(|head| is_method_of("HEAD", head)
+        && !same_callers(&get.cell.access, &head.cell.access))
+}
+
+fn is_method_of(method: &str, group: &Group) -> bool
+    ensures { result ≡ spec.has_method method.now group.now }
+{
+    covers_method(&group.methods, method)
+}
+
+fn covers_method(methods: &Methods, method: &str) -> bool
+    ensures { result ≡ covers_method methods.now method.now }
+{
+    match methods {
+        Methods::All => true,
+        Methods::Only(names) => lists(names.as_slice(), method),
+        Methods::Except(names) => !lists(names.as_slice(), method),
+    }
+}
+
+/// Returns whether the same callers pass.
+fn same_callers(access: &Access, other: &Access) -> bool
+    ensures { result ≡ spec.same_callers access.now other.now }
+{
+    is_open(access) && is_open(other)
+        || is_closed(access) && is_closed(other)
+        || same_logins(access, other)
+}
+
+/// Returns whether everyone passes, without a caller.
+fn is_open(access: &Access) -> bool
+    ensures { result ≡ spec.is_open access.now }
+{
+    matches!(
+        access,
+        Access::Unconstrained | Access::Uncovered | Access::Everyone
+    )
+}
+
+/// Returns whether nobody passes.
+fn is_closed(access: &Access) -> bool
+    ensures { result ≡ spec.is_closed access.now }
+{
+    matches!(
+        access,
+        Access::UncoveredDenied | Access::Precluded | Access::NeedsTls
+    )
+}
+
+/// Returns whether both need a login, of the same callers.
+fn same_logins(access: &Access, other: &Access) -> bool
+    ensures { result ≡ spec.same_logins access.now other.now }
+{
+    match (access, other) {
+        (Access::AnyLogin, Access::AnyLogin) => true,
+        (Access::Roles(names), Access::Roles(others)) => {
+            same_roles(names.as_slice(), others.as_slice())
+        }
+        _ => false,
+    }
+}
+
+fn same_roles(names: &[Text], others: &[Text]) -> bool
+    ensures { result ≡ spec.same_roles names.now others.now }
+{
+    are_among(others, names) && are_among(names, others)
+}
+
+/// Returns whether each of the texts is among the others.
+fn are_among(others: &[Text], texts: &[Text]) -> bool
+    ensures { result ≡ list_all (covering.lists others.now) texts.now }
+{
+    texts.iter().all(|text| lists(others, text.as_str()))
+}
