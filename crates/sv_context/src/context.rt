@@ -29,7 +29,7 @@ impl<S, F, L> Model for Context<S, F, L> {
 
     ghost Value = { ContextState S F L };
 
-    ghost view = { λ context. context_of context.responder.site context.policy context.users context.responder.live context.sessions };
+    ghost view = { λ context. context_of context.responder.site context.policy context.users context.responder.live context.sessions.store };
 
     ghost invariant = { λ context. AreComponentsOf context.responder.site context.responder.live };
 }

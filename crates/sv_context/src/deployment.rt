@@ -149,7 +149,7 @@ fn without_tables<S: Servlet, F: Filter, L: Listener>(
 
 // Returns an empty session store for a context of the descriptor.
 pub(crate) fn no_sessions(alloc: Global, descriptor: &Descriptor) -> Sessions
-    ensures { result ≡ no_sessions descriptor.now }
+    ensures { result ≡ record { store = no_sessions descriptor.now; judged = 0 } }
 {
     let app = descriptor.web_app();
     let limit = app.version.max_sessions();

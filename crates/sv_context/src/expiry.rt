@@ -42,7 +42,7 @@ fn end_expired<S: Servlet, F: Filter, L: Listener>(
 )
     ensures expires { (content : Content) (policy : Standing) (users : List User) → AreComponentsOf content live.old
         → Expires (steps_of S.servlet_step F.filter_step L.listener_step) moment
-        (context_of content policy users live.old sessions.old) journal.old (context_of content policy users live.new sessions.new) journal.new }
+        (context_of content policy users live.old sessions.old.store) journal.old (context_of content policy users live.new sessions.new.store) journal.new }
     ensures components { (content : Content) → AreComponentsOf content live.old → AreComponentsOf content live.new }
 {
     while let Some(session) = sessions.expire(moment) {

@@ -66,10 +66,10 @@ impl<S: Servlet, F: Filter, L: Listener> Responder<S, F, L> {
         requires whole { journal.old.whole ≡ true }
         ensures handles { (policy : Standing) (users : List User) (store : Store)
             → admission ≡ admitted (context_of self.old.site policy users self.old.live store) (asked_in request.entry)
-            → sessions.old ≡ (settled_in self.old.site policy users (asked_in request.entry) store).store
+            → sessions.old.store ≡ (settled_in self.old.site policy users (asked_in request.entry) store).store
             → HandlesMessage (steps_of S.servlet_step F.filter_step L.listener_step) (asked_in request.entry)
             (context_of self.old.site policy users self.old.live store) journal.old (seen result)
-            (context_of self.old.site policy users self.new.live sessions.new) journal.new }
+            (context_of self.old.site policy users self.new.live sessions.new.store) journal.new }
         ensures components { AreComponentsOf self.old.site self.new.live }
         ensures status { IfOk result (λ response. IsStatusCode response.status) }
         ensures site { self.new.site ≡ self.old.site }
@@ -101,7 +101,7 @@ impl<S: Servlet, F: Filter, L: Listener> Responder<S, F, L> {
         requires components { AreComponentsOf self.old.site self.old.live }
         requires whole { journal.old.whole ≡ true }
         ensures ends { EndsExchange (steps_of S.servlet_step F.filter_step L.listener_step) (site_of self.old.site) canon.now entry event answer
-            self.old.live self.old.exchange journal.old (seen result) self.new.live sessions.new journal.new }
+            self.old.live self.old.exchange journal.old (seen result) self.new.live sessions.new.store journal.new }
         ensures components { AreComponentsOf self.old.site self.new.live }
         ensures site { self.new.site ≡ self.old.site }
     {
@@ -284,7 +284,7 @@ fn begin(
     held: Option<HeldSession>,
     sessions: &mut Sessions,
 ) -> Result<(), NoMemory>
-    ensures begun { OnOk result (exchange.new ≡ begun (asked_in request.entry) site.now.context_path site.now.app.session.cookie held sessions.old) }
+    ensures begun { OnOk result (exchange.new ≡ begun (asked_in request.entry) site.now.context_path site.now.app.session.cookie held sessions.old.store) }
     ensures kept { OnErr result (sessions.new ≡ sessions.old) }
 {
     let settings = &site.descriptor().web_app().session.cookie;
