@@ -1,11 +1,11 @@
 pub mod Trees
 pub mod Growing
 mod Arguments
-mod Faults
+pub mod Faults
 mod FileLines
 mod FirstRead
 mod Lines
-mod PrintedRun
+pub mod PrintedRun
 mod Readings
-mod Reported
+mod UncoveredRun
 mod Steps

@@ -8,7 +8,7 @@ use Rattle.sv_descriptor.specs.declared.fault.DescriptorFault.{DescriptorFault}
 use Rattle.sv_files.specs.Fault.{fault_number as files_number}
 use Rattle.sv_uri.specs.ContextPath.{shown_context}
 use Rattle.sv_program.specs.declared.command_fault.CommandFault.{CommandFault}
-use Rattle.sv_program.specs.declared.command_fault.CommandFault.TheVariants.{Input, Output, File, Server, Descriptor, Users, Class, Files, Start, Socket, Script, User, Method, NoMemory}
+use Rattle.sv_program.specs.declared.command_fault.CommandFault.TheVariants.{Input, Output, File, Server, Descriptor, Users, Class, Files, Start, Socket, Script, User, Method, NoMemory, Findings}
 
 -- the key of the fault in a configuration file, or `-` if the fault concerns the whole text
 abbrev pub key_text : List ℕ → List ℕ
@@ -34,8 +34,9 @@ fault_line (Script line) = codes "sv: script " ++ decimal line
 fault_line (User shown) = codes "sv: user"
 fault_line (Method shown) = codes "sv: method"
 fault_line NoMemory = codes "sv: no memory"
+fault_line (Findings count) = codes "sv: findings " ++ decimal count
 
--- the exit status: 1 for the configuration and the system, 2 for arguments and scripts, 3 if memory ran out
+-- the exit status: 1 for the configuration and the system, 2 for arguments and scripts, 3 if memory ran out, 4 for findings
 abbrev pub status_of : CommandFault → ℕ
 status_of Input = 1
 status_of Output = 1
@@ -51,6 +52,7 @@ status_of (Script line) = 2
 status_of (User shown) = 2
 status_of (Method shown) = 2
 status_of NoMemory = 3
+status_of (Findings count) = 4
 
 -- the fault, unless memory ran out
 abbrev pub command_fault : CommandFault → Option CommandFault

@@ -48,7 +48,7 @@ abbrev pub HasLine : FaultInFile → Option Detail → Type 0
 HasLine faulty (Some (detail.Line line)) = IsDetail faulty line.now
 HasLine faulty other = ⊥
 
--- the second line of a fault; standard streams and memory have none
+-- the second line of a fault; standard streams, memory and findings have none
 abbrev pub IsFaultDetail : CommandFault → Option Detail → Type 0
 IsFaultDetail (fault.File name why) given = Says (name ++ codes ": " ++ reason_text why) given
 IsFaultDetail (fault.Server faulty) given = HasLine faulty given
@@ -64,3 +64,4 @@ IsFaultDetail (fault.Method shown) given = Says (codes "the method is not a toke
 IsFaultDetail fault.Input given = given ≡ None
 IsFaultDetail fault.Output given = given ≡ None
 IsFaultDetail fault.NoMemory given = given ≡ None
+IsFaultDetail (fault.Findings count) given = given ≡ None

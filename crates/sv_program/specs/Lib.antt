@@ -16,5 +16,4 @@ pub mod ExamplePolicy
 pub mod FirstLine
 pub mod Printed
 pub mod Uncovered
-pub mod AccessReport
-pub mod Report
+pub mod UncoveredCommand

@@ -19,8 +19,8 @@ use sv_text::{NoMemory, Text};
 use sv_uri::shown_context;
 
 /// A fault that ends a command early. Its text is the line that the program writes on standard error. Standard output
-/// may have been written before `Output`, `Start`, `Socket`, `Script` and `NoMemory`. Before any other fault it is
-/// unwritten.
+/// may have been written before `Output`, `Start`, `Socket`, `Script`, `Findings` and `NoMemory`. Before any other fault
+/// it is unwritten.
 #[derive(Drop)]
 pub enum CommandFault {
     /// Standard input could not be read: `sv: file stdin`, status 1.
@@ -81,6 +81,8 @@ pub enum CommandFault {
     Method(Text),
     /// Memory ran out: `sv: no memory`, status 3.
     NoMemory,
+    /// A report was written, and has this number of findings that must not be there: `sv: findings NUMBER`, status 4.
+    Findings(u64),
 }
 
 impl CommandFault {
@@ -101,13 +103,14 @@ impl CommandFault {
             | CommandFault::Socket(_) => 1,
             CommandFault::Script { .. } | CommandFault::User(_) | CommandFault::Method(_) => 2,
             CommandFault::NoMemory => 3,
+            CommandFault::Findings(_) => 4,
         }
     }
 }
 
 impl CommandFault {
     /// Returns the second line on standard error, which says why the first one is printed. Faults of standard streams
-    /// and of memory have none.
+    /// and of memory have none, nor have findings: the report shows them.
     pub fn detail(&self) -> Option<Detail<'_>>
         ensures { IsFaultDetail self.now result }
     {
@@ -126,6 +129,7 @@ impl CommandFault {
             CommandFault::Input => None,
             CommandFault::Output => None,
             CommandFault::NoMemory => None,
+            CommandFault::Findings(_) => None,
         }
     }
 }
@@ -188,6 +192,11 @@ impl CommandFault {
             CommandFault::User(_) => plain("sv: user"),
             CommandFault::Method(_) => plain("sv: method"),
             CommandFault::NoMemory => plain("sv: no memory"),
+            CommandFault::Findings(number) => Line {
+                front: "sv: findings",
+                place: "",
+                end: LineEnd::Number(*number),
+            },
         }
     }
 }

@@ -2,7 +2,6 @@
 //! and the offending text.
 #![tactic(auto)]
 
-mod access_report;
 mod command_fault;
 mod configuration;
 mod configuration_files;
@@ -17,14 +16,13 @@ mod line;
 mod offending_value;
 mod output;
 mod place;
-mod report;
 mod sentence;
 mod socket_fault;
 mod toml_value;
 mod unavailable;
+mod uncovered_command;
 mod uncovered_report;
 
-pub use access_report::{AccessOptions, Format, access_text};
 pub use command_fault::CommandFault;
 pub use configuration::{ContextTexts, descriptor_in, realm_in, server_in};
 pub use configuration_files::{read_contexts, read_server_file};
@@ -37,9 +35,9 @@ pub use limits::{
     limits_of_the_second_line,
 };
 pub use output::{print_line, print_text, report_fault};
-pub use report::{Report, print_report};
 pub use socket_fault::SocketFault;
 pub use sv_constraints::{OwnedDecision, OwnedWhy};
 pub use toml_value::quoted;
 pub use unavailable::Unavailable;
+pub use uncovered_command::uncovered;
 pub use uncovered_report::{gap_lines, uncovered_lines};
