@@ -9,5 +9,4 @@ pub mod FindingLemmas
 pub mod FoundFindings
 pub mod CellLemmas
 pub mod Made
-pub mod JsonLemmas
 pub mod SecureLemmas

@@ -3,10 +3,5 @@ pub mod Access
 pub mod Rows
 pub mod Reading
 pub mod Secure
-pub mod Escaped
-pub mod Words
-pub mod Text
-pub mod Json
 pub mod Findings
-pub mod FindingText
 pub mod FindingLaws

@@ -6,13 +6,10 @@
 mod access;
 mod cells;
 mod coverage;
-mod escaped;
 mod finding;
-mod finding_lines;
 mod findings;
 mod groups;
 mod laws;
-mod lines;
 mod patterns;
 mod roles;
 mod rows;
@@ -20,8 +17,6 @@ mod same_callers;
 mod secure;
 mod sorted;
 mod tables;
-mod values;
-mod words;
 
 pub use access::{Access, Cell};
 pub use finding::Finding;
@@ -30,8 +25,6 @@ pub use laws::{
     findings_are_complete, findings_are_right, only_transport_changes, served_paths_are_rooted,
     tables_are_right,
 };
-pub use lines::{METHODS_WIDTH, PATTERN_WIDTH, WHO_WIDTH, audit_text};
-pub use rows::{ContextTable, Group, Row, Table};
+pub use rows::{Group, Row, Table};
 pub use secure::without_transport;
 pub use tables::table_of;
-pub use values::audit_json;

@@ -1,7 +1,6 @@
 //! The parts of an access table.
 
 use crate::access::Cell;
-use crate::finding::Finding;
 use sv_constraints::Methods;
 use sv_text::{Listed, Text};
 
@@ -30,19 +29,6 @@ pub struct Table {
     /// The rows: patterns in ascending byte order, then extension patterns in ascending byte order, then the paths that
     /// no pattern matches.
     pub rows: Listed<Row>,
-}
-
-/// The access table of a context, and its findings.
-#[derive(Drop)]
-pub struct ContextTable {
-    /// The path of the context, which is empty for the root context.
-    pub path: Text,
-    /// Whether the context has a login configuration. Without one nobody can log in.
-    pub has_login: bool,
-    /// The table.
-    pub table: Table,
-    /// The findings of the constraints and the table.
-    pub findings: Listed<Finding>,
 }
 
 /// A method that constraints name at a pattern.

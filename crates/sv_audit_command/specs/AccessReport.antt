@@ -2,17 +2,17 @@
 use Rattle.std.specs.Prelude.{ℕ, Bool, List, Ok, is_some, if◌then◌else◌}
 use Rattle.sv_text.specs.Steps.{◌>>=◌}
 use Rattle.sv_audit.specs.Findings.{findings_of}
-use Rattle.sv_audit.specs.Json.{audit_json}
+use Rattle.sv_report.specs.Json.{audit_json}
 use Rattle.sv_audit.specs.Rows.{table_of}
 use Rattle.sv_audit.specs.Secure.{secure}
-use Rattle.sv_audit.specs.Text.{audit_text}
-use Rattle.sv_audit.specs.declared.rows.ContextTable.{ContextTable}
+use Rattle.sv_report.specs.Text.{audit_text}
+use Rattle.sv_report.specs.declared.context_table.ContextTable.{ContextTable}
 use Rattle.sv_constraints.specs.declared.constraint.Constraint.{Constraint}
 use Rattle.sv_constraints.specs.declared.constraint.Rules.{Rules}
 use Rattle.sv_program.specs.Configuration.{Step, descriptor_in, each}
-use Rattle.sv_program.specs.declared.access_report.AccessOptions.{AccessOptions}
-use Rattle.sv_program.specs.declared.access_report.Format.{Format}
-use Rattle.sv_program.specs.declared.access_report.Format.TheVariants.{Text, Json}
+use Rattle.sv_audit_command.specs.declared.access_report.AccessOptions.{AccessOptions}
+use Rattle.sv_audit_command.specs.declared.access_report.Format.{Format}
+use Rattle.sv_audit_command.specs.declared.access_report.Format.TheVariants.{Text, Json}
 use Rattle.sv_program.specs.declared.configuration.ContextTexts.{ContextTexts}
 
 -- the constraints for a connection whose transport is guaranteed, or for a plain one

@@ -2,15 +2,15 @@
 
 ghost use Rattle.std.specs.Prelude.{◌≡◌};
 ghost use Rattle.sv_text.specs.Gives.{Gives, GivesAnswer};
-ghost use Rattle.sv_program.specs.AccessReport as spec;
+ghost use Rattle.sv_audit_command.specs.AccessReport as spec;
 ghost use Rattle.sv_program.specs.CommandFault.{command_fault};
 ghost use Rattle.sv_program.specs.Configuration.{each};
 
-use crate::command_fault::CommandFault;
-use crate::configuration::{ContextTexts, descriptor_in};
 use std::alloc::Global;
-use sv_audit::{ContextTable, audit_json, audit_text, findings_of, table_of, without_transport};
+use sv_audit::{findings_of, table_of, without_transport};
 use sv_constraints::{Constraint, Rules};
+use sv_program::{CommandFault, ContextTexts, descriptor_in};
+use sv_report::{ContextTable, audit_json, audit_text};
 use sv_text::{Listed, NoMemory, Text};
 
 /// The form of a report.

@@ -1,8 +1,8 @@
 use Rattle.std.proofs.Common.{◌≡◌, ◌++◌, drop, Ok}
 use Rattle.sv_text.specs.Steps.{◌>>=◌}
-use Rattle.sv_program.specs.AccessReport.{context_table}
+use Rattle.sv_audit_command.specs.AccessReport.{context_table}
 use Rattle.sv_program.specs.Configuration.{each}
-use Rattle.sv_program.proofs.access_report.tables_of.Given as goal
+use Rattle.sv_audit_command.proofs.access_report.tables_of.Given as goal
 
 -- the remaining texts give the remaining tables
 abbrev pub invariant-loop-texts : goal.invariant-loop-texts

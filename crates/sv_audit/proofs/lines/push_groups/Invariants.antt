@@ -1,8 +1,0 @@
-use Rattle.std.proofs.Common.{◌≡◌, ◌++◌, [], take}
-use Rattle.std.specs.String.{string_bytes}
-use Rattle.std.specs.List.{flat_map}
-use Rattle.sv_audit.specs.Text.{group_line}
-use Rattle.sv_audit.proofs.lines.push_groups.Given as goal
-
-abbrev pub invariant-loop-group : goal.invariant-loop-group
-invariant-loop-group l = string_bytes l.text ≡ string_bytes l.fn.text ++ flat_map (group_line l.has_login []) (take l.group-index l.groups)

@@ -1,8 +1,0 @@
-use Rattle.std.proofs.Common.{rules}
-use Rattle.serde_json.specs.declared.value.Value.{the_lemmas}
-use Rattle.sv_audit.specs.Json.{row_value}
-use Rattle.sv_audit.proofs.values.row_value.Goals as goal
-
-pub returns : goal.returns
-unfolding row_value
-returns c = search (rules, the_lemmas)

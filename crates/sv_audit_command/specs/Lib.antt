@@ -1,0 +1,2 @@
+pub mod AccessReport
+pub mod AuditCommand

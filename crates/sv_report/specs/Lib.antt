@@ -1,0 +1,5 @@
+pub mod Escaped
+pub mod Words
+pub mod FindingText
+pub mod Text
+pub mod Json

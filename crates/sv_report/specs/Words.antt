@@ -1,0 +1,47 @@
+-- The texts of the columns of access tables.
+use Rattle.std.specs.Prelude.{ℕ, Bool, List, [], ◌∷◌, ◌++◌, codes, Option, None, Some, if◌then◌else◌}
+use Rattle.std.specs.Fmt.{decimal}
+use Rattle.std.specs.List.{flat_map}
+use Rattle.std.specs.Option.{option_map_or}
+use Rattle.sv_constraints.specs.declared.constraint.Methods.{Methods}
+use Rattle.sv_constraints.specs.declared.constraint.Methods.TheVariants.{All, Only, Except}
+use Rattle.sv_report.specs.Escaped.{escaped}
+use Rattle.sv_audit.specs.declared.access.Access.{Access}
+use Rattle.sv_audit.specs.declared.access.Access.TheVariants.{Unconstrained, Uncovered, UncoveredDenied, Precluded, NeedsTls, Everyone, AnyLogin, Roles}
+
+-- Names, separated by commas.
+abbrev pub others_text : List (List ℕ) → List ℕ
+others_text names = flat_map (λ name. codes ", " ++ escaped name) names
+
+abbrev pub names_text : List (List ℕ) → List ℕ
+names_text [] = []
+names_text (name ∷ names) = escaped name ++ others_text names
+
+abbrev pub pattern_text : Option (List ℕ) → List ℕ
+pattern_text None = codes "other paths"
+pattern_text (Some []) = codes "\"\""
+pattern_text (Some (first ∷ rest)) = escaped (first ∷ rest)
+
+abbrev pub methods_text : Methods → List ℕ
+methods_text All = codes "all"
+methods_text (Only names) = names_text names
+methods_text (Except []) = codes "all"
+methods_text (Except (name ∷ names)) = codes "others"
+
+-- Callers who log in, if the context has a login configuration.
+abbrev pub logged_in : Bool → List ℕ → List ℕ
+logged_in has_login text = if has_login then text else codes "nobody (no login)"
+
+abbrev pub who_text : Bool → Access → List ℕ
+who_text has_login Unconstrained = codes "everyone (no constraint)"
+who_text has_login Uncovered = codes "everyone (uncovered)"
+who_text has_login UncoveredDenied = codes "nobody (uncovered, denied)"
+who_text has_login Precluded = codes "nobody (no role is allowed)"
+who_text has_login NeedsTls = codes "needs TLS"
+who_text has_login Everyone = codes "everyone"
+who_text has_login AnyLogin = logged_in has_login (codes "any login")
+who_text has_login (Roles []) = codes "nobody (no such role)"
+who_text has_login (Roles (name ∷ names)) = logged_in has_login (codes "role " ++ names_text (name ∷ names))
+
+abbrev pub number_text : Option ℕ → List ℕ
+number_text number = option_map_or decimal number (codes "-")

@@ -1,0 +1,250 @@
+//! The text of access tables.
+
+ghost use Rattle.std.specs.Prelude.{◌≡◌, ◌++◌, [], OnOk, codes, replicate, string_bytes};
+ghost use Rattle.std.specs.List.{flat_map};
+ghost use Rattle.sv_text.specs.Gives.{GivesAnswer};
+ghost use Rattle.sv_report.specs.Text as spec;
+
+use crate::context_table::ContextTable;
+use crate::escaped::escaped;
+use crate::finding_lines::push_findings;
+use crate::words::{methods_text, number_text, pattern_text, who_text};
+use std::alloc::Global;
+use sv_audit::{Group, Row};
+use sv_text::{NoMemory, Text};
+use sv_uri::shown_context;
+
+/// The width of the column of patterns, in bytes.
+pub const PATTERN_WIDTH: usize = 28;
+
+/// The width of the column of methods, in bytes.
+pub const METHODS_WIDTH: usize = 28;
+
+/// The width of the column of callers, in bytes.
+pub const WHO_WIDTH: usize = 30;
+
+/// The columns of a line.
+#[derive(Clone, Copy)]
+struct Columns<'a> {
+    pattern: &'a str,
+    methods: &'a str,
+    who: &'a str,
+    constraint: &'a str,
+}
+
+/// Returns the text of the access tables of contexts: a line for each group of methods, lines for the folders that are
+/// never served and for the login post, and a line for each finding. Control characters are escaped.
+///
+/// # Errors
+/// `NoMemory` if memory runs out.
+pub fn audit_text(alloc: Global, contexts: &[ContextTable]) -> Result<Text, NoMemory>
+    ensures { GivesAnswer result (spec.audit_text contexts.now) }
+{
+    let mut text = String::new(alloc);
+    push_contexts(&mut text, alloc, contexts)?;
+    Ok(Text::from_string(text))
+}
+
+fn push_contexts(
+    text: &mut String,
+    alloc: Global,
+    contexts: &[ContextTable],
+) -> Result<(), NoMemory>
+    ensures { OnOk result (string_bytes text.new ≡ string_bytes text.old ++ spec.audit_text contexts.now) }
+{
+    let Some((context, others)) = contexts.split_first() else {
+        return Ok(());
+    };
+    push_context(text, alloc, context)?;
+    push_other_contexts(text, alloc, others)
+}
+
+/// Appends the lines of contexts, each after an empty line.
+fn push_other_contexts(
+    text: &mut String,
+    alloc: Global,
+    others: &[ContextTable],
+) -> Result<(), NoMemory>
+    ensures { OnOk result (string_bytes text.new ≡ string_bytes text.old ++ flat_map (λ other. codes "\n" ++ spec.context_text other) others.now) }
+{
+    for other in others {
+        push_other_context(text, alloc, other)?;
+    }
+    Ok(())
+}
+
+fn push_other_context(
+    text: &mut String,
+    alloc: Global,
+    context: &ContextTable,
+) -> Result<(), NoMemory>
+    ensures { OnOk result (string_bytes text.new ≡ string_bytes text.old ++ (codes "\n" ++ spec.context_text context.now)) }
+{
+    text.push_str("\n")?;
+    push_context(text, alloc, context)
+}
+
+fn push_context(text: &mut String, alloc: Global, context: &ContextTable) -> Result<(), NoMemory>
+    ensures { OnOk result (string_bytes text.new ≡ string_bytes text.old ++ spec.context_text context.now) }
+{
+    let path = escaped(alloc, shown_context(context.path.as_str()))?;
+    text.push_str("context ")?;
+    text.push_str(path.as_str())?;
+    text.push_str("\n")?;
+    push_title(text)?;
+    push_rows(
+        text,
+        alloc,
+        context.has_login,
+        context.table.rows.as_slice(),
+    )?;
+    push_hidden(text)?;
+    push_login(text, context.has_login)?;
+    push_findings(text, alloc, context.findings.as_slice())
+}
+
+fn push_title(text: &mut String) -> Result<(), NoMemory>
+    ensures { OnOk result (string_bytes text.new ≡ string_bytes text.old ++ spec.title_line) }
+{
+    push_line(
+        text,
+        Columns {
+            pattern: "pattern",
+            methods: "methods",
+            who: "who may enter",
+            constraint: "constraint",
+        },
+    )
+}
+
+fn push_hidden(text: &mut String) -> Result<(), NoMemory>
+    ensures { OnOk result (string_bytes text.new ≡ string_bytes text.old ++ spec.hidden_line) }
+{
+    push_line(
+        text,
+        Columns {
+            pattern: "/WEB-INF/*, /META-INF/*",
+            methods: "all",
+            who: "nobody (hidden)",
+            constraint: "-",
+        },
+    )
+}
+
+fn push_login(text: &mut String, has_login: bool) -> Result<(), NoMemory>
+    ensures { OnOk result (string_bytes text.new ≡ string_bytes text.old ++ spec.login_line has_login) }
+{
+    if !has_login {
+        return Ok(());
+    }
+    push_line(
+        text,
+        Columns {
+            pattern: "*/j_security_check",
+            methods: "POST",
+            who: "login post",
+            constraint: "-",
+        },
+    )
+}
+
+fn push_rows(
+    text: &mut String,
+    alloc: Global,
+    has_login: bool,
+    rows: &[Row],
+) -> Result<(), NoMemory>
+    ensures { OnOk result (string_bytes text.new ≡ string_bytes text.old ++ flat_map (spec.row_lines has_login) rows.now) }
+{
+    for row in rows {
+        push_row(text, alloc, has_login, row)?;
+    }
+    Ok(())
+}
+
+fn push_row(text: &mut String, alloc: Global, has_login: bool, row: &Row) -> Result<(), NoMemory>
+    ensures { OnOk result (string_bytes text.new ≡ string_bytes text.old ++ spec.row_lines has_login row.now) }
+{
+    let pattern = pattern_text(alloc, &row.pattern)?;
+    let Some((group, others)) = row.groups.as_slice().split_first() else {
+        return Ok(());
+    };
+    push_group(text, alloc, has_login, pattern.as_str(), group)?;
+    push_groups(text, alloc, has_login, others)
+}
+
+/// Appends the lines of groups without their pattern.
+fn push_groups(
+    text: &mut String,
+    alloc: Global,
+    has_login: bool,
+    groups: &[Group],
+) -> Result<(), NoMemory>
+    ensures { OnOk result (string_bytes text.new ≡ string_bytes text.old ++ flat_map (spec.group_line has_login []) groups.now) }
+{
+    for group in groups {
+        push_group(text, alloc, has_login, "", group)?;
+    }
+    Ok(())
+}
+
+fn push_group(
+    text: &mut String,
+    alloc: Global,
+    has_login: bool,
+    pattern: &str,
+    group: &Group,
+) -> Result<(), NoMemory>
+    ensures { OnOk result (string_bytes text.new ≡ string_bytes text.old ++ spec.group_line has_login pattern.now group.now) }
+{
+    let methods = methods_text(alloc, &group.methods)?;
+    let who = who_text(alloc, has_login, &group.cell.access)?;
+    let constraint = number_text(alloc, group.cell.constraint)?;
+    push_line(
+        text,
+        Columns {
+            pattern,
+            methods: methods.as_str(),
+            who: who.as_str(),
+            constraint: constraint.as_str(),
+        },
+    )
+}
+
+#[tactic(auto, unfolding(crate::specs::Text::line_text))]
+fn push_line(text: &mut String, columns: Columns<'_>) -> Result<(), NoMemory>
+    ensures { OnOk result (string_bytes text.new ≡ string_bytes text.old ++ spec.line_text columns.entry.pattern.now columns.entry.methods.now columns.entry.who.now columns.entry.constraint.now) }
+{
+    push_padded(text, columns.pattern, PATTERN_WIDTH)?;
+    push_padded(text, columns.methods, METHODS_WIDTH)?;
+    push_padded(text, columns.who, WHO_WIDTH)?;
+    text.push_str(columns.constraint)?;
+    Ok(text.push_str("\n")?)
+}
+
+/// Appends a text and the spaces up to the next column.
+fn push_padded(text: &mut String, column: &str, width: usize) -> Result<(), NoMemory>
+    ensures { OnOk result (string_bytes text.new ≡ string_bytes text.old ++ spec.padded width column.now) }
+{
+    text.push_str(column)?;
+    push_spaces(text, gap_after(width, column))
+}
+
+fn gap_after(width: usize, column: &str) -> usize
+    ensures { result ≡ spec.gap_after width column.now }
+{
+    if column.len() < width {
+        width - column.len()
+    } else {
+        2
+    }
+}
+
+fn push_spaces(text: &mut String, count: usize) -> Result<(), NoMemory>
+    ensures { OnOk result (string_bytes text.new ≡ string_bytes text.old ++ replicate count 32) }
+{
+    for _place in 0..count {
+        text.push_str(" ")?;
+    }
+    Ok(())
+}
