@@ -1,11 +1,13 @@
-"""Where Tomcat reads the patterns of constraints otherwise: it seeks an exact pattern, then the longest of a prefix, then an extension, then `/`, and goes
-on from a prefix whose constraints leave the method uncovered. By the specification the best pattern alone counts (Jakarta Servlet 6.0, section 13.8.3)."""
+"""Where Tomcat reads constraints otherwise. It seeks an exact pattern, then the longest of a prefix, then an extension, then `/`, and goes
+on from a prefix whose constraints leave the method uncovered. By the specification the best pattern alone counts (Jakarta Servlet 6.0, section 13.8.3).
+It declares the roles that constraints name. By the specification the role `*` is for the roles of `security-role` alone (section 13.8)."""
 from __future__ import annotations
 
 import re
 from typing import Iterator, NamedTuple
 
 from .elements import shortened
+from .limits import is_name
 from .told import Rank, Told
 from .tree import Element
 from .words import Table
@@ -39,7 +41,8 @@ ALL = Methods(frozenset(), True)
 
 
 def tell_readings(root: Element, constraints: list[Table], told: Told) -> None:
-    """Tells the patterns of constraints for which Tomcat decides otherwise."""
+    """Tells the patterns and roles of constraints for which Tomcat decides otherwise."""
+    _tell_undeclared_roles(root, told)
     lines: dict[str, int] = {}
     for pattern_element in _patterns_of(root):
         lines.setdefault(pattern_element.text, pattern_element.line)
@@ -68,6 +71,21 @@ def tell_readings(root: Element, constraints: list[Table], told: Told) -> None:
                 Rank.SECURITY,
                 lines[pattern],
                 f"url-pattern {shortened(pattern)}: its constraints leave {methods} uncovered, and so open; Tomcat goes on to {', '.join(map(shortened, lesser))}",
+            )
+
+
+def _tell_undeclared_roles(root: Element, told: Told) -> None:
+    named = [constraint.first("auth-constraint") for constraint in root.all("security-constraint")]
+    roles = {role for element in named if element for role in element.texts("role-name")} - {"**"}
+    declared = {role.text_of("role-name") for role in root.all("security-role")}
+    for element in filter(None, named):
+        here = element.texts("role-name")
+        others = sorted(role for role in roles if is_name(role) and role not in {*declared, *here})
+        if "*" in here and "**" not in here and others:
+            told.tell(
+                Rank.SECURITY,
+                next(role.line for role in element.all("role-name") if role.text == "*"),
+                f"role-name * is for the declared roles; Tomcat also admits {', '.join(others)}, which other constraints name",
             )
 
 
