@@ -75,16 +75,17 @@ def tell_readings(root: Element, constraints: list[Table], told: Told) -> None:
 
 
 def _tell_undeclared_roles(root: Element, told: Told) -> None:
-    named = [constraint.first("auth-constraint") for constraint in root.all("security-constraint")]
-    roles = {role for element in named if element for role in element.texts("role-name")} - {"**"}
-    declared = {role.text_of("role-name") for role in root.all("security-role")}
-    for element in filter(None, named):
-        here = element.texts("role-name")
-        others = sorted(role for role in roles if is_name(role) and role not in {*declared, *here})
-        if "*" in here and "**" not in here and others:
+    constraints = [element.first("auth-constraint") for element in root.all("security-constraint")]
+    named = [list(element.all("role-name")) for element in constraints if element is not None]
+    roles = {role.text for elements in named for role in elements if is_name(role.text)}
+    undeclared = roles - {"*", "**"} - {it.text_of("role-name") for it in root.all("security-role")}
+    for elements in named:
+        lines = {role.text: role.line for role in elements}
+        others = sorted(undeclared - lines.keys()) if "*" in lines and "**" not in lines else []
+        if others:
             told.tell(
                 Rank.SECURITY,
-                next(role.line for role in element.all("role-name") if role.text == "*"),
+                lines["*"],
                 f"role-name * is for the declared roles; Tomcat also admits {', '.join(others)}, which other constraints name",
             )
 
