@@ -302,7 +302,8 @@ def known(site: Site, request: Request, said: Said) -> str:
     if path == "/" and "/" in patterns:
         return "Tomcat takes the pattern / for an exact one"
     is_star = any(rank(pattern, path) for pattern in site.patterns_of_declared_roles())
-    if is_star and request.caller and site.has_undeclared_role(request.caller):
+    is_denied = said.verdict == "denied" and request.caller
+    if is_star and is_denied and site.has_undeclared_role(request.caller):
         return "Tomcat declares the roles that constraints name"
     ending = "*." + path.rpartition("/")[2].rpartition(".")[2]
     if said.is_left_by_prefix and ("/" in patterns or ending in patterns):

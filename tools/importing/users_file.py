@@ -3,7 +3,6 @@ from __future__ import annotations
 
 import errno
 import os
-import tomllib
 from pathlib import Path
 
 from .files import PRIVATE, NewFile, open_regular, write_files
@@ -23,7 +22,9 @@ def append(path: Path, user: User) -> None:
     gap = "\n" if text.strip() else ""
     end = "\n" if text and not text.endswith("\n") else ""
     new = text + end + gap + user.text()
-    _users(path, new)
+    if text:
+        # The old text may not go on with a further user.
+        _users(path, new)
     write_files(
         path.parent, [NewFile(path.name, new, PRIVATE, may_replace=status is not None, like=status)]
     )
@@ -51,6 +52,12 @@ def _read(path: Path, name: str) -> tuple[str, os.stat_result | None]:
 
 def _users(path: Path, text: str) -> list[str]:
     """The names in the text of a users file."""
+    if not text:
+        return []
+    try:
+        import tomllib
+    except ModuleNotFoundError as error:
+        raise _refusal(path, "exists, and is read only by Python 3.11 or later") from error
     try:
         return [user["name"] for user in tomllib.loads(text).get("user", [])]
     except tomllib.TOMLDecodeError as error:
