@@ -302,8 +302,8 @@ def known(site: Site, request: Request, said: Said) -> str:
     if path == "/" and "/" in patterns:
         return "Tomcat takes the pattern / for an exact one"
     is_star = any(rank(pattern, path) for pattern in site.patterns_of_declared_roles())
-    is_denied = said.verdict == "denied" and request.caller
-    if is_star and is_denied and site.has_undeclared_role(request.caller):
+    denied_caller = request.caller if said.verdict == "denied" else None
+    if is_star and denied_caller and site.has_undeclared_role(denied_caller):
         return "Tomcat declares the roles that constraints name"
     ending = "*." + path.rpartition("/")[2].rpartition(".")[2]
     if said.is_left_by_prefix and ("/" in patterns or ending in patterns):
