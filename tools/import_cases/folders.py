@@ -20,7 +20,7 @@ from unittest import mock
 from library import load_script
 
 SEED = "0" * 64
-WRITTEN = ("web.toml", "server.toml", "users.toml")
+WRITTEN = ("web.toml", "web.lines", "server.toml", "users.toml")
 MAX_SECONDS = 10
 # The places in the header of an entry, within an archive's directory, that are made odd (APPNOTE.TXT, section 4.3.12).
 DIRECTORY_HEADER = b"PK\x01\x02"
@@ -37,7 +37,7 @@ def tried_folder(folder: Path, tools: Path) -> tuple[dict[str, str], list[str], 
     expected = {
         path.name: path.read_text(encoding="utf-8")
         for path in folder.iterdir()
-        if path.is_file() and path.suffix in ("", ".toml")
+        if path.is_file() and path.suffix in ("", ".toml", ".lines")
     }
     room = Path(tempfile.mkdtemp(prefix="sv-import-"))
     furnish(room, folder, expected)

@@ -29,10 +29,11 @@ _PUBLIC_IDS = (
 
 @dataclasses.dataclass
 class Descriptor:
-    """The tables of a descriptor, in the order of its format, and whether nothing beside the file was to be read."""
+    """The tables of a descriptor, in the order of its format, the lines of the web.xml on which its constraints begin, and whether nothing beside the file was to be read."""
 
     top: Table
     tables: list[tuple[str, Table]]
+    constraint_lines: list[int]
     is_complete: bool
 
     def text(self) -> str:
@@ -40,6 +41,10 @@ class Descriptor:
         top = "".join(toml.pair(key, value) for key, value in self.top.items())
         texts = [top] if top else []
         return "\n".join(texts + [toml.table(header, table) for header, table in self.tables])
+
+    def lines_text(self, file: str) -> str:
+        """The name of the web.xml, and the lines on which constraint 1, 2, .. begins: one on each line."""
+        return "".join(f"{item}\n" for item in [file, *self.constraint_lines])
 
 
 def read(text: bytes, told: Told) -> Descriptor:
@@ -50,9 +55,11 @@ def read(text: bytes, told: Told) -> Descriptor:
     root = taken(document.root)
     _check_completeness(root, told)
     _tell_encoding(root, told)
-    top, tables = _top(root, told), _tables(root, told)
+    top, constraints = _top(root, told), security.constraints(root, told)
+    tables = _tables(root, constraints, told)
     guards.tell_guards(root, told)
-    descriptor = Descriptor({**_version(tables), **top}, tables, _is_complete(root))
+    lines = [constraint.line for constraint in constraints]
+    descriptor = Descriptor({**_version(tables), **top}, tables, lines, _is_complete(root))
     _check_lists(descriptor, told)
     return descriptor
 
@@ -129,7 +136,9 @@ def _tell_encoding(root: Element, told: Told) -> None:
         )
 
 
-def _tables(root: Element, told: Told) -> list[tuple[str, Table]]:
+def _tables(
+    root: Element, constraints: list[security.Constraint], told: Told
+) -> list[tuple[str, Table]]:
     servlet_names = components.Names("servlet", root)
     filter_names = components.Names("filter", root)
     lists = {
@@ -145,7 +154,7 @@ def _tables(root: Element, told: Told) -> list[tuple[str, Table]]:
     }
     later = {
         "error-page": pages.error_pages(root, told),
-        "security-constraint": security.constraints(root, told),
+        "security-constraint": [constraint.table for constraint in constraints],
         "security-role": security.roles(root, told),
     }
     login = {"login-config": security.login_config(root, told)}

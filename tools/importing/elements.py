@@ -188,7 +188,7 @@ _IDLE_ATTRIBUTES = frozenset(
 )
 ROOT_ATTRIBUTES = frozenset(["version", "metadata-complete"])
 
-# The elements that decide access, with all that is in them.
+# The elements that decide access, with all that is in them, and one that is only in such an element.
 _DECIDING = frozenset(
     [
         "security-constraint",
@@ -198,6 +198,7 @@ _DECIDING = frozenset(
         "security-role",
         "login-config",
         "form-login-config",
+        "auth-method",
         "deny-uncovered-http-methods",
     ]
 )
@@ -243,10 +244,14 @@ def tell_what_is_not_taken(element: Element, told: Told) -> None:
 
 def _rank(element: Element, child: Element | None = None) -> Rank:
     """How much it matters that a child, or the text, of an element is not read. A child of an unknown name is judged by the elements in it."""
-    below = [] if child is None else [child, *child.children]
-    if any(it.name in _DECIDING for it in [element, *below]):
+    if element.name in _DECIDING or (child is not None and _decides(child)):
         return Rank.SECURITY
     return Rank.IGNORED if child is None else Rank.BEHAVIOR
+
+
+def _decides(element: Element) -> bool:
+    """Whether an element, or one in it, decides access."""
+    return element.name in _DECIDING or any(map(_decides, element.children))
 
 
 def taken(element: Element) -> Element:

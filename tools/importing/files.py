@@ -4,6 +4,7 @@ from __future__ import annotations
 import contextlib
 import dataclasses
 import errno
+import fcntl
 import os
 import secrets
 import stat
@@ -70,6 +71,15 @@ def write_files(folder: Path, files: list[NewFile]) -> None:
             for temporary in temporaries:
                 with contextlib.suppress(FileNotFoundError):
                     os.unlink(temporary, dir_fd=number)
+
+
+@contextlib.contextmanager
+def locked(folder: Path) -> Iterator[None]:
+    """Holds the lock of a folder, which it makes if there is none. Another process that asks for the lock waits."""
+    with _opened_folder(folder) as number:
+        with _named(folder):
+            fcntl.flock(number, fcntl.LOCK_EX)
+        yield
 
 
 @contextlib.contextmanager

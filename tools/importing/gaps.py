@@ -1,11 +1,13 @@
-"""Where Tomcat reads the patterns of constraints otherwise: it seeks an exact pattern, then the longest of a prefix, then an extension, then `/`, and goes
-on from a prefix whose constraints leave the method uncovered. By the specification the best pattern alone counts (Jakarta Servlet 6.0, section 13.8.3)."""
+"""Where Tomcat reads constraints otherwise. It seeks an exact pattern, then the longest of a prefix, then an extension, then `/`, and goes
+on from a prefix whose constraints leave the method uncovered. By the specification the best pattern alone counts (Jakarta Servlet 6.0, section 13.8.3).
+It declares the roles that constraints name. By the specification the role `*` is for the roles of `security-role` alone (section 13.8)."""
 from __future__ import annotations
 
 import re
 from typing import Iterator, NamedTuple
 
 from .elements import shortened
+from .limits import is_name
 from .told import Rank, Told
 from .tree import Element
 from .words import Table
@@ -39,7 +41,8 @@ ALL = Methods(frozenset(), True)
 
 
 def tell_readings(root: Element, constraints: list[Table], told: Told) -> None:
-    """Tells the patterns of constraints for which Tomcat decides otherwise."""
+    """Tells the patterns and roles of constraints for which Tomcat decides otherwise."""
+    _tell_undeclared_roles(root, told)
     lines: dict[str, int] = {}
     for pattern_element in _patterns_of(root):
         lines.setdefault(pattern_element.text, pattern_element.line)
@@ -68,6 +71,22 @@ def tell_readings(root: Element, constraints: list[Table], told: Told) -> None:
                 Rank.SECURITY,
                 lines[pattern],
                 f"url-pattern {shortened(pattern)}: its constraints leave {methods} uncovered, and so open; Tomcat goes on to {', '.join(map(shortened, lesser))}",
+            )
+
+
+def _tell_undeclared_roles(root: Element, told: Told) -> None:
+    constraints = [element.first("auth-constraint") for element in root.all("security-constraint")]
+    named = [list(element.all("role-name")) for element in constraints if element is not None]
+    roles = {role.text for elements in named for role in elements if is_name(role.text)}
+    undeclared = roles - {"*", "**"} - {it.text_of("role-name") for it in root.all("security-role")}
+    for elements in named:
+        lines = {role.text: role.line for role in elements}
+        others = sorted(undeclared - lines.keys()) if "*" in lines and "**" not in lines else []
+        if others:
+            told.tell(
+                Rank.SECURITY,
+                lines["*"],
+                f"role-name * is for the declared roles; Tomcat also admits {', '.join(others)}, which other constraints name",
             )
 
 

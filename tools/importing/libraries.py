@@ -18,7 +18,7 @@ _UNREADABLE = (OSError, zipfile.BadZipFile, NotImplementedError, ValueError)
 
 def tell_fragments(web_xml: Path, told: Told) -> None:
     """Reports the libraries next to a web.xml that have a fragment, that are suspicious, and that cannot be read."""
-    for path in sorted(web_xml.parent.glob("lib/*.jar")):
+    for path in _libraries(web_xml.parent / "lib", told):
         try:
             with open_regular(path) as file, zipfile.ZipFile(file) as library:
                 names = library.namelist()
@@ -40,6 +40,21 @@ def tell_fragments(web_xml: Path, told: Told) -> None:
                 1,
                 f"lib/{path.name} has the entry {shortened(outside)}, which leads out of the folder it is unpacked to",
             )
+
+
+def _libraries(folder: Path, told: Told) -> list[Path]:
+    """The libraries in a folder, none if there is no folder of this name. Reports a folder that cannot be read."""
+    try:
+        return sorted(path for path in folder.iterdir() if path.suffix == ".jar")
+    except (FileNotFoundError, NotADirectoryError):
+        return []
+    except OSError as error:
+        told.tell(
+            Rank.SECURITY,
+            1,
+            f"{folder.name} cannot be read ({error.strerror}): whether a library has a web-fragment.xml is not known",
+        )
+        return []
 
 
 def _leads_out(name: str) -> bool:

@@ -1,6 +1,8 @@
 """Security constraints, roles, login."""
 from __future__ import annotations
 
+import dataclasses
+
 from .elements import shortened
 from .gaps import tell_readings
 from .limits import (
@@ -28,10 +30,18 @@ NO_METHOD = "-"
 _GUARANTEES = ("NONE", "INTEGRAL", "CONFIDENTIAL")
 
 
-def constraints(root: Element, told: Told) -> list[Table]:
-    """The tables of the constraints, each at its place: what does not fit into one stands behind all others."""
-    tables: list[Table] = []
-    behind: list[tuple[Element, int, Table]] = []
+@dataclasses.dataclass(frozen=True)
+class Constraint:
+    """The table of a constraint, and the line on which its element begins."""
+
+    table: Table
+    line: int
+
+
+def constraints(root: Element, told: Told) -> list[Constraint]:
+    """The constraints, each at its place. What does not fit into one is a constraint after all others, with the line of the same element."""
+    found: list[Constraint] = []
+    behind: list[tuple[int, Constraint]] = []
     for number, element in enumerate(root.all("security-constraint"), 1):
         rest = {**_authorization(element, told), **_transport(element, told), **words(element)}
         parts = _parts(_collections(element, told))
@@ -42,19 +52,21 @@ def constraints(root: Element, told: Told) -> list[Table]:
                 f"constraint {number} has no pattern that could be read: it is imported as one that no request matches",
             )
             parts = [[{"url-pattern": [NO_PATH]}]]
-        tables.append({"web-resource-collection": list(parts[0]), **rest})
-        behind += [
-            (element, number, {"web-resource-collection": list(part), **rest}) for part in parts[1:]
+        first, *others = [
+            Constraint({"web-resource-collection": list(part), **rest}, element.line)
+            for part in parts
         ]
-    for element, number, table in behind:
-        tables.append(table)
+        found.append(first)
+        behind += [(number, other) for other in others]
+    for number, other in behind:
+        found.append(other)
         told.tell(
             Rank.SECURITY,
-            element.line,
-            f"constraint {number} has more than {MAX_PATTERNS_OF_CONSTRAINT} patterns: the others are imported as constraint {len(tables)}",
+            other.line,
+            f"constraint {number} has more than {MAX_PATTERNS_OF_CONSTRAINT} patterns: the others are imported as constraint {len(found)}",
         )
-    tell_readings(root, tables, told)
-    return tables
+    tell_readings(root, [constraint.table for constraint in found], told)
+    return found
 
 
 def _collections(element: Element, told: Told) -> list[Table]:

@@ -4,10 +4,14 @@ from __future__ import annotations
 import enum
 
 
+def visible(text: str) -> str:
+    """A text whose letters all can be seen: it can neither end a line nor move a terminal."""
+    return "".join(letter if letter.isprintable() else f"\\u{ord(letter):04X}" for letter in text)
+
+
 def on_one_line(text: str) -> str:
-    """A text whose blanks are single ones, and whose letters all can be seen: what a file says can neither end a line nor move a terminal."""
-    words = " ".join(text.split())
-    return "".join(letter if letter.isprintable() else f"\\u{ord(letter):04X}" for letter in words)
+    """A visible text whose blanks are single ones."""
+    return visible(" ".join(text.split()))
 
 
 class Rank(enum.IntEnum):
@@ -34,10 +38,10 @@ class Fault(Exception):
 
 
 class Told:
-    """The lines that are printed about one file."""
+    """The lines that are printed about one file, and its name in them."""
 
     def __init__(self, file: str) -> None:
-        self.file = file
+        self.file = visible(file)
         self._told: list[tuple[Rank, int, str]] = []
 
     def tell(self, rank: Rank, line: int, sentence: str) -> None:

@@ -8,17 +8,16 @@ Value = Union[str, int, bool, list, dict]
 
 _BARE_KEY = re.compile(r"[A-Za-z0-9_-]+")
 _ESCAPES = {'"': '\\"', "\\": "\\\\", "\n": "\\n", "\r": "\\r", "\t": "\\t"}
+_ESCAPED = re.compile(r'["\\\x00-\x1f\x7f]')
 
 
 def quoted(text: str) -> str:
     """A text in quotes."""
-    return '"' + "".join(_escaped(letter) for letter in text) + '"'
+    return '"' + _ESCAPED.sub(_escape, text) + '"'
 
 
-def _escaped(letter: str) -> str:
-    if letter in _ESCAPES:
-        return _ESCAPES[letter]
-    return f"\\u{ord(letter):04X}" if ord(letter) < 32 or ord(letter) == 127 else letter
+def _escape(found: re.Match[str]) -> str:
+    return _ESCAPES.get(found[0], f"\\u{ord(found[0]):04X}")
 
 
 def _key(text: str) -> str:

@@ -3,10 +3,9 @@ from __future__ import annotations
 
 import errno
 import os
-import tomllib
 from pathlib import Path
 
-from .files import PRIVATE, NewFile, open_regular, write_files
+from .files import PRIVATE, NewFile, locked, open_regular, write_files
 from .limits import MAX_LIST_ITEMS
 from .told import on_one_line
 from .users import User
@@ -18,15 +17,19 @@ def check_new(path: Path, name: str) -> None:
 
 
 def append(path: Path, user: User) -> None:
-    """Appends a user to a users file, which keeps its mode and owner. Creates the file, readable by its owner only, if there is none."""
-    text, status = _read(path, user.name)
-    gap = "\n" if text.strip() else ""
-    end = "\n" if text and not text.endswith("\n") else ""
-    new = text + end + gap + user.text()
-    _users(path, new)
-    write_files(
-        path.parent, [NewFile(path.name, new, PRIVATE, may_replace=status is not None, like=status)]
-    )
+    """Appends a user to a users file, which keeps its mode and owner. Creates the file, readable by its owner only, if there is none.
+
+    Of several processes that append users at once, each appends its own."""
+    with locked(path.parent):
+        text, status = _read(path, user.name)
+        gap = "\n" if text.strip() else ""
+        end = "\n" if text and not text.endswith("\n") else ""
+        new = text + end + gap + user.text()
+        if text:
+            # The old text may not go on with a further user.
+            _users(path, new)
+        file = NewFile(path.name, new, PRIVATE, may_replace=status is not None, like=status)
+        write_files(path.parent, [file])
 
 
 def _read(path: Path, name: str) -> tuple[str, os.stat_result | None]:
@@ -51,6 +54,12 @@ def _read(path: Path, name: str) -> tuple[str, os.stat_result | None]:
 
 def _users(path: Path, text: str) -> list[str]:
     """The names in the text of a users file."""
+    if not text:
+        return []
+    try:
+        import tomllib
+    except ModuleNotFoundError as error:
+        raise _refusal(path, "exists, and is read only by Python 3.11 or later") from error
     try:
         return [user["name"] for user in tomllib.loads(text).get("user", [])]
     except tomllib.TOMLDecodeError as error:
