@@ -1,11 +1,11 @@
 -- An example is canonical as it is written, and its best match is the pattern.
 use Rattle.std.proofs.lemmas.Bool.{and_parts, false≢true}
 use Rattle.std.proofs.lemmas.Slice.Eq.{bytes_eq-Decides}
-use Rattle.std.proofs.Common.{◌≡◌, ℕ, true, false, List, refl, ap, ap₂, sym, ◌∙◌, is_none, Option, None, Some, Result, Ok, Err}
+use Rattle.std.proofs.Common.{◌≡◌, ℕ, true, List, refl, ap, ap₂, sym, is_none, Option, None, Some, Result, Ok, Err}
 use Rattle.std.specs.Str.{bytes_eq}
 use Rattle.sv_mapping.proofs.FirstBest.{found_passes}
 use Rattle.sv_mapping.specs.BestMatch.{best_pattern}
-use Rattle.sv_uri.specs.Canonical.{begins_with_slash, canonical}
+use Rattle.sv_uri.specs.Canonical.{canonical}
 use Rattle.sv_uri.specs.Shape.{CanonicalHasShape, IsCanonicalPath}
 use Rattle.sv_uri.specs.declared.fault.PathFault.{PathFault}
 use Rattle.sv_uri.specs.declared.path.Canon.{Canon}

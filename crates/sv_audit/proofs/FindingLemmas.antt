@@ -1,5 +1,5 @@
 -- Each finding is right.
-use Rattle.std.proofs.lemmas.Bool.{and_parts, false≢true, or_cases, or_parts}
+use Rattle.std.proofs.lemmas.Bool.{not-true, and_parts, false≢true, or_cases, or_parts}
 use Rattle.std.proofs.lemmas.Bool.Decides.{Decides-eqb}
 use Rattle.std.proofs.lemmas.List.Elements.{All-append, All-cons, All-contains, All-contains_itself, All-head, All-map, All-nil, All-same, All-tail}
 use Rattle.std.proofs.lemmas.List.Sums.{AllPass-from_list_all}
@@ -13,7 +13,7 @@ use Rattle.sv_mapping.specs.BestMatch.{best_pattern, is_best, outranks}
 use Rattle.sv_mapping.specs.Pattern.{form, is_extension_pattern, matches}
 use Rattle.sv_mapping.specs.Segments.{is_rooted}
 use Rattle.sv_realm.specs.declared.caller.Caller.{Caller}
-use Rattle.sv_constraints.specs.Covering.{all_patterns, covering, covers, covers_method, lists, patterns_in}
+use Rattle.sv_constraints.specs.Covering.{all_patterns, covering, covers, lists, patterns_in}
 use Rattle.sv_constraints.specs.Verdict.{verdict, verdict_at}
 use Rattle.sv_constraints.specs.declared.cause.Cause.{Cause}
 use Rattle.sv_constraints.specs.declared.cause.Cause.TheVariants as cause
@@ -33,7 +33,7 @@ use Rattle.sv_audit.proofs.Found.{any_of, in_texts, root_matches}
 use Rattle.sv_audit.proofs.RowCells.{row_cell}
 use Rattle.sv_audit.proofs.Said.{said}
 use Rattle.sv_audit.specs.Access.{cell_at, roles_meant}
-use Rattle.sv_audit.proofs.OpenedLemmas.{AreOpen, are_open}
+use Rattle.sv_audit.proofs.OpenedLemmas.{AreOpen, are_open, kept_all}
 use Rattle.sv_audit.proofs.Shapes.{IsShaped, nothing_matches, served_shaped}
 use Rattle.sv_audit.specs.Dead.{dead_among, dead_patterns, dead_patterns_in, decides_nothing, escaped, escaped_in, is_beaten, is_dead, is_escaped, matches_nothing}
 use Rattle.sv_audit.specs.FindingLaws.{FindingsAreRight, IsMeant, IsNeverBest, IsRight, IsServed, names_in}
@@ -51,16 +51,6 @@ use Rattle.sv_audit.specs.declared.rows.Group.{Group}
 use Rattle.sv_audit.specs.declared.rows.Row.{Row}
 
 -- ---- Lists.
--- What holds of each item that passes holds of all that a filter keeps.
-module _ {X : Type 0} (P : X → Type 0) (test : X → Bool) where
-  kept_at : (x : X) (xs : List X) (b : Bool) → test x ≡ b → All (λ y. test y ≡ true → P y) (x ∷ xs) → All P (filter test xs) → All P (cond b (x ∷ filter test xs) (filter test xs))
-  kept_at x xs true is all rest = All-cons P x (filter test xs) (All-head (λ y. test y ≡ true → P y) x xs all is) rest
-  kept_at x xs false is all rest = rest
-
-  kept_all : (xs : List X) → All (λ y. test y ≡ true → P y) xs → All P (filter test xs)
-  kept_all [] all = All-nil P
-  kept_all (x ∷ xs) all = kept_at x xs (test x) refl all (kept_all xs (All-tail (λ y. test y ≡ true → P y) x xs all))
-
 -- What follows from each item that passes follows if some item passes.
 module _ {X : Type 0} (R : Type 0) (test : X → Bool) where
   found_at : (x : X) (xs : List X) (b : Bool) → test x ≡ b → (b || list_any test xs) ≡ true → All (λ y. test y ≡ true → R) (x ∷ xs) → (list_any test xs ≡ true → R) → R
@@ -80,10 +70,6 @@ all_fail : {X : Type 0} (test : X → Bool) (xs : List X) → list_any test xs �
 all_fail test [] none = All-nil (λ x. test x ≡ false)
 all_fail test (x ∷ xs) none =
     All-cons (λ y. test y ≡ false) x xs ((or_parts (test x) (list_any test xs) none).0) (all_fail test xs ((or_parts (test x) (list_any test xs) none).1))
-
-not_true : (a : Bool) → not a ≡ true → a ≡ false
-not_true true h = absurd (false≢true h)
-not_true false h = refl
 
 -- ---- The groups of a row that have a method have its cell.
 module _ (method : List ℕ) (cell : Cell) where
@@ -198,7 +184,7 @@ module _ (shapes : CanonicalHasShape) (constraints : List Constraint) where
   never_beaten : (path pattern : List ℕ) → is_rooted path ≡ true → has_prefix ≡ true → (bytes_eq pattern (codes "/") || is_extension_pattern pattern) ≡ true → best_pattern patterns path ≡ Some pattern → ⊥
   never_beaten path pattern rooted there beaten best =
       let none : list_any (λ other. matches other path && outranks other pattern) patterns ≡ false =
-      not_true (list_any (λ other. matches other path && outranks other pattern) patterns) (and_right (matches pattern path) (not (list_any (λ other. matches other path && outranks other pattern) patterns)) (found_in (is_best patterns path) patterns pattern best).0) in
+      not-true (list_any (λ other. matches other path && outranks other pattern) patterns) (and_right (matches pattern path) (not (list_any (λ other. matches other path && outranks other pattern) patterns)) (found_in (is_best patterns path) patterns pattern best).0) in
       false≢true (sym (any_of (λ other. matches other path && outranks other pattern) patterns (codes "/*") none
       (both (matches (codes "/*") path) (outranks (codes "/*") pattern) (root_matches path rooted) (below_at pattern (bytes_eq pattern (codes "/")) refl beaten))) ∙ there)
 
@@ -272,7 +258,7 @@ module _ (constraints : List Constraint) (rules : Rules) (held : Option (List (L
         there,
         refl,
         ap (λ (an_auth : Auth). lists (names_in an_auth) (slice_index_or names k d)) is ∙ in_texts names (slice_index_or names k d) (All-contains_itself names k d within),
-        not_true (lists rules.declared (slice_index_or names k d)) (and_right (is_role (slice_index_or names k d)) (not (lists rules.declared (slice_index_or names k d))) unknown),
+        not-true (lists rules.declared (slice_index_or names k d)) (and_right (is_role (slice_index_or names k d)) (not (lists rules.declared (slice_index_or names k d))) unknown),
       )))
 
   unknown_right : All (IsRight constraints rules held) (unknown_among rules.declared constraints)
@@ -306,7 +292,7 @@ module _ (constraints : List Constraint) (rules : Rules) (held : Option (List (L
         is,
         meant role (in_texts named role (All-contains_itself named k d within)),
         and_right (is_role role) (length rules.declared == 0 || lists rules.declared role) parts.0,
-        not_true (lists users role) parts.1,
+        not-true (lists users role) parts.1,
       )))
 
   not_meant : (role : List ℕ) → lists named role ≡ false → (c : Constraint) → Contains constraints c → lists (meant_by c) role ≡ false
@@ -318,7 +304,7 @@ module _ (constraints : List Constraint) (rules : Rules) (held : Option (List (L
   unused_at : (role : List ℕ) → lists (different unused_texts) role ≡ true → IsRight constraints rules held (finding.UnusedRole role)
   unused_at role there =
       let parts : (lists rules.declared role ≡ true) × (is_unused named role ≡ true) = and_parts (lists rules.declared role) (is_unused named role) (sym (passing_lists (is_unused named) rules.declared role) ∙ sym (different_lists unused_texts role) ∙ there) in
-      (parts.0, not_meant role (not_true (lists named role) (and_right (is_role role) (not (lists named role)) parts.1)))
+      (parts.0, not_meant role (not-true (lists named role) (and_right (is_role role) (not (lists named role)) parts.1)))
 
   unused_right : All (IsRight constraints rules held) (unused_roles rules.declared constraints)
   unused_right =

@@ -55,11 +55,11 @@ uncovered_from true true rest is open_to_all = absurd (false≢true (sym open_to
 uncovered_from true false rest is open_to_all = refl
 uncovered_from false denied rest is open_to_all = absurd (false≢true is)
 
-covered_from : (none precluded transport opened any : Bool) (first : Access) (names : List (List ℕ)) → none ≡ false
-    → is_left_open (cond none first (cond precluded Precluded (cond transport NeedsTls (cond opened Everyone (cond any AnyLogin (Roles names)))))) ≡ false
-covered_from true precluded transport opened any first names is = absurd (false≢true (sym is))
-covered_from false true transport opened any first names is = refl
-covered_from false false true opened any first names is = refl
+covered_from : (none precluded transport lets_in any : Bool) (first : Access) (names : List (List ℕ)) → none ≡ false
+    → is_left_open (cond none first (cond precluded Precluded (cond transport NeedsTls (cond lets_in Everyone (cond any AnyLogin (Roles names)))))) ≡ false
+covered_from true precluded transport lets_in any first names is = absurd (false≢true (sym is))
+covered_from false true transport lets_in any first names is = refl
+covered_from false false true lets_in any first names is = refl
 covered_from false false false true any first names is = refl
 covered_from false false false false true first names is = refl
 covered_from false false false false false first names is = refl

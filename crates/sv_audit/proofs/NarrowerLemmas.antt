@@ -1,11 +1,11 @@
 -- Narrower patterns are those that are chosen before another one at some path.
-use Rattle.std.proofs.lemmas.Bool.{and_parts, false_from_ne_true, false≢true, not_from_false, not_from_true, or_cases, or_left, or_right}
+use Rattle.std.proofs.lemmas.Bool.{not-true, and_parts, false_from_ne_true, false≢true, not_from_false, not_from_true, or_cases, or_left, or_right}
 use Rattle.std.proofs.lemmas.Bool.Decides.{Decides-eqb, nat_tests}
 use Rattle.std.proofs.lemmas.List.{get_or-append_right, get_or_at}
 use Rattle.std.proofs.lemmas.List.Folds.{list_any_at}
 use Rattle.std.proofs.lemmas.List.Sums.{suffix_len_is}
 use Rattle.std.proofs.lemmas.Slice.Eq.{bytes_eq-Decides, starts_is}
-use Rattle.std.proofs.Common.{arith, ◌≡◌, ℕ, ◌+◌, ◌-◌, ◌<◌, ◌≤◌, zero, suc, Bool, true, false, not, ◌||◌, ◌&&◌, ◌⊎◌, List, [], ◌∷◌, ◌++◌, append_assoc, length, length-append, take, drop, codes, refl, ap, ap₂, sym, ◌∙◌, cond, Option, None, Some, inl, inr}
+use Rattle.std.proofs.Common.{arith, ◌≡◌, ℕ, ◌+◌, ◌-◌, ◌<◌, ◌≤◌, zero, suc, Bool, true, false, not, ◌||◌, ◌&&◌, List, [], ◌∷◌, ◌++◌, append_assoc, length, length-append, take, drop, codes, refl, ap, ap₂, sym, ◌∙◌, cond, None, Some, inl, inr}
 use Rattle.std.specs.Prelude.{◌≢◌, Contains, nat_eq, nat_le, nat_lt, slice_index_or}
 use Rattle.std.specs.List.{after_last, list_any, starts_with, suffix_len}
 use Rattle.std.specs.Option.{option_map_or}
@@ -14,13 +14,13 @@ use Rattle.sv_constraints.specs.Covering.{lists}
 use Rattle.sv_mapping.proofs.BestMatches.{unbeaten_by_member}
 use Rattle.sv_mapping.proofs.Texts.{within_front}
 use Rattle.sv_mapping.proofs.Uniqueness.{form_text-form, same_text}
-use Rattle.sv_mapping.specs.BestMatch.{BestIsAMatch, best_pattern, form_rank, is_above, is_best, outranks}
-use Rattle.sv_mapping.specs.Pattern.{Form, Root, Default, Extension, Prefix, Exact, extension, form, form_matches, form_text, has_extension, is_at_or_below, is_dot, is_pattern, is_slash, last_segment, matches}
+use Rattle.sv_mapping.specs.BestMatch.{BestIsAMatch, form_rank, is_above, is_best, outranks}
+use Rattle.sv_mapping.specs.Pattern.{Form, Root, Default, Extension, Prefix, Exact, form, form_matches, form_text, has_extension, is_at_or_below, is_dot, is_pattern, is_slash, last_segment, matches}
 use Rattle.sv_mapping.specs.declared.pattern.TheConstants.{MAX_PATTERN_BYTES}
 use Rattle.sv_policy.proofs.Best.{found_in}
 use Rattle.sv_policy.proofs.Steps.{passing_lists}
 use Rattle.sv_audit.proofs.Shapes.{undotted_extension}
-use Rattle.sv_audit.specs.Narrower.{NarrowerAreComplete, NarrowerAreSound, all_narrower, cuts}
+use Rattle.sv_audit.specs.Narrower.{NarrowerAreComplete, NarrowerAreSound, cuts}
 
 -- ---- A longer prefix of the same path is below the shorter one.
 take_past : (front : List ℕ) (n : ℕ) (rest : List ℕ) → take (length front + suc n) (front ++ 47 ∷ rest) ≡ front ++ 47 ∷ take n rest
@@ -186,10 +186,6 @@ has_no_slash (Exact text) = true
 abbrev IsChosen : Form → Form → Type 0
 IsChosen first second = (path : List ℕ) × (form_matches second path ≡ true) × (form_matches first path ≡ true) × (is_above (form_rank first) (form_rank second) ≡ true)
 
-not_false : (a : Bool) → not a ≡ true → a ≡ false
-not_false true h = absurd (false≢true h)
-not_false false h = refl
-
 chosen_from : (first second : Form) → has_no_slash first ≡ true → has_no_slash second ≡ true → cuts first second ≡ true → IsChosen first second
 chosen_from Root Root p q is = absurd (false≢true is)
 chosen_from Root (Exact text) p q is = absurd (false≢true is)
@@ -206,13 +202,13 @@ chosen_from (Prefix longer) (Exact text) p q is = absurd (false≢true is)
 chosen_from (Prefix longer) (Prefix prefix) p q is =
     let parts : (nat_lt (length prefix) (length longer) ≡ true) × (is_at_or_below prefix longer ≡ true) = and_parts (nat_lt (length prefix) (length longer)) (is_at_or_below prefix longer) is in
     (longer, parts.1, itself_below longer, parts.0)
-chosen_from (Prefix longer) (Extension wanted) p q is = (page longer wanted, page_has longer wanted (not_false (list_any is_slash wanted) q) (not_false (list_any is_dot wanted) is), page_below longer wanted, refl)
+chosen_from (Prefix longer) (Extension wanted) p q is = (page longer wanted, page_has longer wanted (not-true (list_any is_slash wanted) q) (not-true (list_any is_dot wanted) is), page_below longer wanted, refl)
 chosen_from (Prefix longer) Default p q is = (longer, refl, itself_below longer, refl)
 chosen_from (Extension wanted) Root p q is = absurd (false≢true is)
 chosen_from (Extension wanted) (Exact text) p q is = absurd (false≢true is)
 chosen_from (Extension wanted) (Prefix prefix) p q is = absurd (false≢true is)
 chosen_from (Extension wanted) (Extension other) p q is = absurd (false≢true is)
-chosen_from (Extension wanted) Default p q is = (page [] wanted, refl, page_has [] wanted (not_false (list_any is_slash wanted) p) (not_false (list_any is_dot wanted) is), refl)
+chosen_from (Extension wanted) Default p q is = (page [] wanted, refl, page_has [] wanted (not-true (list_any is_slash wanted) p) (not-true (list_any is_dot wanted) is), refl)
 chosen_from Default Root p q is = absurd (false≢true is)
 chosen_from Default (Exact text) p q is = absurd (false≢true is)
 chosen_from Default (Prefix prefix) p q is = absurd (false≢true is)

@@ -1,11 +1,11 @@
 -- Pairs of constraints of which one opens what the other restricts.
-use Rattle.std.proofs.lemmas.Bool.{cases_Bool, false≢true, or_cases, or_from, or_parts}
+use Rattle.std.proofs.lemmas.Bool.{not-true, cases_Bool, false≢true, or_from}
 use Rattle.std.proofs.lemmas.List.Elements.{All-contains_itself, All-head, All-cons, All-tail}
 use Rattle.std.proofs.lemmas.List.Folds.{list_any_at}
-use Rattle.std.proofs.lemmas.List.{length-append, length-replicate}
+use Rattle.std.proofs.lemmas.List.{length-replicate}
 use Rattle.std.proofs.lemmas.Slice.Eq.{bytes_eq-Decides}
-use Rattle.std.proofs.Common.{arith, ◌≡◌, ℕ, ◌+◌, ◌<◌, zero, suc, Bool, true, false, not, ◌||◌, ◌&&◌, ◌==◌, List, [], ◌∷◌, ◌++◌, length, map, min, replicate, refl, ap, ap₂, sym, ◌∙◌, cond, Option, None, Some, is_some, inl, inr, ◌⊎◌}
-use Rattle.std.specs.Prelude.{All, Contains, filter, fold, slice_index_or}
+use Rattle.std.proofs.Common.{arith, ◌≡◌, ℕ, ◌+◌, ◌<◌, Bool, true, false, not, ◌||◌, ◌&&◌, ◌==◌, List, [], ◌∷◌, length, map, min, replicate, refl, ap, ap₂, sym, ◌∙◌, cond, Option, None, Some, is_some, inl, inr, ◌⊎◌}
+use Rattle.std.specs.Prelude.{All, Contains, filter, fold}
 use Rattle.std.specs.List.{list_any}
 use Rattle.std.specs.Str.{bytes_eq}
 use Rattle.sv_realm.specs.declared.caller.Caller.{Caller}
@@ -21,10 +21,10 @@ use Rattle.sv_constraints.specs.declared.owned_decision.OwnedDecision.TheVariant
 use Rattle.sv_constraints.specs.declared.owned_decision.OwnedWhy.{OwnedWhy}
 use Rattle.sv_policy.proofs.Best.{any_in, or_right}
 use Rattle.sv_policy.proofs.Named.{unnamed_members}
-use Rattle.sv_policy.specs.Covering.{covers_at, named_methods}
+use Rattle.sv_policy.specs.Covering.{named_methods}
 use Rattle.sv_audit.specs.FindingLaws.{AreBothOn}
 use Rattle.sv_audit.specs.Opened.{is_below, is_restricted, lesser_pair, opened_by, opened_for, opened_pair, pair_of}
-use Rattle.sv_audit.specs.Reading.{Kind, IsDenied, Passes, kind_and_cause}
+use Rattle.sv_audit.specs.Reading.{Kind, Passes, kind_and_cause}
 
 -- ---- Pairs.
 lesser_is : (one other : Option (ℕ × ℕ)) (pair : ℕ × ℕ) → lesser_pair one other ≡ Some pair → (one ≡ Some pair) ⊎ (other ≡ Some pair)
@@ -86,9 +86,9 @@ module _ {X : Type 0} (P : X → Type 0) (test : X → Bool) where
   kept_at x xs true is all rest = All-cons P x (filter test xs) (All-head (λ y. test y ≡ true → P y) x xs all is) rest
   kept_at x xs false is all rest = rest
 
-  kept : (xs : List X) → All (λ y. test y ≡ true → P y) xs → All P (filter test xs)
-  kept [] all = λ k d within. absurd (omega (arith, within))
-  kept (x ∷ xs) all = kept_at x xs (test x) refl all (kept xs (All-tail (λ y. test y ≡ true → P y) x xs all))
+  pub kept_all : (xs : List X) → All (λ y. test y ≡ true → P y) xs → All P (filter test xs)
+  kept_all [] all = λ k d within. absurd (omega (arith, within))
+  kept_all (x ∷ xs) all = kept_at x xs (test x) refl all (kept_all xs (All-tail (λ y. test y ≡ true → P y) x xs all))
 
 module _ (P : Constraint → Type 0) where
   abbrev HasNumber : ℕ → Type 0
@@ -120,10 +120,6 @@ module _ (members : List Constraint) where
   pair_is (Some a) (Some b) pair is = let same : (a, b) ≡ pair = cc in (ap (λ (p : ℕ × ℕ). Some p.0) same, ap (λ (p : ℕ × ℕ). Some p.1) same)
   pair_is (Some a) None pair is = cc
   pair_is None two pair is = cc
-
-  not_false : (a : Bool) → not a ≡ false → a ≡ true
-  not_false true h = refl
-  not_false false h = absurd (false≢true (sym h))
 
   opens_at : (pair : ℕ × ℕ) (bars plain : Bool) → is_some (least_where precludes members) ≡ bars → list_any permits_plain members ≡ plain → cond (bars || not plain) None (pair_of (least_where is_open members) (least_where is_restricted members)) ≡ Some pair → Opens pair.0 pair.1
   opens_at pair true plain was is found = cc
@@ -213,13 +209,9 @@ module _ (constraints : List Constraint) (pattern : List ℕ) where
 
   all_on : (test : Constraint → Bool) (method : List ℕ) → All (IsOn test method) (filter test (filter (λ c. covers c pattern method) constraints))
   all_on test method =
-      kept (IsOn test method) test (filter (λ c. covers c pattern method) constraints)
-      (kept (λ c. test c ≡ true → IsOn test method c) (λ c. covers c pattern method) constraints
+      kept_all (IsOn test method) test (filter (λ c. covers c pattern method) constraints)
+      (kept_all (λ c. test c ≡ true → IsOn test method c) (λ c. covers c pattern method) constraints
       (λ k d within covered passing. (All-contains_itself constraints k d within, covered, passing)))
-
-  not_open : (a : Bool) → not a ≡ true → a ≡ false
-  not_open true h = absurd (false≢true h)
-  not_open false h = refl
 
   both_on : (method : List ℕ) (pair : ℕ × ℕ) → opened_for constraints pattern (Some method) ≡ Some pair → AreOpenFor method pair.0 pair.1
   both_on method pair is =
@@ -234,7 +226,7 @@ module _ (constraints : List Constraint) (pattern : List ℕ) where
           first_number = one.2;
           second_number = two.2;
           opens = one.1.2;
-          restricts = not_open (is_open two.0) two.1.2;
+          restricts = not-true (is_open two.0) two.1.2;
           first_covers = one.1.1;
           second_covers = two.1.1;
         },

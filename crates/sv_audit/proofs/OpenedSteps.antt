@@ -1,5 +1,5 @@
 -- The pair of a pattern by the constraints on it.
-use Rattle.std.proofs.Common.{◌≡◌, ℕ, List, [], ◌∷◌, refl, ap, ap₂, sym, ◌∙◌, Option, None, Some}
+use Rattle.std.proofs.Common.{◌≡◌, ℕ, List, [], ◌∷◌, refl, ap, ap₂, ◌∙◌, Option, None, Some}
 use Rattle.std.specs.Prelude.{filter, fold}
 use Rattle.sv_constraints.specs.Covering.{covers}
 use Rattle.sv_constraints.specs.declared.constraint.Constraint.{Constraint}

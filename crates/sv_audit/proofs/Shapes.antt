@@ -1,5 +1,5 @@
 -- The paths of requests, and patterns that match none of them.
-use Rattle.std.proofs.lemmas.Bool.{and_parts, cases_Bool, false≢true, not_from_true, or_cases, or_from, or_parts}
+use Rattle.std.proofs.lemmas.Bool.{not-true, and_parts, false≢true, not_from_true, or_cases, or_from, or_parts}
 use Rattle.std.proofs.lemmas.Bool.Decides.{Decides-eqb}
 use Rattle.std.proofs.lemmas.List.{get_or-drop, get_or-reverse}
 use Rattle.std.proofs.lemmas.List.Elements.{All-drop, All-weaker}
@@ -7,13 +7,13 @@ use Rattle.std.proofs.lemmas.List.Folds.{list_all-append, list_any-append, list_
 use Rattle.std.proofs.lemmas.List.Splits.{length-slice_split}
 use Rattle.std.proofs.lemmas.List.Sums.{AllPass-from_list_all, list_all-from_AllPass, prefix_len_passes, suffix_len-le-length}
 use Rattle.std.proofs.lemmas.Slice.Eq.{bytes_eq-Decides, starts_is}
-use Rattle.std.proofs.Common.{arith, ◌≡◌, ℕ, ◌+◌, ◌-◌, ◌<◌, zero, suc, Bool, true, false, not, ◌||◌, ◌&&◌, List, [], ◌∷◌, ◌++◌, length, length-drop, reverse, take, drop, zip, codes, refl, ap, ap₂, sym, ◌∙◌, cond, append_assoc, Option, None, Some, Ok, inl, inr}
+use Rattle.std.proofs.Common.{arith, ◌≡◌, ℕ, ◌+◌, ◌-◌, ◌<◌, suc, Bool, true, false, not, ◌||◌, ◌&&◌, List, [], ◌∷◌, ◌++◌, length, length-drop, reverse, take, drop, codes, refl, ap, sym, ◌∙◌, cond, append_assoc, None, Some, inl, inr}
 use Rattle.std.specs.Prelude.{nat_eq, slice_index_or}
-use Rattle.std.specs.List.{AllPass, after_last, list_all, list_any, onto_first, slice_split, starts_with, suffix_len, prefix_len}
+use Rattle.std.specs.List.{AllPass, after_last, list_all, list_any, onto_first, starts_with, suffix_len}
 use Rattle.std.specs.Option.{option_map_or}
 use Rattle.std.specs.Str.{bytes_eq}
 use Rattle.sv_mapping.proofs.Rooted.{slashed_rooted}
-use Rattle.sv_mapping.specs.Pattern.{Form, Root, Default, Extension, Prefix, Exact, extension, form, form_matches, has_extension, is_at_or_below, is_dot, is_slash, last_segment, matches}
+use Rattle.sv_mapping.specs.Pattern.{Form, Root, Default, Extension, Prefix, Exact, form, form_matches, has_extension, is_at_or_below, is_dot, is_slash, last_segment, matches}
 use Rattle.sv_mapping.specs.Segments.{between_slashes, is_rooted}
 use Rattle.sv_mapping.specs.Within.{path_within}
 use Rattle.sv_uri.specs.Canonical.{begins_with_slash}
@@ -172,13 +172,9 @@ ends_pass test xs k d within =
     let back : length xs - 1 - place ≡ start + k = omega (arith, inside, fits) in
     ap test (there ∙ sym (turned ∙ ap (λ n. slice_index_or xs n d) back)) ∙ prefix_len_passes test (reverse xs) place d (omega (arith, inside, fits))
 
-not_false : (a : Bool) → not a ≡ true → a ≡ false
-not_false true h = absurd (false≢true h)
-not_false false h = refl
-
 after_has_none : (test : ℕ → Bool) (xs : List ℕ) → list_any test (after_last test xs) ≡ false
 after_has_none test xs =
-    list_any_none test (after_last test xs) (All-weaker (λ x. not (test x) ≡ true) (λ x. test x ≡ false) (λ x passes. not_false (test x) passes) (after_last test xs) (ends_pass (λ x. not (test x)) xs))
+    list_any_none test (after_last test xs) (All-weaker (λ x. not (test x) ≡ true) (λ x. test x ≡ false) (λ x passes. not-true (test x) passes) (after_last test xs) (ends_pass (λ x. not (test x)) xs))
 
 after_keeps : (test keep : ℕ → Bool) (xs : List ℕ) → list_all keep xs ≡ true → list_all keep (after_last test xs) ≡ true
 after_keeps test keep xs all =
@@ -216,7 +212,7 @@ canonical_shaped : (path rest : List ℕ) → path ≡ 47 ∷ rest → IsCanonic
 canonical_shaped path rest slash it = (
   no_gap (has_empty_folder path) refl,
   ap has_dot_segment slash
-      ∙ list_any_none is_dot_segment (between_slashes rest) (All-weaker (λ segment. not (is_dot_segment segment) ≡ true) (λ segment. is_dot_segment segment ≡ false) (λ segment passes. not_false (is_dot_segment segment) passes) (between_slashes rest) parts),
+      ∙ list_any_none is_dot_segment (between_slashes rest) (All-weaker (λ segment. not (is_dot_segment segment) ≡ true) (λ segment. is_dot_segment segment ≡ false) (λ segment passes. not-true (is_dot_segment segment) passes) (between_slashes rest) parts),
   list_all-from_AllPass may_stand_in_a_path path it.plain,
 )
   where
@@ -224,7 +220,7 @@ canonical_shaped path rest slash it = (
     parts = rw slash at it.undotted
 
     no_folder : list_any is_empty (folders_of path) ≡ false
-    no_folder = list_any_none is_empty (folders_of path) (All-weaker (λ segment. not (is_empty segment) ≡ true) (λ segment. is_empty segment ≡ false) (λ segment passes. not_false (is_empty segment) passes) (folders_of path) it.filled)
+    no_folder = list_any_none is_empty (folders_of path) (All-weaker (λ segment. not (is_empty segment) ≡ true) (λ segment. is_empty segment ≡ false) (λ segment passes. not-true (is_empty segment) passes) (folders_of path) it.filled)
 
     no_gap : (gap : Bool) → has_empty_folder path ≡ gap → gap ≡ false
     no_gap false is = refl
@@ -234,7 +230,7 @@ begins : (path : List ℕ) → begins_with_slash path ≡ true → (rest : List 
 begins [] is = absurd (false≢true is)
 begins (b ∷ rest) is = (rest, grind arith)
 
-after : (front rest : List ℕ) → drop (length front) ((front ++ 47 ∷ []) ++ rest) ≡ 47 ∷ rest
+pub after : (front rest : List ℕ) → drop (length front) ((front ++ 47 ∷ []) ++ rest) ≡ 47 ∷ rest
 after [] rest = refl
 after (b ∷ front) rest = after front rest
 

@@ -1,5 +1,5 @@
 -- Patterns that decide nothing (Jakarta Servlet 6.0, sections 3.5.2, 12.1 and 12.2).
-use Rattle.std.specs.Prelude.{ℕ, Bool, true, false, not, ◌&&◌, ◌||◌, ◌==◌, List, [], ◌++◌, codes, drop, filter, map, zip, if◌then◌else◌}
+use Rattle.std.specs.Prelude.{ℕ, Bool, false, not, ◌&&◌, ◌||◌, ◌==◌, List, [], codes, drop, filter, map, zip, if◌then◌else◌}
 use Rattle.std.specs.List.{flat_map, list_all, list_any}
 use Rattle.std.specs.Str.{byte, bytes_eq}
 use Rattle.sv_mapping.specs.Pattern.{Form, Root, Default, Extension, Prefix, Exact, form, is_dot, is_extension_pattern, is_slash}

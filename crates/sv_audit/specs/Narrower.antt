@@ -1,5 +1,5 @@
 -- The patterns that are chosen before another one at some of its paths (Jakarta Servlet 6.0, sections 12.1 and 12.2).
-use Rattle.std.specs.Prelude.{◌≡◌, ◌≢◌, ℕ, Bool, true, false, not, ◌&&◌, nat_le, nat_lt, List, length, codes, filter, map, take, Option, Some, IsTrue}
+use Rattle.std.specs.Prelude.{◌≡◌, ◌≢◌, ℕ, Bool, true, false, not, ◌&&◌, nat_le, nat_lt, List, length, codes, filter, take, Some, IsTrue}
 use Rattle.std.specs.List.{list_any}
 use Rattle.sv_mapping.specs.BestMatch.{best_pattern, outranks}
 use Rattle.sv_mapping.specs.Pattern.{Form, Root, Default, Extension, Prefix, Exact, form, has_extension, is_at_or_below, is_dot, is_pattern, matches}

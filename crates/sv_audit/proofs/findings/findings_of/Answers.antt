@@ -1,4 +1,4 @@
-use Rattle.std.proofs.Common.{ℕ, List, [], ◌++◌, Option, option_copied, codes, ap, ◌∙◌}
+use Rattle.std.proofs.Common.{ℕ, List, ◌++◌, Option, option_copied, codes, ap, ◌∙◌}
 use Rattle.std.specs.List.{flat_map}
 use Rattle.sv_constraints.specs.Covering.{all_patterns, lists}
 use Rattle.sv_constraints.specs.declared.constraint.Constraint.{Constraint}
