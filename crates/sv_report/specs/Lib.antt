@@ -1,5 +1,13 @@
 pub mod Escaped
+pub mod Parts
 pub mod Words
+pub mod Places
+pub mod Viewers
+pub mod Details
+pub mod FindingWords
 pub mod FindingText
 pub mod Text
+pub mod JsonParts
+pub mod FindingJson
 pub mod Json
+pub mod Keys

@@ -1,8 +1,8 @@
 use Rattle.std.proofs.Common.{rules}
 use Rattle.serde_json.specs.declared.value.Value.{the_lemmas}
-use Rattle.sv_report.specs.Json.{unknown_role_value}
-use Rattle.sv_report.proofs.values.unknown_role_value.Goals as goal
+use Rattle.sv_report.specs.Json.{named_viewer}
+use Rattle.sv_report.proofs.values.named_viewer.Goals as goal
 
 pub returns : goal.returns
-unfolding unknown_role_value
+unfolding named_viewer
 returns c = search (rules, the_lemmas)
