@@ -1,16 +1,21 @@
 -- The JSON of access tables has no floats.
 use Rattle.std.proofs.Common.{◌≡◌, ℕ, Bool, false, ◌||◌, List, [], ◌∷◌, map, refl, ap, ap₂, Option, None, Some}
-use Rattle.serde_json.specs.Data.{Data, string}
+use Rattle.serde_json.specs.Data.{Data, boolean, object, string}
 use Rattle.serde_json.specs.View.{items_of}
 use Rattle.serde_json.specs.Written.{has_float, items_have_float}
 use Rattle.sv_policy.specs.Covering.{method_names}
-use Rattle.sv_constraints.specs.declared.constraint.Methods.{Methods}
-use Rattle.sv_report.specs.Json.{audit_value, context_value, dead_value, finding_value, group_value, head_value, number_value, roles_in, row_value, strings, text_value, uncovered_value, unknown_role_value}
+use Rattle.sv_report.specs.FindingJson.{finding_members, finding_value}
+use Rattle.sv_report.specs.FindingWords.{kind_name}
+use Rattle.sv_report.specs.Json.{audit_value, context_value, group_value, named_viewer, row_value, viewer_enters, viewer_value}
+use Rattle.sv_report.specs.JsonParts.{number_value, roles_in, strings, text_value, truth_value}
+use Rattle.sv_report.specs.Places.{line_of}
 use Rattle.sv_audit.specs.declared.finding.Finding.{Finding}
 use Rattle.sv_audit.specs.declared.finding.Finding.TheVariants.{Uncovered, Dead, UnknownRole, HeadDiffers}
-use Rattle.sv_report.specs.declared.context_table.ContextTable.{ContextTable}
+use Rattle.sv_report.specs.declared.report.ContextReport.{ContextReport}
+use Rattle.sv_report.specs.declared.report.ReportedFinding.{ReportedFinding}
+use Rattle.sv_report.specs.declared.report.ReportedRow.{ReportedRow}
+use Rattle.sv_report.specs.declared.report.Viewer.{Viewer}
 use Rattle.sv_audit.specs.declared.rows.Group.{Group}
-use Rattle.sv_audit.specs.declared.rows.Row.{Row}
 
 either : (a b : Bool) → a ≡ false → b ≡ false → (a || b) ≡ false
 either a b p q = ap₂ (λ x y. x || y) p q
@@ -30,43 +35,49 @@ in_text : (text : Option (List ℕ)) → has_float (text_value text) ≡ false
 in_text None = refl
 in_text (Some text) = refl
 
-in_group : (has_login : Bool) (group : Group) → has_float (group_value has_login group) ≡ false
+in_truth : (holds : Option Bool) → has_float (truth_value holds) ≡ false
+in_truth None = refl
+in_truth (Some holds) = refl
+
+in_group : (context : ContextReport) (group : Group) → has_float (group_value context group) ≡ false
 unfolding group_value
-in_group has_login group =
+in_group context group =
     ap₂ (λ a b. a || b) (in_number group.cell.constraint)
-    (ap₂ (λ a b. a || (b || false)) (in_strings (method_names group.methods)) (in_strings (roles_in group.cell.access)))
+    (ap₂ (λ a b. a || b) (in_number (line_of context.lines group.cell.constraint))
+    (ap₂ (λ a b. a || b) (in_strings (method_names group.methods))
+    (ap₂ (λ a b. a || (b || false)) (in_strings (roles_in group.cell.access)) (in_truth (viewer_enters context.viewer context.has_login group.cell.access)))))
 
-in_row : (has_login : Bool) (row : Row) → has_float (row_value has_login row) ≡ false
+in_row : (context : ContextReport) (reported : ReportedRow) → has_float (row_value context reported) ≡ false
 unfolding row_value
-in_row has_login row = ap₂ (λ a b. a || (b || false)) (no_floats (group_value has_login) (in_group has_login) row.groups) (in_text row.pattern)
+in_row context reported =
+    ap₂ (λ a b. a || b) (in_text reported.example)
+    (ap₂ (λ a b. a || b) (no_floats (group_value context) (in_group context) reported.row.groups)
+    (ap₂ (λ a b. a || b) (in_strings reported.narrower.patterns)
+    (ap₂ (λ a b. a || (b || false)) (in_text reported.row.pattern) (in_text reported.servlet))))
 
-in_uncovered : (pattern : List ℕ) (methods : Methods) → has_float (uncovered_value pattern methods) ≡ false
-unfolding uncovered_value
-in_uncovered pattern methods = ap (λ a. a || false) (in_strings (method_names methods))
+in_viewer : (viewer : Option Viewer) → has_float (viewer_value viewer) ≡ false
+unfolding named_viewer
+in_viewer None = refl
+in_viewer (Some viewer) = ap (λ a. a || false) (in_strings viewer.roles)
 
-in_dead : (number : ℕ) → has_float (dead_value number) ≡ false
-unfolding dead_value
-in_dead number = refl
+in_members : (is_accepted : Bool) (constraint line : Option ℕ) (key kind : List ℕ) (finding : Finding)
+    → has_float (object (finding_members (boolean is_accepted) (number_value constraint) (string key) (string kind) (number_value line) finding)) ≡ false
+in_members is_accepted constraint line key kind (Uncovered pattern methods) =
+    ap₂ (λ a b. a || b) (in_number constraint) (ap₂ (λ a b. a || (b || false)) (in_number line) (in_strings (method_names methods)))
+in_members is_accepted constraint line key kind (Dead number) = ap₂ (λ a b. a || (b || false)) (in_number constraint) (in_number line)
+in_members is_accepted constraint line key kind (UnknownRole number role) = ap₂ (λ a b. a || (b || false)) (in_number constraint) (in_number line)
+in_members is_accepted constraint line key kind (HeadDiffers pattern) = ap₂ (λ a b. a || (b || false)) (in_number constraint) (in_number line)
 
-in_unknown_role : (number : ℕ) (role : List ℕ) → has_float (unknown_role_value number role) ≡ false
-unfolding unknown_role_value
-in_unknown_role number role = refl
+in_finding : (lines : List (Option ℕ)) (reported : ReportedFinding) → has_float (finding_value lines reported) ≡ false
+unfolding finding_value
+in_finding lines reported = in_members reported.is_accepted reported.constraint (line_of lines reported.constraint) reported.key (kind_name reported.finding) reported.finding
 
-in_head : (pattern : List ℕ) → has_float (head_value pattern) ≡ false
-unfolding head_value
-in_head pattern = refl
-
-in_finding : (finding : Finding) → has_float (finding_value finding) ≡ false
-in_finding (Uncovered pattern methods) = in_uncovered pattern methods
-in_finding (Dead number) = in_dead number
-in_finding (UnknownRole number role) = in_unknown_role number role
-in_finding (HeadDiffers pattern) = in_head pattern
-
-in_context : (context : ContextTable) → has_float (context_value context) ≡ false
+in_context : (context : ContextReport) → has_float (context_value context) ≡ false
 unfolding context_value
 in_context context =
-    ap₂ (λ a b. a || (b || false)) (no_floats finding_value in_finding context.findings) (no_floats (row_value context.has_login) (in_row context.has_login) context.table.rows)
+    ap₂ (λ a b. a || b) (no_floats (finding_value context.lines) (in_finding context.lines) context.findings)
+    (ap₂ (λ a b. a || (b || false)) (no_floats (row_value context) (in_row context) context.rows) (in_viewer context.viewer))
 
-pub in_audit : (contexts : List ContextTable) → has_float (audit_value contexts) ≡ false
+pub in_audit : (contexts : List ContextReport) → has_float (audit_value contexts) ≡ false
 unfolding audit_value
 in_audit contexts = ap (λ a. a || false) (no_floats context_value in_context contexts)

@@ -1,1 +1,3 @@
 pub mod JsonLemmas
+pub mod MarkupLemmas
+pub mod HtmlLemmas

@@ -1,8 +1,6 @@
 -- The texts of the columns of access tables.
 use Rattle.std.specs.Prelude.{ℕ, Bool, List, [], ◌∷◌, ◌++◌, codes, Option, None, Some, if◌then◌else◌}
-use Rattle.std.specs.Fmt.{decimal}
 use Rattle.std.specs.List.{flat_map}
-use Rattle.std.specs.Option.{option_map_or}
 use Rattle.sv_constraints.specs.declared.constraint.Methods.{Methods}
 use Rattle.sv_constraints.specs.declared.constraint.Methods.TheVariants.{All, Only, Except}
 use Rattle.sv_report.specs.Escaped.{escaped}
@@ -42,6 +40,3 @@ who_text has_login Everyone = codes "everyone"
 who_text has_login AnyLogin = logged_in has_login (codes "any login")
 who_text has_login (Roles []) = codes "nobody (no such role)"
 who_text has_login (Roles (name ∷ names)) = logged_in has_login (codes "role " ++ names_text (name ∷ names))
-
-abbrev pub number_text : Option ℕ → List ℕ
-number_text number = option_map_or decimal number (codes "-")

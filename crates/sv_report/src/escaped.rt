@@ -21,7 +21,8 @@ pub fn escaped(alloc: Global, text: &str) -> Result<Text, NoMemory>
     Ok(Text::from_string(shown))
 }
 
-fn characters(alloc: Global, text: &str) -> Result<Vec<char>, NoMemory>
+/// Returns the characters of a text.
+pub fn characters(alloc: Global, text: &str) -> Result<Vec<char>, NoMemory>
     ensures { IfOk result (λ found. found.items ≡ chars text.now) }
 {
     Ok(text.chars().collect(alloc)?)
@@ -48,7 +49,8 @@ fn push_character(text: &mut String, character: char) -> Result<(), NoMemory>
     }
 }
 
-fn push_escape(text: &mut String, code: u32) -> Result<(), NoMemory>
+/// Appends `\x` and two hexadecimal digits.
+pub fn push_escape(text: &mut String, code: u32) -> Result<(), NoMemory>
     requires { code < 256 }
     ensures { OnOk result (string_bytes text.new ≡ string_bytes text.old ++ spec.escape_text code) }
 {

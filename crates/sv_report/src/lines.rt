@@ -5,12 +5,16 @@ ghost use Rattle.std.specs.List.{flat_map};
 ghost use Rattle.sv_text.specs.Gives.{GivesAnswer};
 ghost use Rattle.sv_report.specs.Text as spec;
 
-use crate::context_table::ContextTable;
+use crate::details::detail_line;
 use crate::escaped::escaped;
 use crate::finding_lines::push_findings;
-use crate::words::{methods_text, number_text, pattern_text, who_text};
+use crate::parts::push_all;
+use crate::places::constraint_text;
+use crate::report::{ContextReport, ReportedRow, Viewer};
+use crate::viewers::{entry_text, hidden_text, viewer_title};
+use crate::words::{methods_text, pattern_text};
 use std::alloc::Global;
-use sv_audit::{Group, Row};
+use sv_audit::Group;
 use sv_text::{NoMemory, Text};
 use sv_uri::shown_context;
 
@@ -32,12 +36,13 @@ struct Columns<'a> {
     constraint: &'a str,
 }
 
-/// Returns the text of the access tables of contexts: a line for each group of methods, lines for the folders that are
-/// never served and for the login post, and a line for each finding. Control characters are escaped.
+/// Returns the text of the access tables of contexts: a line for each group of methods, one for the example and the
+/// exceptions of each row, lines for the folders that are never served and for the login post, and two lines for each
+/// finding. Control characters are escaped.
 ///
 /// # Errors
 /// `NoMemory` if memory runs out.
-pub fn audit_text(alloc: Global, contexts: &[ContextTable]) -> Result<Text, NoMemory>
+pub fn audit_text(alloc: Global, contexts: &[ContextReport]) -> Result<Text, NoMemory>
     ensures { GivesAnswer result (spec.audit_text contexts.now) }
 {
     let mut text = String::new(alloc);
@@ -48,7 +53,7 @@ pub fn audit_text(alloc: Global, contexts: &[ContextTable]) -> Result<Text, NoMe
 fn push_contexts(
     text: &mut String,
     alloc: Global,
-    contexts: &[ContextTable],
+    contexts: &[ContextReport],
 ) -> Result<(), NoMemory>
     ensures { OnOk result (string_bytes text.new ≡ string_bytes text.old ++ spec.audit_text contexts.now) }
 {
@@ -63,7 +68,7 @@ fn push_contexts(
 fn push_other_contexts(
     text: &mut String,
     alloc: Global,
-    others: &[ContextTable],
+    others: &[ContextReport],
 ) -> Result<(), NoMemory>
     ensures { OnOk result (string_bytes text.new ≡ string_bytes text.old ++ flat_map (λ other. codes "\n" ++ spec.context_text other) others.now) }
 {
@@ -76,7 +81,7 @@ fn push_other_contexts(
 fn push_other_context(
     text: &mut String,
     alloc: Global,
-    context: &ContextTable,
+    context: &ContextReport,
 ) -> Result<(), NoMemory>
     ensures { OnOk result (string_bytes text.new ≡ string_bytes text.old ++ (codes "\n" ++ spec.context_text context.now)) }
 {
@@ -84,48 +89,58 @@ fn push_other_context(
     push_context(text, alloc, context)
 }
 
-fn push_context(text: &mut String, alloc: Global, context: &ContextTable) -> Result<(), NoMemory>
+fn push_context(text: &mut String, alloc: Global, context: &ContextReport) -> Result<(), NoMemory>
     ensures { OnOk result (string_bytes text.new ≡ string_bytes text.old ++ spec.context_text context.now) }
 {
-    let path = escaped(alloc, shown_context(context.path.as_str()))?;
-    text.push_str("context ")?;
-    text.push_str(path.as_str())?;
-    text.push_str("\n")?;
-    push_title(text)?;
-    push_rows(
+    push_heading(text, alloc, context)?;
+    push_title(text, alloc, &context.viewer)?;
+    push_rows(text, alloc, context, context.rows.as_slice())?;
+    push_hidden(text, &context.viewer)?;
+    push_login(text, context.has_login)?;
+    push_findings(
         text,
         alloc,
-        context.has_login,
-        context.table.rows.as_slice(),
-    )?;
-    push_hidden(text)?;
-    push_login(text, context.has_login)?;
-    push_findings(text, alloc, context.findings.as_slice())
+        context.file.as_str(),
+        context.lines.as_slice(),
+        context.findings.as_slice(),
+    )
 }
 
-fn push_title(text: &mut String) -> Result<(), NoMemory>
-    ensures { OnOk result (string_bytes text.new ≡ string_bytes text.old ++ spec.title_line) }
+fn push_heading(text: &mut String, alloc: Global, context: &ContextReport) -> Result<(), NoMemory>
+    ensures { OnOk result (string_bytes text.new ≡ string_bytes text.old ++ spec.heading_line context.now) }
 {
+    let path = escaped(alloc, shown_context(context.path.as_str()))?;
+    let file = escaped(alloc, context.file.as_str())?;
+    push_all(
+        text,
+        &["context ", path.as_str(), " (", file.as_str(), ")\n"],
+    )
+}
+
+fn push_title(text: &mut String, alloc: Global, viewer: &Option<Viewer>) -> Result<(), NoMemory>
+    ensures { OnOk result (string_bytes text.new ≡ string_bytes text.old ++ spec.title_line viewer.now) }
+{
+    let who = viewer_title(alloc, viewer)?;
     push_line(
         text,
         Columns {
             pattern: "pattern",
             methods: "methods",
-            who: "who may enter",
+            who: who.as_str(),
             constraint: "constraint",
         },
     )
 }
 
-fn push_hidden(text: &mut String) -> Result<(), NoMemory>
-    ensures { OnOk result (string_bytes text.new ≡ string_bytes text.old ++ spec.hidden_line) }
+fn push_hidden(text: &mut String, viewer: &Option<Viewer>) -> Result<(), NoMemory>
+    ensures { OnOk result (string_bytes text.new ≡ string_bytes text.old ++ spec.hidden_line viewer.now) }
 {
     push_line(
         text,
         Columns {
             pattern: "/WEB-INF/*, /META-INF/*",
             methods: "all",
-            who: "nobody (hidden)",
+            who: hidden_text(viewer),
             constraint: "-",
         },
     )
@@ -151,39 +166,65 @@ fn push_login(text: &mut String, has_login: bool) -> Result<(), NoMemory>
 fn push_rows(
     text: &mut String,
     alloc: Global,
-    has_login: bool,
-    rows: &[Row],
+    context: &ContextReport,
+    rows: &[ReportedRow],
 ) -> Result<(), NoMemory>
-    ensures { OnOk result (string_bytes text.new ≡ string_bytes text.old ++ flat_map (spec.row_lines has_login) rows.now) }
+    ensures { OnOk result (string_bytes text.new ≡ string_bytes text.old ++ flat_map (spec.row_lines context.now) rows.now) }
 {
     for row in rows {
-        push_row(text, alloc, has_login, row)?;
+        push_row(text, alloc, context, row)?;
     }
     Ok(())
 }
 
-fn push_row(text: &mut String, alloc: Global, has_login: bool, row: &Row) -> Result<(), NoMemory>
-    ensures { OnOk result (string_bytes text.new ≡ string_bytes text.old ++ spec.row_lines has_login row.now) }
+fn push_row(
+    text: &mut String,
+    alloc: Global,
+    context: &ContextReport,
+    row: &ReportedRow,
+) -> Result<(), NoMemory>
+    ensures { OnOk result (string_bytes text.new ≡ string_bytes text.old ++ spec.row_lines context.now row.now) }
 {
-    let pattern = pattern_text(alloc, &row.pattern)?;
-    let Some((group, others)) = row.groups.as_slice().split_first() else {
+    let pattern = pattern_text(alloc, &row.row.pattern)?;
+    push_pattern(
+        text,
+        alloc,
+        context,
+        pattern.as_str(),
+        row.row.groups.as_slice(),
+    )?;
+    let details = detail_line(alloc, context.path.as_str(), row)?;
+    Ok(text.push_str(details.as_str())?)
+}
+
+/// Appends the lines of groups. The first has the pattern.
+fn push_pattern(
+    text: &mut String,
+    alloc: Global,
+    context: &ContextReport,
+    pattern: &str,
+    groups: &[Group],
+) -> Result<(), NoMemory>
+    ensures { OnOk result (string_bytes text.new ≡ string_bytes text.old ++ spec.group_lines context.now pattern.now groups.now) }
+{
+    let Some((group, others)) = groups.split_first() else {
         return Ok(());
     };
-    push_group(text, alloc, has_login, pattern.as_str(), group)?;
-    push_groups(text, alloc, has_login, others)
+    push_group(text, alloc, context, pattern, group)?;
+    push_groups(text, alloc, context, others)
 }
 
 /// Appends the lines of groups without their pattern.
 fn push_groups(
     text: &mut String,
     alloc: Global,
-    has_login: bool,
+    context: &ContextReport,
     groups: &[Group],
 ) -> Result<(), NoMemory>
-    ensures { OnOk result (string_bytes text.new ≡ string_bytes text.old ++ flat_map (spec.group_line has_login []) groups.now) }
+    ensures { OnOk result (string_bytes text.new ≡ string_bytes text.old ++ flat_map (spec.group_line context.now []) groups.now) }
 {
     for group in groups {
-        push_group(text, alloc, has_login, "", group)?;
+        push_group(text, alloc, context, "", group)?;
     }
     Ok(())
 }
@@ -191,15 +232,20 @@ fn push_groups(
 fn push_group(
     text: &mut String,
     alloc: Global,
-    has_login: bool,
+    context: &ContextReport,
     pattern: &str,
     group: &Group,
 ) -> Result<(), NoMemory>
-    ensures { OnOk result (string_bytes text.new ≡ string_bytes text.old ++ spec.group_line has_login pattern.now group.now) }
+    ensures { OnOk result (string_bytes text.new ≡ string_bytes text.old ++ spec.group_line context.now pattern.now group.now) }
 {
     let methods = methods_text(alloc, &group.methods)?;
-    let who = who_text(alloc, has_login, &group.cell.access)?;
-    let constraint = number_text(alloc, group.cell.constraint)?;
+    let who = entry_text(
+        alloc,
+        &context.viewer,
+        context.has_login,
+        &group.cell.access,
+    )?;
+    let constraint = constraint_text(alloc, context.lines.as_slice(), group.cell.constraint)?;
     push_line(
         text,
         Columns {

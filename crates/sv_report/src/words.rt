@@ -126,13 +126,3 @@ fn named_roles(alloc: Global, roles: &[Text]) -> Result<Text, NoMemory>
     push_names(&mut text, alloc, roles)?;
     Ok(Text::from_string(text))
 }
-
-/// Returns the text of the number of a constraint.
-pub fn number_text(alloc: Global, number: Option<u64>) -> Result<Text, NoMemory>
-    ensures { GivesAnswer result (spec.number_text number) }
-{
-    match number {
-        None => Text::copy_of(alloc, "-"),
-        Some(number) => Ok(Text::from_string(format!(in alloc; "{number}")?)),
-    }
-}

@@ -5,4 +5,4 @@ use Rattle.sv_report.specs.Text.{row_lines}
 use Rattle.sv_report.proofs.lines.push_rows.Given as goal
 
 abbrev pub invariant-loop-row : goal.invariant-loop-row
-invariant-loop-row l = string_bytes l.text ≡ string_bytes l.fn.text ++ flat_map (row_lines l.has_login) (take l.row-index l.rows)
+invariant-loop-row l = string_bytes l.text ≡ string_bytes l.fn.text ++ flat_map (row_lines l.context) (take l.row-index l.rows)

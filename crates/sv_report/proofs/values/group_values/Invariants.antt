@@ -4,4 +4,4 @@ use Rattle.sv_report.specs.Json.{group_value}
 use Rattle.sv_report.proofs.values.group_values.Given as goal
 
 abbrev pub invariant-loop-group : goal.invariant-loop-group
-invariant-loop-group l = map view l.values.items ≡ map (group_value l.has_login) (take l.group-index l.groups)
+invariant-loop-group l = map view l.values.items ≡ map (group_value l.context) (take l.group-index l.groups)

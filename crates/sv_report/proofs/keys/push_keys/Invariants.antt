@@ -1,0 +1,8 @@
+use Rattle.std.proofs.Common.{◌≡◌, ◌++◌, take}
+use Rattle.std.specs.String.{string_bytes}
+use Rattle.std.specs.List.{flat_map}
+use Rattle.sv_report.specs.Keys.{key_line}
+use Rattle.sv_report.proofs.keys.push_keys.Given as goal
+
+abbrev pub invariant-loop-finding : goal.invariant-loop-finding
+invariant-loop-finding l = string_bytes l.text ≡ string_bytes l.fn.text ++ flat_map key_line (take l.finding-index l.findings)

@@ -1,0 +1,83 @@
+//! Findings as JSON.
+
+ghost use Rattle.std.specs.Prelude.{◌≡◌, IfOk, OnOk, map};
+ghost use Rattle.serde_json.specs.Data.{array};
+ghost use Rattle.serde_json.specs.View.{items_of, members_view, view};
+ghost use Rattle.sv_report.specs.FindingJson as spec;
+
+use crate::finding_words::kind_name;
+use crate::json_words::{are_excepted, names_in};
+use crate::members::{put_number, put_text, put_texts, put_truth};
+use crate::places::line_of;
+use crate::report::ReportedFinding;
+use serde_json::{Map, Value};
+use std::alloc::Global;
+use sv_audit::Finding;
+use sv_constraints::Methods;
+use sv_text::NoMemory;
+
+/// Returns findings as values. Constraints begin on `lines`.
+pub fn finding_values(
+    alloc: Global,
+    lines: &[Option<u64>],
+    findings: &[ReportedFinding],
+) -> Result<Value, NoMemory>
+    ensures { IfOk result (λ value. view value ≡ array (items_of (map (spec.finding_value lines.now) findings.now))) }
+{
+    let mut values = Vec::with_capacity(alloc, findings.len())?;
+    for finding in findings {
+        values.push(finding_value(alloc, lines, finding)?)?;
+    }
+    Ok(Value::Array(values))
+}
+
+fn finding_value(
+    alloc: Global,
+    lines: &[Option<u64>],
+    finding: &ReportedFinding,
+) -> Result<Value, NoMemory>
+    ensures { IfOk result (λ value. view value ≡ spec.finding_value lines.now finding.now) }
+{
+    let line = line_of(lines, finding.constraint);
+    let kind = kind_name(&finding.finding);
+    let mut members = Map::new(alloc);
+    put_subject(&mut members, alloc, &finding.finding)?;
+    put_truth(&mut members, alloc, "accepted", finding.is_accepted)?;
+    put_number(&mut members, alloc, "constraint", finding.constraint)?;
+    put_text(&mut members, alloc, "key", finding.key.as_str())?;
+    put_text(&mut members, alloc, "kind", kind)?;
+    put_number(&mut members, alloc, "line", line)?;
+    Ok(Value::Object(members))
+}
+
+/// Puts what a finding is about.
+fn put_subject(
+    members: &mut Map<String, Value>,
+    alloc: Global,
+    finding: &Finding,
+) -> Result<(), NoMemory>
+    ensures { OnOk result (members_view members.new.entries ≡ spec.with_subject finding.now (members_view members.old.entries)) }
+{
+    match finding {
+        Finding::Uncovered(pattern, methods) => {
+            put_methods(members, alloc, pattern.as_str(), methods)
+        }
+        Finding::Dead(_) => Ok(()),
+        Finding::UnknownRole(_, role) => put_text(members, alloc, "role", role.as_str()),
+        Finding::HeadDiffers(pattern) => put_text(members, alloc, "pattern", pattern.as_str()),
+    }
+}
+
+/// Puts the methods at a pattern.
+fn put_methods(
+    members: &mut Map<String, Value>,
+    alloc: Global,
+    pattern: &str,
+    methods: &Methods,
+) -> Result<(), NoMemory>
+    ensures { OnOk result (members_view members.new.entries ≡ spec.with_methods pattern.now methods.now (members_view members.old.entries)) }
+{
+    put_texts(members, alloc, "methods", names_in(methods))?;
+    put_truth(members, alloc, "others", are_excepted(methods))?;
+    put_text(members, alloc, "pattern", pattern)
+}

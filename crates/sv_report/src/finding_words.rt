@@ -1,0 +1,107 @@
+//! Findings in words: the kind of each, what it is, and what to write.
+
+ghost use Rattle.std.specs.Prelude.{◌≡◌};
+ghost use Rattle.sv_text.specs.Gives.{GivesAnswer};
+ghost use Rattle.sv_report.specs.FindingWords as spec;
+
+use crate::escaped::escaped;
+use crate::parts::joined;
+use crate::places::number_text;
+use crate::words::{methods_text, shown_pattern};
+use std::alloc::Global;
+use sv_audit::Finding;
+use sv_constraints::Methods;
+use sv_text::{NoMemory, Text};
+
+/// Returns the name of the kind of a finding, by which options and files of accepted findings name it.
+pub fn kind_name(finding: &Finding) -> &'static str
+    ensures { result.now ≡ spec.kind_name finding.now }
+{
+    match finding {
+        Finding::Uncovered(_, _) => "uncovered",
+        Finding::Dead(_) => "dead",
+        Finding::UnknownRole(_, _) => "unknown-role",
+        Finding::HeadDiffers(_) => "head-differs",
+    }
+}
+
+/// Returns what a finding is.
+pub fn problem_text(alloc: Global, finding: &Finding) -> Result<Text, NoMemory>
+    ensures { GivesAnswer result (spec.problem_text finding.now) }
+{
+    match finding {
+        Finding::Uncovered(pattern, methods) => uncovered_text(alloc, pattern.as_str(), methods),
+        Finding::Dead(number) => dead_text(alloc, *number),
+        Finding::UnknownRole(number, role) => unknown_role_text(alloc, *number, role.as_str()),
+        Finding::HeadDiffers(pattern) => head_text(alloc, pattern.as_str()),
+    }
+}
+
+fn uncovered_text(alloc: Global, pattern: &str, methods: &Methods) -> Result<Text, NoMemory>
+    ensures { GivesAnswer result (spec.uncovered_text pattern.now methods.now) }
+{
+    let pattern = shown_pattern(alloc, pattern)?;
+    let methods = methods_text(alloc, methods)?;
+    joined(
+        alloc,
+        &["uncovered at ", pattern.as_str(), ": ", methods.as_str()],
+    )
+}
+
+fn dead_text(alloc: Global, number: u64) -> Result<Text, NoMemory>
+    ensures { GivesAnswer result (spec.dead_text number) }
+{
+    let number = number_text(alloc, number)?;
+    joined(
+        alloc,
+        &["constraint ", number.as_str(), " covers no request"],
+    )
+}
+
+fn unknown_role_text(alloc: Global, number: u64, role: &str) -> Result<Text, NoMemory>
+    ensures { GivesAnswer result (spec.unknown_role_text number role.now) }
+{
+    let number = number_text(alloc, number)?;
+    let role = escaped(alloc, role)?;
+    joined(
+        alloc,
+        &[
+            "constraint ",
+            number.as_str(),
+            " names the undeclared role ",
+            role.as_str(),
+        ],
+    )
+}
+
+fn head_text(alloc: Global, pattern: &str) -> Result<Text, NoMemory>
+    ensures { GivesAnswer result (spec.head_text pattern.now) }
+{
+    let pattern = shown_pattern(alloc, pattern)?;
+    joined(
+        alloc,
+        &[
+            "GET and HEAD are open to different callers at ",
+            pattern.as_str(),
+        ],
+    )
+}
+
+/// Returns what to write in the descriptor.
+pub fn remedy(finding: &Finding) -> &'static str
+    ensures { result.now ≡ spec.remedy finding.now }
+{
+    match finding {
+        Finding::Uncovered(_, _) => "Cover all methods there, or set deny-uncovered-http-methods.",
+        Finding::Dead(_) => "/* is chosen before its patterns. Change them, or remove it.",
+        Finding::UnknownRole(_, _) => "Declare it in a security-role, or correct the name.",
+        Finding::HeadDiffers(_) => "Name HEAD wherever GET is named.",
+    }
+}
+
+/// Returns the word that begins the lines of a finding.
+pub fn heading(is_accepted: bool) -> &'static str
+    ensures { result.now ≡ spec.heading is_accepted }
+{
+    if is_accepted { "accepted" } else { "finding" }
+}

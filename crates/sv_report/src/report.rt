@@ -1,0 +1,67 @@
+//! What is reported of a context.
+
+use sv_audit::{Finding, Row};
+use sv_text::{Listed, Text};
+
+/// Who may reach what in a context, as it is reported.
+#[derive(Drop)]
+pub struct ContextReport {
+    /// The path of the context, which is empty for the root context.
+    pub path: Text,
+    /// The name of the file that has the constraints.
+    pub file: Text,
+    /// Whether the context has a login configuration. Without one nobody can log in.
+    pub has_login: bool,
+    /// The caller whose access is shown, if one is asked for.
+    pub viewer: Option<Viewer>,
+    /// The rows of the access table.
+    pub rows: Listed<ReportedRow>,
+    /// The findings of the constraints and the table.
+    pub findings: Listed<ReportedFinding>,
+    /// The line of `file` on which constraint n begins, at place n - 1, if it is known.
+    pub lines: Listed<Option<u64>>,
+}
+
+/// A caller whose access is shown.
+#[derive(Drop)]
+pub struct Viewer {
+    /// How the caller is named in the report, as `ann` or `role staff`.
+    pub name: Text,
+    /// The roles of the caller.
+    pub roles: Listed<Text>,
+}
+
+/// A row of an access table, with paths that show what it means.
+#[derive(Drop)]
+pub struct ReportedRow {
+    /// The row.
+    pub row: Row,
+    /// A path within the context, of this row.
+    pub example: Option<Text>,
+    /// The name of the servlet that answers the example. Without one files answer it.
+    pub servlet: Option<Text>,
+    /// The patterns that are chosen before this one at some of its paths.
+    pub narrower: Narrower,
+}
+
+/// Patterns that are chosen before another one at some of its paths.
+#[derive(Drop)]
+pub struct Narrower {
+    /// The first of them.
+    pub patterns: Listed<Text>,
+    /// Whether these are all.
+    pub are_all: bool,
+}
+
+/// A finding, with where it belongs and whether it is accepted.
+#[derive(Drop)]
+pub struct ReportedFinding {
+    /// The finding.
+    pub finding: Finding,
+    /// What a file of accepted findings names it by.
+    pub key: Text,
+    /// The number of the constraint to change.
+    pub constraint: Option<u64>,
+    /// Whether the finding is accepted.
+    pub is_accepted: bool,
+}
