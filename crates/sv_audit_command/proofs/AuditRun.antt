@@ -1,46 +1,139 @@
--- The lines of the command `uncovered`, from the files that a store gives.
-use Rattle.std.proofs.Common.{◌≡◌, ℕ, List, [], Ok, Err, refl, Option, Some, None, MatchOption, IsErrAnd}
-use Rattle.sv_descriptor.specs.Server.{located_server}
-use Rattle.sv_descriptor.specs.Descriptor.{located_descriptor}
-use Rattle.sv_program.specs.CommandFault.{command_fault}
-use Rattle.sv_program.specs.Configuration.{Step, descriptor_in, each, server_in, text_of}
-use Rattle.sv_program.specs.ConfigurationFiles.{ReadsServer}
-use Rattle.sv_program.specs.FileStore.{FileText, Giving}
-use Rattle.sv_program.specs.Printed.{FindsText}
-use Rattle.sv_program.specs.UncoveredCommand.{IsReported, lines_for}
-use Rattle.sv_program.specs.Uncovered.{context_lines, uncovered_lines}
+-- The run of the command `audit`, from the files that a store gives.
+use Rattle.std.proofs.Common.{◌≡◌, ℕ, List, [], ◌∷◌, ◌++◌, map, flat_map, refl, subst, Option, Some, None, MatchOption, Result, Ok, Err, IsErrAnd}
+use Rattle.std.specs.Prelude.{IfErr, option_copied}
+use Rattle.sv_descriptor.specs.declared.server.Server.{Server}
+use Rattle.sv_program.specs.CommandFault.{UnlessNoMemory, command_fault}
+use Rattle.sv_program.specs.Configuration.{Step, server_in}
+use Rattle.sv_program.specs.ConfigurationFiles.{ReadsContexts, ReadsServer, context_readings, readings}
+use Rattle.sv_program.specs.FileStore.{AreRead, FileText, Giving, Reading}
 use Rattle.sv_program.specs.declared.command_fault.CommandFault.{CommandFault}
+use Rattle.sv_program.specs.declared.command_fault.CommandFault.TheVariants.{Input, Output, File, Server as ServerFault, Descriptor, Users, Class, Files, Start, Socket, Script, User, Method, NoMemory, Findings}
 use Rattle.sv_program.specs.declared.configuration.ContextTexts.{ContextTexts}
-use Rattle.sv_program.proofs.Faults.{FaultsAreAsked, descriptor_asked, done, each_asked, server_asked, text_asked, then}
+use Rattle.sv_program.specs.declared.unavailable.Unavailable.TheVariants.{Missing}
+use Rattle.sv_text.specs.Gives.{Gives}
+use Rattle.sv_audit_command.specs.AuditCommand.{Auditing, Audits, EndsBy, FindsReport, IsAudited, IsBeforeOutput, IsWritten, report_for}
+use Rattle.sv_audit_command.specs.Report.{ReadsFurther, asked_readings, further_readings, report_on}
+use Rattle.sv_audit_command.specs.declared.further_files.FurtherFiles.{FurtherFiles}
+use Rattle.sv_audit_command.specs.declared.access_options.AccessOptions.{AccessOptions}
+use Rattle.sv_audit_command.specs.declared.audit_report.Report.{Report}
+use Rattle.sv_audit_command.proofs.FilesFaults.{AreOfFiles, all_faults}
 
--- ---- the faults are those of files
-app_asked : (at : ContextTexts) → FaultsAreAsked (descriptor_in at)
-app_asked at = then (text_of at.context.descriptor at.descriptor) _ (text_asked at.context.descriptor at.descriptor) (λ text. descriptor_asked at.context.path at.context.descriptor text (located_descriptor text))
+-- Readings in sequence.
+pub read_behind : {S : Type 0} (gives : Giving S) (front back : List Reading) (a b c : S)
+    → AreRead gives a front b → AreRead gives b back c → AreRead gives a (front ++ back) c
+read_behind gives [] back a b c first second = let P : _ → Type 0 = λ s. AreRead gives s back c in subst P first second
+read_behind gives (reading ∷ rest) back a b c first second = (first.0, first.1, read_behind gives rest back first.0 b c first.2 second)
 
-lines_asked : (texts : List ContextTexts) → FaultsAreAsked (uncovered_lines texts)
-lines_asked texts =
-    then (each context_lines texts) _ (each_asked context_lines (λ at. then (descriptor_in at) _ (app_asked at) (λ descriptor. done _)) texts) (λ lines. done _)
+unless : {A : Type 0} (result : Result A CommandFault) (fact : Type 0) → fact → UnlessNoMemory result fact
+unless (Ok a) fact is = is
+unless (Err e) fact is = by (command_fault e)
+  where
+    by : (found : Option CommandFault) → MatchOption found (Unit {0}) (λ _. fact)
+    by None = tt
+    by (Some f) = is
 
-all_asked : (config : List ℕ) (file : FileText) (texts : List ContextTexts) → FaultsAreAsked (lines_for config file texts)
-all_asked config file texts =
-    then (server_in config file) _ (then (text_of config file) _ (text_asked config file) (λ text. server_asked config text (located_server text)))
-    (λ server. lines_asked texts)
+no_files : FurtherFiles
+no_files = record { accept = Err Missing; lines = Err Missing }
 
-module _ {S : Type 0} (gives : Giving S) (config : List ℕ) where
-  pub are_asked : (text : Step (List ℕ)) (before after : S) → IsReported gives config text before after → FaultsAreAsked text
-  are_asked text before after are = rw are.4 (all_asked config are.0 are.1)
-
-  -- a fault of the server file ends the run before any other file is read
-  pub without_server : (fault : CommandFault) (result : Step (List ℕ)) (before after : S)
+module _ {S : Type 0} (gives : Giving S) (options : AccessOptions) (config : List ℕ) where
+  -- A fault of the server file ends the run before any other file is read.
+  pub without_server : (fault : CommandFault) (result : Step Report) (before after : S)
       → ReadsServer gives config before (Err fault) after → IsErrAnd result (λ e. e ≡ fault)
-      → FindsText (IsReported gives config) result before after
-  without_server fault (Ok lines) before after read same = absurd same
+      → FindsReport (IsAudited gives options config) result before after
+  without_server fault (Ok report) before after read same = absurd same
   without_server fault (Err e) before after read same = rw same (at (command_fault fault) read)
     where
       at : (found : Option CommandFault)
           → MatchOption found (Unit {0}) (λ _. (file : FileText) × gives before config file after × MatchOption found (Unit {0}) (λ f. server_in config file ≡ Err f))
-          → MatchOption found (Unit {0}) (λ _. (lines : Step (List ℕ)) × IsReported gives config lines before after × MatchOption found (Unit {0}) (λ f. lines ≡ Err f))
+          → MatchOption found (Unit {0}) (λ _. (report : Step Report) × IsAudited gives options config report before after × MatchOption found (Unit {0}) (λ f. report ≡ Err f))
       at None h = tt
       at (Some f) h =
           let failed : server_in config h.0 ≡ Err f = h.2 in
-          (Err f, (h.0, [], rw failed refl, (after, h.1, refl), rw failed refl), refl)
+          (Err f, (h.0, [], no_files, rw failed refl, rw failed (after, h.1, refl), rw failed refl), refl)
+
+  further_read : (files : FurtherFiles) (before after : S) → ReadsFurther gives options before files after → AreRead gives before (further_readings options files) after
+  further_read files before after read =
+      read_behind gives (asked_readings (option_copied options.accept) files.accept) (asked_readings (option_copied options.lines) files.lines) before read.0 after read.1 read.2
+
+  -- The files are read, and the report follows from them.
+  pub with_report : (server : Server) (texts slice : List ContextTexts) (files : FurtherFiles) (result : Step Report) (a b c d : S)
+      → ReadsServer gives config a (Ok server) b → ReadsContexts gives config server.contexts b texts c → ReadsFurther gives options c files d
+      → slice ≡ texts → Gives command_fault result (report_on options slice files)
+      → FindsReport (IsAudited gives options config) result a d
+  with_report server texts slice files result a b c d read contexts further same found =
+      let given : server_in config read.0 ≡ Ok server = read.2 in
+      unless result ((report : Step Report) × IsAudited gives options config report a d × Gives command_fault result report) (
+        report_on options texts files,
+        (
+          read.0,
+          texts,
+          files,
+          rw given contexts.0,
+          rw given (b, read.1, read_behind gives (flat_map (context_readings config) texts) (further_readings options files) b c d contexts.1 (further_read files c d further)),
+          rw given refl,
+        ),
+        rw same at found,
+      )
+
+  are_of_files : (report : Step Report) (before after : S) → IsAudited gives options config report before after → AreOfFiles report
+  are_of_files report before after is = rw is.5 (all_faults options config is.0 is.1 is.2)
+
+-- A fault of the files ends the run.
+ends : (fault : CommandFault) (report : Step Report) (old new : Option (List ℕ)) → AreOfFiles report → MatchOption (command_fault fault) (Unit {0}) (λ f. report ≡ Err f)
+    → MatchOption (command_fault fault) (Unit {0}) (λ _. EndsBy report (Err fault) old new)
+ends Input report old new are h = absurd (are Input h)
+ends Output report old new are h = absurd (are Output h)
+ends (File name why) report old new are h = rw h refl
+ends (ServerFault faulty) report old new are h = rw h refl
+ends (Descriptor context faulty) report old new are h = rw h refl
+ends (Users context faulty) report old new are h = rw h refl
+ends (Class name known) report old new are h = rw h refl
+ends (Files context found) report old new are h = rw h refl
+ends (Start code context) report old new are h = rw h refl
+ends (Socket found) report old new are h = rw h refl
+ends (Script at) report old new are h = rw h refl
+ends (User shown) report old new are h = rw h refl
+ends (Method shown) report old new are h = rw h refl
+ends NoMemory report old new are h = tt
+ends (Findings count) report old new are h = absurd (are (Findings count) h)
+
+module _ {S : Type 0} (gives : Giving S) (options : AccessOptions) (config : List ℕ) where
+  pub fault_ends : (fault : CommandFault) (result : Result (Unit {0}) CommandFault) (before after : S) (old new : Option (List ℕ))
+      → FindsReport (IsAudited gives options config) (Err fault) before after → IsErrAnd result (λ e. e ≡ fault)
+      → Audits (IsAudited gives options config) result before after old new
+  fault_ends fault (Ok done) before after old new found same = absurd same
+  fault_ends fault (Err e) before after old new found same = rw same (at (command_fault fault) found (λ report are. ends fault report old new are))
+    where
+      at : (seen : Option CommandFault)
+          → MatchOption seen (Unit {0}) (λ _. (report : Step Report) × IsAudited gives options config report before after × MatchOption seen (Unit {0}) (λ f. report ≡ Err f))
+          → ((report : Step Report) → AreOfFiles report → MatchOption seen (Unit {0}) (λ f. report ≡ Err f) → MatchOption seen (Unit {0}) (λ _. EndsBy report (Err fault) old new))
+          → MatchOption seen (Unit {0}) (λ _. (report : Step Report) × IsAudited gives options config report before after × EndsBy report (Err fault) old new)
+      at None h end = tt
+      at (Some f) h end = (h.0, h.1, end h.0 (are_of_files gives options config h.0 before after h.1) h.2)
+
+  -- A report is written.
+  pub report_ends : (report : Report) (result : Result (Unit {0}) CommandFault) (before after : S) (old new : Option (List ℕ))
+      → FindsReport (IsAudited gives options config) (Ok report) before after → IsWritten report result old new
+      → Audits (IsAudited gives options config) result before after old new
+  report_ends report result before after old new found is =
+      unless result ((step : Step Report) × IsAudited gives options config step before after × EndsBy step result old new) (found.0, found.1, rw found.2 is)
+
+-- Before any fault but that of the output and findings nothing is written.
+pub late : (Unwritten : Type 0) (report : Report) (result : Result (Unit {0}) CommandFault) (old new : Option (List ℕ)) → IsWritten report result old new
+    → IfErr result (λ fault. IsBeforeOutput fault → Unwritten)
+late Unwritten report (Ok done) old new is = tt
+late Unwritten report (Err Input) old new is = absurd is
+late Unwritten report (Err Output) old new is = λ before. absurd before
+late Unwritten report (Err (File name why)) old new is = absurd is
+late Unwritten report (Err (ServerFault faulty)) old new is = absurd is
+late Unwritten report (Err (Descriptor context faulty)) old new is = absurd is
+late Unwritten report (Err (Users context faulty)) old new is = absurd is
+late Unwritten report (Err (Class name known)) old new is = absurd is
+late Unwritten report (Err (Files context found)) old new is = absurd is
+late Unwritten report (Err (Start code context)) old new is = absurd is
+late Unwritten report (Err (Socket found)) old new is = absurd is
+late Unwritten report (Err (Script at)) old new is = absurd is
+late Unwritten report (Err (User shown)) old new is = absurd is
+late Unwritten report (Err (Method shown)) old new is = absurd is
+late Unwritten report (Err NoMemory) old new is = absurd is
+late Unwritten report (Err (Findings count)) old new is = λ before. absurd before

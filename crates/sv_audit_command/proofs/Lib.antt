@@ -1,1 +1,5 @@
+mod LineLemmas
+mod LineLaw
+mod Steps
+mod FilesFaults
 mod AuditRun

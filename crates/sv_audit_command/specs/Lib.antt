@@ -1,2 +1,9 @@
-pub mod AccessReport
+pub mod ConstraintLines
+pub mod Audited
+pub mod Viewer
+pub mod Kinds
+pub mod Accepted
+pub mod Key
+pub mod ContextReports
+pub mod Report
 pub mod AuditCommand

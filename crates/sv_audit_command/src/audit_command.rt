@@ -1,47 +1,66 @@
 //! The command `audit`: reads the configuration files of a server, and writes who may reach what.
 
-ghost use Rattle.std.specs.Prelude.{◌≡◌, ◌≢◌, IfErr};
+ghost use Rattle.std.specs.Prelude.{◌≡◌, IfErr};
 ghost use Rattle.sv_audit_command.specs.AuditCommand as spec;
-ghost use Rattle.sv_program.specs.Printed.{FindsText, Prints};
 
-use crate::access_report::{AccessOptions, access_text};
+use crate::access_options::AccessOptions;
+use crate::audit_report::{Report, report_on};
+use crate::further_files::read_further;
 use std::alloc::Global;
 use std::io::Write;
 use sv_program::{CommandFault, FileStore, print_text, read_contexts, read_server_file};
-use sv_text::Text;
 
-/// Reads the server file of this name, then the descriptor and the users file of each of its contexts, and writes who
-/// may reach what. Names in the server file are relative to its folder. No other file is read.
+/// Reads the server file of this name, then the descriptor and the users file of each of its contexts, then the
+/// accepting file and the file of lines, and writes who may reach what (Jakarta Servlet 6.0, section 13.8). Names in the
+/// server file are relative to its folder. No other file is read.
 ///
 /// # Errors
 /// The first fault: [`CommandFault::File`] or [`CommandFault::Server`] for the server file, then
-/// [`CommandFault::File`], [`CommandFault::Descriptor`] or [`CommandFault::Users`] for the contexts in order, or
-/// [`CommandFault::NoMemory`]. After [`CommandFault::Output`] a part of the report may have been written, after any other
-/// fault none.
+/// [`CommandFault::File`], [`CommandFault::Descriptor`] or [`CommandFault::Users`] for the contexts in order, then
+/// [`CommandFault::File`] for the accepting file and the file of lines, then [`CommandFault::User`] if no context has
+/// the user, or [`CommandFault::NoMemory`]. After [`CommandFault::Findings`] the report is written: it has this number
+/// of findings of the kinds that must not be there, and which are not accepted. After [`CommandFault::Output`] a part
+/// of the report may have been written, after any other fault none.
 pub fn audit<S: FileStore, W: Write>(
     alloc: Global,
     store: &mut S,
     writer: &mut W,
     config: &str,
-    options: AccessOptions,
+    options: &AccessOptions<'_>,
 ) -> Result<(), CommandFault>
-    ensures run { Prints (spec.IsAudited S.gives_text options config.now) result store.old store.new (W.contents writer.old) (W.contents writer.new) }
-    ensures untouched { IfErr result (λ fault. fault ≢ CommandFault.Output → writer.new ≡ writer.old) }
+    ensures run { spec.Audits (spec.IsAudited S.gives_text options.now config.now) result store.old store.new (W.contents writer.old) (W.contents writer.new) }
+    ensures untouched { IfErr result (λ fault. spec.IsBeforeOutput fault → writer.new ≡ writer.old) }
 {
-    let text = text_of(alloc, store, config, options)?;
-    print_text(writer, text.as_str())
+    let report = report_from(alloc, store, config, options)?;
+    write_report(writer, &report)
 }
 
 /// Returns the report on the server, from the files that the store gives.
-fn text_of<S: FileStore>(
+fn report_from<S: FileStore>(
     alloc: Global,
     store: &mut S,
     config: &str,
-    options: AccessOptions,
-) -> Result<Text, CommandFault>
-    ensures { FindsText (spec.IsAudited S.gives_text options config.now) result store.old store.new }
+    options: &AccessOptions<'_>,
+) -> Result<Report, CommandFault>
+    ensures { spec.FindsReport (spec.IsAudited S.gives_text options.now config.now) result store.old store.new }
 {
     let server = read_server_file(alloc, store, config)?;
     let texts = read_contexts(alloc, store, config, server.contexts)?;
-    access_text(alloc, texts.as_slice(), options)
+    let files = read_further(alloc, store, options)?;
+    report_on(alloc, texts.as_slice(), &files, options)
+}
+
+/// Writes the report.
+///
+/// # Errors
+/// [`CommandFault::Output`], or [`CommandFault::Findings`] if the report is written and has findings that must not be
+/// there.
+fn write_report<W: Write>(writer: &mut W, report: &Report) -> Result<(), CommandFault>
+    ensures { spec.IsWritten report.now result (W.contents writer.old) (W.contents writer.new) }
+{
+    print_text(writer, report.text.as_str())?;
+    if report.count > 0 {
+        return Err(CommandFault::Findings(report.count));
+    }
+    Ok(())
 }

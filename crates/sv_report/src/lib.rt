@@ -3,7 +3,7 @@
 
 mod cell_words;
 mod details;
-mod escaped;
+pub mod escaped;
 mod finding_lines;
 mod finding_values;
 mod finding_words;

@@ -1,0 +1,108 @@
+-- The faults that the texts of files can have.
+use Rattle.std.proofs.Common.{◌≡◌, ℕ, Bool, true, false, if◌then◌else◌, List, [], ◌∷◌, Option, Some, None, Ok, Err, refl, subst}
+use Rattle.std.specs.Prelude.{is_some, option_copied}
+use Rattle.std.specs.List.{list_any}
+use Rattle.sv_descriptor.specs.Descriptor.{located_descriptor}
+use Rattle.sv_descriptor.specs.Fault.{Located}
+use Rattle.sv_descriptor.specs.Server.{located_server}
+use Rattle.sv_descriptor.specs.Users.{located_users}
+use Rattle.sv_realm.specs.Realm.{caller_named}
+use Rattle.sv_text.specs.Steps.{◌>>=◌}
+use Rattle.sv_program.specs.Configuration.{Step, descriptor_in, each, read_from, server_in, text_of, users_in, users_named}
+use Rattle.sv_program.specs.FileStore.{FileText}
+use Rattle.sv_program.specs.Shown.{quoted}
+use Rattle.sv_program.specs.declared.command_fault.CommandFault.{CommandFault}
+use Rattle.sv_program.specs.declared.command_fault.CommandFault.TheVariants.{Input, Output, File, Findings}
+use Rattle.sv_program.specs.declared.command_fault.CommandFault.TheVariants as command
+use Rattle.sv_program.specs.declared.configuration.ContextTexts.{ContextTexts}
+use Rattle.sv_audit_command.specs.AuditCommand.{report_for}
+use Rattle.sv_audit_command.specs.Audited.{audited_context}
+use Rattle.sv_audit_command.specs.Report.{asked_text, report_on}
+use Rattle.sv_audit_command.specs.Viewer.{check_user, check_viewer}
+use Rattle.sv_audit_command.specs.declared.audited_context.AuditedContext.{AuditedContext}
+use Rattle.sv_audit_command.specs.declared.further_files.FurtherFiles.{FurtherFiles}
+use Rattle.sv_audit_command.specs.declared.access_options.AccessOptions.{AccessOptions}
+use Rattle.sv_audit_command.specs.declared.access_options.Asked.{Asked}
+use Rattle.sv_audit_command.specs.declared.access_options.Asked.TheVariants as asked
+
+-- Faults of standard streams are excluded, and findings.
+abbrev pub IsOfFiles : CommandFault → Type 0
+IsOfFiles Input = ⊥
+IsOfFiles Output = ⊥
+IsOfFiles (Findings count) = ⊥
+IsOfFiles other = Unit {0}
+
+abbrev pub AreOfFiles : {A : Type 0} → Step A → Type 0
+AreOfFiles step = (fault : CommandFault) → step ≡ Err fault → IsOfFiles fault
+
+abbrev failed : {A : Type 0} → CommandFault → Step A
+failed fault = Err fault
+
+only : {A : Type 0} (one fault : CommandFault) → IsOfFiles one → failed {A = A} one ≡ failed fault → IsOfFiles fault
+only one fault are h = let same : one ≡ fault = cc in subst IsOfFiles same are
+
+onward : {A B : Type 0} (step : Step A) (next : A → Step B) → AreOfFiles step → ((a : A) → AreOfFiles (next a)) → AreOfFiles (step >>= next)
+onward (Ok a) next first second = second a
+onward (Err one) next first second = λ fault h. only one fault (first one refl) h
+
+done : {A : Type 0} (a : A) → AreOfFiles (Ok a)
+done a = λ fault h. cc
+
+text_faults : (name : List ℕ) (text : FileText) → AreOfFiles (text_of name text)
+text_faults name (Ok text) = done text
+text_faults name (Err why) = λ fault h. only (File name why) fault tt h
+
+server_read : (name text : List ℕ) {A : Type 0} (read : Located A) → AreOfFiles (read_from command.Server name text read)
+server_read name text (Ok a) = done a
+server_read name text (Err found) = λ fault h. only (command.Server (record { file = name; text = text; found = found })) fault tt h
+
+descriptor_read : (path name text : List ℕ) {A : Type 0} (read : Located A) → AreOfFiles (read_from (command.Descriptor path) name text read)
+descriptor_read path name text (Ok a) = done a
+descriptor_read path name text (Err found) = λ fault h. only (command.Descriptor path (record { file = name; text = text; found = found })) fault tt h
+
+users_read : (path name text : List ℕ) {A : Type 0} (read : Located A) → AreOfFiles (read_from (command.Users path) name text read)
+users_read path name text (Ok a) = done a
+users_read path name text (Err found) = λ fault h. only (command.Users path (record { file = name; text = text; found = found })) fault tt h
+
+each_faults : {A B : Type 0} (step : A → Step B) → ((a : A) → AreOfFiles (step a)) → (items : List A) → AreOfFiles (each step items)
+each_faults step are [] = done []
+each_faults step are (a ∷ rest) = onward (step a) _ (are a) (λ b. onward (each step rest) _ (each_faults step are rest) (λ bs. done (b ∷ bs)))
+
+app_faults : (at : ContextTexts) → AreOfFiles (descriptor_in at)
+app_faults at =
+    onward (text_of at.context.descriptor at.descriptor) _ (text_faults at.context.descriptor at.descriptor)
+    (λ text. descriptor_read at.context.path at.context.descriptor text (located_descriptor text))
+
+named_faults : (path : List ℕ) (name : Option (List ℕ)) (file : FileText) → AreOfFiles (users_named path name file)
+named_faults path None file = done []
+named_faults path (Some name) file = onward (text_of name file) _ (text_faults name file) (λ text. users_read path name text (located_users text))
+
+context_faults : (is_secure : Bool) (at : ContextTexts) → AreOfFiles (audited_context is_secure at)
+context_faults is_secure at =
+    onward (descriptor_in at) _ (app_faults at) (λ app. onward (users_in at) _ (named_faults at.context.path at.context.users at.users) (λ users. done _))
+
+further_faults : (name : Option (List ℕ)) (file : FileText) → AreOfFiles (asked_text name file)
+further_faults None file = done []
+further_faults (Some name) file = text_faults name file
+
+chosen : (known : Bool) (found : CommandFault) → IsOfFiles found → AreOfFiles {A = Unit {0}} (if known then Ok tt else Err found)
+chosen true found are = done {A = Unit {0}} tt
+chosen false found are = λ fault h. only found fault are h
+
+viewer_faults : (viewer : Option Asked) (contexts : List AuditedContext) → AreOfFiles (check_viewer viewer contexts)
+viewer_faults None contexts = done {A = Unit {0}} tt
+viewer_faults (Some (asked.User name)) contexts =
+    chosen (list_any (λ (context : AuditedContext). is_some (caller_named context.realm name.now)) contexts) (command.User (quoted name.now)) tt
+viewer_faults (Some (asked.Role role)) contexts = done {A = Unit {0}} tt
+
+report_faults : (options : AccessOptions) (texts : List ContextTexts) (files : FurtherFiles) → AreOfFiles (report_on options texts files)
+report_faults options texts files =
+    onward (each (audited_context options.is_secure) texts) _ (each_faults (audited_context options.is_secure) (context_faults options.is_secure) texts) (λ contexts.
+    onward (asked_text (option_copied options.accept) files.accept) _ (further_faults (option_copied options.accept) files.accept) (λ accepted.
+    onward (asked_text (option_copied options.lines) files.lines) _ (further_faults (option_copied options.lines) files.lines) (λ lines.
+    onward (check_viewer options.viewer contexts) _ (viewer_faults options.viewer contexts) (λ known. done _))))
+
+pub all_faults : (options : AccessOptions) (config : List ℕ) (file : FileText) (texts : List ContextTexts) (files : FurtherFiles) → AreOfFiles (report_for options config file texts files)
+all_faults options config file texts files =
+    onward (server_in config file) _ (onward (text_of config file) _ (text_faults config file) (λ text. server_read config text (located_server text)))
+    (λ server. report_faults options texts files)

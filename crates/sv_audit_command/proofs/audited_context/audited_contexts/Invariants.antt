@@ -1,0 +1,10 @@
+use Rattle.std.proofs.Common.{◌≡◌, ◌++◌, drop, Ok}
+use Rattle.sv_text.specs.Steps.{◌>>=◌}
+use Rattle.sv_audit_command.specs.Audited.{audited_context}
+use Rattle.sv_program.specs.Configuration.{each}
+use Rattle.sv_audit_command.proofs.audited_context.audited_contexts.Given as goal
+
+-- the remaining texts give the remaining contexts
+abbrev pub invariant-loop-texts : goal.invariant-loop-texts
+invariant-loop-texts l =
+    (each (audited_context l.is_secure) (drop l.texts-index l.texts) >>= λ rest. Ok (l.contexts.items ++ rest)) ≡ each (audited_context l.is_secure) l.texts

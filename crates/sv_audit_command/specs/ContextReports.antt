@@ -1,0 +1,50 @@
+-- What is reported of a context (Jakarta Servlet 6.0, section 13.8).
+use Rattle.std.specs.Prelude.{ℕ, false, List, [], map, Option, None}
+use Rattle.sv_audit.specs.Findings.{findings_of}
+use Rattle.sv_audit.specs.Rows.{table_of}
+use Rattle.sv_audit.specs.declared.finding.Finding.{Finding}
+use Rattle.sv_audit.specs.declared.rows.Row.{Row}
+use Rattle.sv_audit.specs.declared.rows.Table.{Table}
+use Rattle.sv_report.specs.declared.report.ContextReport.{ContextReport}
+use Rattle.sv_report.specs.declared.report.ReportedFinding.{ReportedFinding}
+use Rattle.sv_report.specs.declared.report.ReportedRow.{ReportedRow}
+use Rattle.sv_audit_command.specs.Accepted as accepting
+use Rattle.sv_audit_command.specs.Key as finding_key
+use Rattle.sv_audit_command.specs.Viewer.{viewer_in}
+use Rattle.sv_audit_command.specs.declared.audited_context.AuditedContext.{AuditedContext}
+use Rattle.sv_audit_command.specs.declared.context_reports.Audit.{Audit}
+use Rattle.sv_audit_command.specs.declared.access_options.Asked.{Asked}
+
+abbrev pub reported_row : Row → ReportedRow
+reported_row its_row = record { row = its_row; example = None; servlet = None; narrower = record { patterns = []; are_all = false } }
+
+-- A finding of a context, given the text of the accepting file.
+abbrev pub reported_finding : AuditedContext → List ℕ → Finding → ReportedFinding
+reported_finding context accepted its_finding =
+    let its_key = finding_key.key_of context.source.path context.constraints its_finding in
+    record { finding = its_finding; key = its_key; constraint = finding_key.constraint_of context.constraints its_finding; is_accepted = accepting.is_accepted accepted its_key }
+
+-- The access table of a context.
+abbrev pub table_in : AuditedContext → Table
+table_in context = table_of context.constraints context.rules
+
+-- What follows from its constraints.
+abbrev pub audit_of : Option Asked → List ℕ → AuditedContext → Audit
+audit_of asked accepted context = record {
+  viewer = viewer_in asked context.realm;
+  rows = map reported_row (table_in context).rows;
+  findings = map (reported_finding context accepted) (findings_of context.constraints context.rules (table_in context));
+}
+
+abbrev pub context_report : Option Asked → List ℕ → AuditedContext → ContextReport
+context_report asked accepted context =
+    let its_audit = audit_of asked accepted context in
+    record {
+      path = context.source.path;
+      file = context.source.file;
+      has_login = context.has_login;
+      viewer = its_audit.viewer;
+      rows = its_audit.rows;
+      findings = its_audit.findings;
+      lines = context.source.lines;
+    }

@@ -1,0 +1,59 @@
+-- The keys of findings, by which an accepting file names them.
+use Rattle.std.specs.Prelude.{ℕ, Bool, List, [], ◌∷◌, ◌++◌, codes, find, map, nat_eq, Option, None, Some}
+use Rattle.std.specs.List.{flat_map, list_any}
+use Rattle.std.specs.Option.{option_map, option_map_or}
+use Rattle.sv_audit.specs.declared.finding.Finding.{Finding}
+use Rattle.sv_audit.specs.declared.finding.Finding.TheVariants.{Uncovered, Dead, UnknownRole, HeadDiffers}
+use Rattle.sv_constraints.specs.Covering.{lists}
+use Rattle.sv_constraints.specs.declared.constraint.Constraint.{Constraint}
+use Rattle.sv_constraints.specs.declared.constraint.Methods.{Methods}
+use Rattle.sv_program.specs.Uncovered.{methods_text, names_text}
+use Rattle.sv_report.specs.Escaped.{escaped}
+use Rattle.sv_report.specs.FindingWords.{kind_name}
+use Rattle.sv_uri.specs.ContextPath.{shown_context}
+
+-- The pattern, or two quotation marks for the empty one.
+abbrev pub pattern_word : List ℕ → List ℕ
+pattern_word [] = codes "\"\""
+pattern_word (first ∷ rest) = first ∷ rest
+
+-- The first constraint with this number.
+abbrev pub constraint_numbered : List Constraint → ℕ → Option Constraint
+constraint_numbered constraints number = find (λ constraint. nat_eq constraint.number number) constraints
+
+-- The words of its patterns.
+abbrev pub words_of : Constraint → List (List ℕ)
+words_of constraint = flat_map (λ collection. map pattern_word collection.patterns) constraint.collections
+
+-- The patterns of a constraint, separated by commas.
+abbrev pub patterns_text : List Constraint → ℕ → List ℕ
+patterns_text constraints number = option_map_or (λ constraint. names_text (words_of constraint)) (constraint_numbered constraints number) []
+
+-- A pattern, and methods as a script has them: `*`, names, or `!` and names.
+abbrev pub uncovered_subject : List ℕ → Methods → List ℕ
+uncovered_subject pattern methods = pattern_word pattern ++ codes " " ++ methods_text methods
+
+-- What the finding is about: a pattern with methods, a pattern, the patterns of a constraint, or a role.
+abbrev pub subject : List Constraint → Finding → List ℕ
+subject constraints (Uncovered pattern methods) = uncovered_subject pattern methods
+subject constraints (HeadDiffers pattern) = pattern_word pattern
+subject constraints (Dead number) = patterns_text constraints number
+subject constraints (UnknownRole number role) = role
+
+-- `CONTEXT KIND SUBJECT`, on one line.
+abbrev pub key_of : List ℕ → List Constraint → Finding → List ℕ
+key_of path constraints finding = escaped (shown_context path ++ codes " " ++ kind_name finding ++ codes " " ++ subject constraints finding)
+
+abbrev pub has_pattern : List ℕ → Constraint → Bool
+has_pattern pattern constraint = list_any (λ collection. lists collection.patterns pattern) constraint.collections
+
+-- The number of the first constraint that has the pattern.
+abbrev pub first_with : List Constraint → List ℕ → Option ℕ
+first_with constraints pattern = option_map (λ constraint. constraint.number) (find (has_pattern pattern) constraints)
+
+-- The constraint to change: that of the finding, or the first one that has its pattern.
+abbrev pub constraint_of : List Constraint → Finding → Option ℕ
+constraint_of constraints (Uncovered pattern methods) = first_with constraints pattern
+constraint_of constraints (HeadDiffers pattern) = first_with constraints pattern
+constraint_of constraints (Dead number) = Some number
+constraint_of constraints (UnknownRole number role) = Some number

@@ -1,0 +1,82 @@
+-- The report of the command `audit`, from the texts of the files.
+use Rattle.std.specs.Prelude.{ℕ, Bool, not, ◌&&◌, List, [], ◌∷◌, ◌++◌, filter, length, map, Option, None, Some, Ok, option_copied}
+use Rattle.std.specs.List.{flat_map}
+use Rattle.sv_text.specs.Steps.{◌>>=◌, ◌>>◌}
+use Rattle.sv_program.specs.Configuration.{Step, each, text_of}
+use Rattle.sv_program.specs.FileStore.{AreRead, FileText, Giving, Reading}
+use Rattle.sv_program.specs.declared.configuration.ContextTexts.{ContextTexts}
+use Rattle.sv_report.specs.FindingWords.{kind_name}
+use Rattle.sv_report.specs.Page.{audit_html}
+use Rattle.sv_report.specs.Json.{audit_json}
+use Rattle.sv_report.specs.Keys.{keys_text}
+use Rattle.sv_report.specs.Text.{audit_text}
+use Rattle.sv_report.specs.declared.report.ContextReport.{ContextReport}
+use Rattle.sv_report.specs.declared.report.ReportedFinding.{ReportedFinding}
+use Rattle.sv_audit_command.specs.Audited.{audited_context}
+use Rattle.sv_audit_command.specs.ContextReports.{context_report}
+use Rattle.sv_audit_command.specs.Kinds.{lists_kind}
+use Rattle.sv_audit_command.specs.Viewer.{check_viewer}
+use Rattle.sv_audit_command.specs.declared.audited_context.AuditedContext.{AuditedContext}
+use Rattle.sv_audit_command.specs.declared.further_files.FurtherFiles.{FurtherFiles}
+use Rattle.sv_audit_command.specs.declared.access_options.AccessOptions.{AccessOptions}
+use Rattle.sv_audit_command.specs.declared.access_options.Format.{Format}
+use Rattle.sv_audit_command.specs.declared.access_options.Format.TheVariants as format
+use Rattle.sv_audit_command.specs.declared.audit_report.Report.{Report}
+
+-- The reading of a file that an option names, if it names one.
+abbrev pub asked_readings : Option (List ℕ) → FileText → List Reading
+asked_readings None file = []
+asked_readings (Some its_name) file = record { name = its_name; text = file } ∷ []
+
+-- The readings of the accepting file and of the file of lines.
+abbrev pub further_readings : AccessOptions → FurtherFiles → List Reading
+further_readings options files = asked_readings (option_copied options.accept) files.accept ++ asked_readings (option_copied options.lines) files.lines
+
+-- The accepting file is read, and then the file of lines.
+abbrev pub ReadsFurther : {S : Type 0} → Giving S → AccessOptions → S → FurtherFiles → S → Type 0
+ReadsFurther {S} gives options before files after =
+    (between : S) × AreRead gives before (asked_readings (option_copied options.accept) files.accept) between
+    × AreRead gives between (asked_readings (option_copied options.lines) files.lines) after
+
+-- The text of a file that an option names, or its fault; empty if it names none.
+abbrev pub asked_text : Option (List ℕ) → FileText → Step (List ℕ)
+asked_text None file = Ok []
+asked_text (Some name) file = text_of name file
+
+-- The reports in a form.
+abbrev pub written : Format → List ContextReport → List ℕ
+written format.Text reports = audit_text reports
+written format.Json reports = audit_json reports
+written format.Html reports = audit_html reports
+written format.Keys reports = keys_text reports
+
+-- Whether a finding is of these kinds, and not accepted.
+abbrev pub fails : List ℕ → ReportedFinding → Bool
+fails kinds finding = not finding.is_accepted && lists_kind kinds (kind_name finding.finding)
+
+abbrev pub failing : List ℕ → List ContextReport → List ReportedFinding
+failing kinds reports = flat_map (λ report. filter (fails kinds) report.findings) reports
+
+-- The number of such findings; none are asked for without kinds.
+abbrev pub failing_count : Option (List ℕ) → List ContextReport → ℕ
+failing_count None reports = 0
+failing_count (Some kinds) reports = length (failing kinds reports)
+
+abbrev pub reports_of : AccessOptions → List ℕ → List AuditedContext → List ContextReport
+reports_of options accepted contexts = map (context_report options.viewer accepted) contexts
+
+-- The report on contexts, given the text of the accepting file.
+abbrev pub report_of : AccessOptions → List ℕ → List AuditedContext → Report
+report_of options accepted contexts = record {
+  text = written options.format (reports_of options accepted contexts);
+  count = failing_count (option_copied options.fail_on) (reports_of options accepted contexts);
+}
+
+-- The report, or the first fault: of the contexts' files, of the accepting file, of the file of lines, of the viewer.
+abbrev pub report_on : AccessOptions → List ContextTexts → FurtherFiles → Step Report
+report_on options texts files = do
+  contexts ← each (audited_context options.is_secure) texts
+  accepted ← asked_text (option_copied options.accept) files.accept
+  lines ← asked_text (option_copied options.lines) files.lines
+  known ← check_viewer options.viewer contexts
+  Ok (report_of options accepted contexts)

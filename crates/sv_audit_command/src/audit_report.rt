@@ -1,0 +1,131 @@
+//! The report of the command `audit`, from the texts of the files.
+
+ghost use Rattle.std.specs.List.{flat_map};
+ghost use Rattle.std.specs.Prelude.{◌≡◌, ◌++◌, IfOk, OnOk, filter, length, map, option_copied};
+ghost use Rattle.sv_text.specs.Gives.{Gives, GivesAnswer};
+ghost use Rattle.sv_program.specs.CommandFault.{command_fault};
+ghost use Rattle.sv_audit_command.specs.Report as spec;
+
+use crate::access_options::{AccessOptions, Format};
+use crate::audited_context::{AuditedContext, audited_contexts};
+use crate::context_reports::{Asking, context_reports};
+use crate::further_files::{FurtherFiles, asked_text};
+use crate::kinds::lists_kind;
+use crate::viewer::check_viewer;
+use std::alloc::Global;
+use sv_program::{CommandFault, ContextTexts};
+use sv_report::{
+    ContextReport, ReportedFinding, audit_html, audit_json, audit_text, keys_text, kind_name,
+};
+use sv_text::{Listed, NoMemory, Text};
+
+/// A report on access.
+#[derive(Drop)]
+pub struct Report {
+    /// The text of the report.
+    pub text: Text,
+    /// The number of the findings that must not be there.
+    pub count: u64,
+}
+
+/// Returns the report on contexts whose files have these texts.
+///
+/// # Errors
+/// The first fault: of the descriptor and the users of each context, of the accepting file, of the file of lines, and
+/// then [`CommandFault::User`] if no context has the user. Or [`CommandFault::NoMemory`].
+pub(crate) fn report_on(
+    alloc: Global,
+    texts: &[ContextTexts],
+    files: &FurtherFiles,
+    options: &AccessOptions<'_>,
+) -> Result<Report, CommandFault>
+    ensures { Gives command_fault result (spec.report_on options.now texts.now files.now) }
+{
+    let contexts = audited_contexts(alloc, texts, options.is_secure)?;
+    let accepted = asked_text(alloc, options.accept, &files.accept)?;
+    let _lines = asked_text(alloc, options.lines, &files.lines)?;
+    check_viewer(alloc, options.viewer, contexts.as_slice())?;
+    Ok(report_of(alloc, contexts, accepted.as_str(), options)?)
+}
+
+fn report_of(
+    alloc: Global,
+    contexts: Listed<AuditedContext>,
+    accepted: &str,
+    options: &AccessOptions<'_>,
+) -> Result<Report, NoMemory>
+    ensures { GivesAnswer result (spec.report_of options.now accepted.now contexts) }
+{
+    let asking = Asking {
+        viewer: options.viewer,
+        accepted,
+    };
+    let reports = context_reports(alloc, contexts, asking)?;
+    Ok(Report {
+        text: written(alloc, reports.as_slice(), options.format)?,
+        count: failing_count(alloc, reports.as_slice(), options.fail_on)?,
+    })
+}
+
+/// Returns the reports in this form.
+fn written(alloc: Global, reports: &[ContextReport], format: Format) -> Result<Text, NoMemory>
+    ensures { GivesAnswer result (spec.written format reports.now) }
+{
+    match format {
+        Format::Text => audit_text(alloc, reports),
+        Format::Json => audit_json(alloc, reports),
+        Format::Html => audit_html(alloc, reports),
+        Format::Keys => keys_text(alloc, reports),
+    }
+}
+
+/// Returns the number of findings that are of these kinds and not accepted. Without kinds there are none.
+fn failing_count(
+    alloc: Global,
+    reports: &[ContextReport],
+    kinds: Option<&str>,
+) -> Result<u64, NoMemory>
+    ensures { GivesAnswer result (spec.failing_count (option_copied kinds.entry) reports.now) }
+{
+    let Some(kinds) = kinds else {
+        return Ok(0);
+    };
+    Ok(failing(alloc, reports, kinds)?.len() as u64)
+}
+
+/// Returns the findings that are of these kinds and not accepted.
+fn failing<'a>(
+    alloc: Global,
+    reports: &'a [ContextReport],
+    kinds: &str,
+) -> Result<Vec<&'a ReportedFinding>, NoMemory>
+    ensures { IfOk result (λ failing. map (λ finding. finding.now) failing.items ≡ spec.failing kinds.now reports.now) }
+{
+    let mut failing = Vec::new(alloc);
+    for report in reports {
+        push_failing(&mut failing, report.findings.as_slice(), kinds)?;
+    }
+    Ok(failing)
+}
+
+fn push_failing<'a>(
+    failing: &mut Vec<&'a ReportedFinding>,
+    findings: &'a [ReportedFinding],
+    kinds: &str,
+) -> Result<(), NoMemory>
+    ensures { OnOk result (map (λ finding. finding.now) failing.new.items ≡ map (λ finding. finding.now) failing.old.items ++ filter (spec.fails kinds.now) findings.now) }
+{
+    for finding in findings {
+        if fails(kinds, finding) {
+            failing.push(finding)?;
+        }
+    }
+    Ok(())
+}
+
+/// Returns whether the finding is of these kinds and not accepted.
+fn fails(kinds: &str, finding: &ReportedFinding) -> bool
+    ensures { result ≡ spec.fails kinds.now finding.now }
+{
+    !finding.is_accepted && lists_kind(kinds, kind_name(&finding.finding))
+}

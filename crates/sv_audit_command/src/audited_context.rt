@@ -1,0 +1,133 @@
+//! A context, from the texts of its files.
+
+ghost use Rattle.sv_text.specs.Gives.{Gives, GivesAnswer};
+ghost use Rattle.sv_program.specs.CommandFault.{command_fault};
+ghost use Rattle.sv_program.specs.Configuration.{each};
+ghost use Rattle.sv_audit_command.specs.Audited as spec;
+
+use crate::descriptor_lines::constraint_lines;
+use std::alloc::Global;
+use sv_audit::without_transport;
+use sv_constraints::{Constraint, Rules};
+use sv_descriptor::{ServletMapping, WebApp};
+use sv_program::{CommandFault, ContextTexts, FileText, descriptor_in, realm_in};
+use sv_realm::Realm;
+use sv_text::{Listed, NoMemory, Text};
+
+/// What the files of a context say about access to it.
+#[derive(Drop)]
+pub(crate) struct AuditedContext {
+    /// The descriptor.
+    pub(crate) source: Source,
+    /// Whether the descriptor has a login configuration.
+    pub(crate) has_login: bool,
+    /// The constraints, as a request meets them over the connection that is asked for.
+    pub(crate) constraints: Listed<Constraint>,
+    /// The rules of the constraints.
+    pub(crate) rules: Rules,
+    /// The URL patterns of the servlets.
+    pub(crate) mappings: Listed<ServletMapping>,
+    /// The users.
+    pub(crate) realm: Realm,
+}
+
+/// A descriptor, and the context that it describes.
+#[derive(Drop)]
+pub(crate) struct Source {
+    /// The context path.
+    pub(crate) path: Text,
+    /// The name of the descriptor.
+    pub(crate) file: Text,
+    /// The lines on which its constraints begin, as far as they are known.
+    pub(crate) lines: Listed<Option<u64>>,
+}
+
+/// Reads the contexts whose files have these texts. Transport requirements are dropped if requests arrive over a
+/// connection whose transport is guaranteed.
+///
+/// # Errors
+/// The first fault, of the descriptor and then of the users of each context, in order: [`CommandFault::File`],
+/// [`CommandFault::Descriptor`] or [`CommandFault::Users`]. Or [`CommandFault::NoMemory`].
+pub(crate) fn audited_contexts(
+    alloc: Global,
+    texts: &[ContextTexts],
+    is_secure: bool,
+) -> Result<Listed<AuditedContext>, CommandFault>
+    ensures { Gives command_fault result (each (spec.audited_context is_secure) texts.now) }
+{
+    let mut contexts = Vec::new(alloc);
+    for texts in texts {
+        let context = audited_context(alloc, texts, is_secure)?;
+        contexts.push(context)?;
+    }
+    Ok(Listed::from_vec(contexts))
+}
+
+fn audited_context(
+    alloc: Global,
+    texts: &ContextTexts,
+    is_secure: bool,
+) -> Result<AuditedContext, CommandFault>
+    ensures { Gives command_fault result (spec.audited_context is_secure texts.now) }
+{
+    let web_app = descriptor_in(alloc, texts)?.into_web_app();
+    let realm = realm_in(alloc, texts)?;
+    let source = source_of(alloc, texts)?;
+    Ok(context_of(alloc, source, web_app, realm, is_secure)?)
+}
+
+/// Returns the context with this descriptor and these users.
+fn context_of(
+    alloc: Global,
+    source: Source,
+    web_app: WebApp,
+    realm: Realm,
+    is_secure: bool,
+) -> Result<AuditedContext, NoMemory>
+    ensures { GivesAnswer result (spec.context_of is_secure source web_app realm) }
+{
+    let has_login = web_app.login.is_some();
+    let constraints = constraints_over(alloc, is_secure, web_app.constraints)?;
+    Ok(AuditedContext {
+        source,
+        has_login,
+        constraints,
+        rules: web_app.rules,
+        mappings: web_app.servlet_mappings,
+        realm,
+    })
+}
+
+/// Returns the constraints as a request meets them that arrives over such a connection.
+fn constraints_over(
+    alloc: Global,
+    is_secure: bool,
+    constraints: Listed<Constraint>,
+) -> Result<Listed<Constraint>, NoMemory>
+    ensures { GivesAnswer result (spec.constraints_over is_secure constraints) }
+{
+    if is_secure {
+        without_transport(alloc, constraints)
+    } else {
+        Ok(constraints)
+    }
+}
+
+fn source_of(alloc: Global, texts: &ContextTexts) -> Result<Source, NoMemory>
+    ensures { GivesAnswer result (spec.source_of texts.now) }
+{
+    Ok(Source {
+        path: Text::copy_of(alloc, texts.context.path.as_str())?,
+        file: Text::copy_of(alloc, texts.context.descriptor.as_str())?,
+        lines: lines_in(alloc, &texts.descriptor)?,
+    })
+}
+
+fn lines_in(alloc: Global, file: &FileText) -> Result<Listed<Option<u64>>, NoMemory>
+    ensures { GivesAnswer result (spec.lines_in file.now) }
+{
+    match file {
+        Ok(text) => constraint_lines(alloc, text.as_str()),
+        Err(_) => Ok(Listed::from_vec(Vec::new(alloc))),
+    }
+}

@@ -1,0 +1,136 @@
+//! What is reported of contexts.
+
+ghost use Rattle.std.specs.Prelude.{◌≡◌, map};
+ghost use Rattle.sv_text.specs.Gives.{GivesAnswer};
+ghost use Rattle.sv_audit_command.specs.ContextReports as spec;
+
+use crate::accepted::is_accepted;
+use crate::access_options::Asked;
+use crate::audited_context::AuditedContext;
+use crate::key::{constraint_of, key_of};
+use crate::viewer::viewer_in;
+use std::alloc::Global;
+use sv_audit::{Finding, Row, findings_of, table_of};
+use sv_report::{ContextReport, Narrower, ReportedFinding, ReportedRow, Viewer};
+use sv_text::{Listed, NoMemory};
+
+/// What is asked of contexts: the caller whose access is shown, and the text of the accepting file.
+#[derive(Clone, Copy)]
+pub(crate) struct Asking<'a> {
+    /// The caller, if one is asked for.
+    pub(crate) viewer: Option<Asked<'a>>,
+    /// The text of the accepting file, which is empty if there is none.
+    pub(crate) accepted: &'a str,
+}
+
+/// Returns the reports on contexts, in order.
+pub(crate) fn context_reports(
+    alloc: Global,
+    contexts: Listed<AuditedContext>,
+    asking: Asking<'_>,
+) -> Result<Listed<ContextReport>, NoMemory>
+    ensures { GivesAnswer result (map (spec.context_report asking.entry.viewer asking.entry.accepted.now) contexts) }
+{
+    let mut reports = Vec::new(alloc);
+    for context in contexts.into_vec() {
+        reports.push(context_report(alloc, context, asking)?)?;
+    }
+    Ok(Listed::from_vec(reports))
+}
+
+fn context_report(
+    alloc: Global,
+    context: AuditedContext,
+    asking: Asking<'_>,
+) -> Result<ContextReport, NoMemory>
+    ensures { GivesAnswer result (spec.context_report asking.entry.viewer asking.entry.accepted.now context) }
+{
+    let audit = audit_of(alloc, &context, asking)?;
+    let source = context.source;
+    Ok(ContextReport {
+        path: source.path,
+        file: source.file,
+        has_login: context.has_login,
+        viewer: audit.viewer,
+        rows: audit.rows,
+        findings: audit.findings,
+        lines: source.lines,
+    })
+}
+
+/// What follows from the constraints of a context.
+#[derive(Drop)]
+struct Audit {
+    viewer: Option<Viewer>,
+    rows: Listed<ReportedRow>,
+    findings: Listed<ReportedFinding>,
+}
+
+fn audit_of(alloc: Global, context: &AuditedContext, asking: Asking<'_>) -> Result<Audit, NoMemory>
+    ensures { GivesAnswer result (spec.audit_of asking.entry.viewer asking.entry.accepted.now context.now) }
+{
+    let constraints = context.constraints.as_slice();
+    let table = table_of(alloc, constraints, &context.rules)?;
+    let findings = findings_of(alloc, constraints, &context.rules, &table)?;
+    let rows = reported_rows(alloc, table.rows)?;
+    let findings = reported_findings(alloc, context, asking.accepted, findings)?;
+    let viewer = viewer_in(alloc, asking.viewer, &context.realm)?;
+    Ok(Audit {
+        viewer,
+        rows,
+        findings,
+    })
+}
+
+fn reported_rows(alloc: Global, rows: Listed<Row>) -> Result<Listed<ReportedRow>, NoMemory>
+    ensures { GivesAnswer result (map spec.reported_row rows) }
+{
+    let mut reported = Vec::new(alloc);
+    for row in rows.into_vec() {
+        reported.push(ReportedRow {
+            row,
+            example: None,
+            servlet: None,
+            narrower: Narrower {
+                patterns: Listed::from_vec(Vec::new(alloc)),
+                are_all: false,
+            },
+        })?;
+    }
+    Ok(Listed::from_vec(reported))
+}
+
+fn reported_findings(
+    alloc: Global,
+    context: &AuditedContext,
+    accepted: &str,
+    findings: Listed<Finding>,
+) -> Result<Listed<ReportedFinding>, NoMemory>
+    ensures { GivesAnswer result (map (spec.reported_finding context.now accepted.now) findings) }
+{
+    let mut reported = Vec::new(alloc);
+    for finding in findings.into_vec() {
+        reported.push(reported_finding(alloc, context, accepted, finding)?)?;
+    }
+    Ok(Listed::from_vec(reported))
+}
+
+fn reported_finding(
+    alloc: Global,
+    context: &AuditedContext,
+    accepted: &str,
+    finding: Finding,
+) -> Result<ReportedFinding, NoMemory>
+    ensures { GivesAnswer result (spec.reported_finding context.now accepted.now finding) }
+{
+    let constraints = context.constraints.as_slice();
+    let key = key_of(alloc, context.source.path.as_str(), constraints, &finding)?;
+    let constraint = constraint_of(constraints, &finding);
+    let is_accepted = is_accepted(accepted.as_bytes(), key.as_bytes());
+    Ok(ReportedFinding {
+        finding,
+        key,
+        constraint,
+        is_accepted,
+    })
+}

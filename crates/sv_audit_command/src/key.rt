@@ -1,0 +1,193 @@
+//! The keys of findings, by which an accepting file names them.
+
+ghost use Rattle.std.specs.Prelude.{◌≡◌, ◌++◌, IfOk, OnOk, map, option_copied};
+ghost use Rattle.std.specs.String.{string_bytes};
+ghost use Rattle.sv_constraints.specs.Covering.{lists};
+ghost use Rattle.sv_program.specs.Uncovered.{methods_text, names_text, omission_text, others_text};
+ghost use Rattle.sv_text.specs.Gives.{GivesAnswer};
+ghost use Rattle.sv_audit_command.specs.Key as spec;
+
+use std::alloc::Global;
+use sv_audit::Finding;
+use sv_constraints::{Constraint, Methods};
+use sv_mapping::Pattern;
+use sv_report::escaped::escaped;
+use sv_report::kind_name;
+use sv_text::{NoMemory, Text};
+use sv_uri::shown_context;
+
+/// Returns the key of a finding in the context at this path: the context, the kind and the subject, on one line. A key
+/// has no number of a constraint, so that it stays the same if constraints are added.
+pub(crate) fn key_of(
+    alloc: Global,
+    path: &str,
+    constraints: &[Constraint],
+    finding: &Finding,
+) -> Result<Text, NoMemory>
+    ensures { GivesAnswer result (spec.key_of path.now constraints.now finding.now) }
+{
+    let mut key = String::new(alloc);
+    key.push_str(shown_context(path))?;
+    key.push_str(" ")?;
+    key.push_str(kind_name(finding))?;
+    key.push_str(" ")?;
+    push_subject(&mut key, alloc, constraints, finding)?;
+    escaped(alloc, key.as_str())
+}
+
+fn push_subject(
+    key: &mut String,
+    alloc: Global,
+    constraints: &[Constraint],
+    finding: &Finding,
+) -> Result<(), NoMemory>
+    ensures { OnOk result (string_bytes key.new ≡ string_bytes key.old ++ spec.subject constraints.now finding.now) }
+{
+    match finding {
+        Finding::Uncovered(pattern, methods) => push_uncovered(key, pattern.as_str(), methods),
+        Finding::HeadDiffers(pattern) => Ok(key.push_str(pattern_word(pattern.as_str()))?),
+        Finding::Dead(number) => push_patterns_of(key, alloc, constraints, *number),
+        Finding::UnknownRole(_, role) => Ok(key.push_str(role.as_str())?),
+    }
+}
+
+/// Returns the pattern, or two quotation marks for the empty one.
+fn pattern_word(pattern: &str) -> &str
+    ensures { result.now ≡ spec.pattern_word pattern.now }
+{
+    if pattern.is_empty() { "\"\"" } else { pattern }
+}
+
+fn push_uncovered(key: &mut String, pattern: &str, methods: &Methods) -> Result<(), NoMemory>
+    ensures { OnOk result (string_bytes key.new ≡ string_bytes key.old ++ spec.uncovered_subject pattern.now methods.now) }
+{
+    key.push_str(pattern_word(pattern))?;
+    key.push_str(" ")?;
+    push_methods(key, methods)
+}
+
+/// Appends `*` for all methods, names for only these, or `!` and names for all but these.
+fn push_methods(key: &mut String, methods: &Methods) -> Result<(), NoMemory>
+    ensures { OnOk result (string_bytes key.new ≡ string_bytes key.old ++ methods_text methods.now) }
+{
+    match methods {
+        Methods::All => Ok(key.push_str("*")?),
+        Methods::Only(names) => push_texts(key, names.as_slice()),
+        Methods::Except(names) => push_omission(key, names.as_slice()),
+    }
+}
+
+fn push_omission(key: &mut String, names: &[Text]) -> Result<(), NoMemory>
+    ensures { OnOk result (string_bytes key.new ≡ string_bytes key.old ++ omission_text names.now) }
+{
+    if names.is_empty() {
+        return Ok(key.push_str("*")?);
+    }
+    key.push_str("!")?;
+    push_texts(key, names)
+}
+
+/// Appends texts, separated by commas.
+fn push_texts(key: &mut String, texts: &[Text]) -> Result<(), NoMemory>
+    ensures { OnOk result (string_bytes key.new ≡ string_bytes key.old ++ names_text texts.now) }
+{
+    let Some((text, others)) = texts.split_first() else {
+        return Ok(());
+    };
+    key.push_str(text.as_str())?;
+    push_others(key, others)
+}
+
+fn push_others(key: &mut String, others: &[Text]) -> Result<(), NoMemory>
+    ensures { OnOk result (string_bytes key.new ≡ string_bytes key.old ++ others_text others.now) }
+{
+    for other in others {
+        key.push_str(",")?;
+        key.push_str(other.as_str())?;
+    }
+    Ok(())
+}
+
+/// Appends the patterns of the constraint with this number, separated by commas.
+fn push_patterns_of(
+    key: &mut String,
+    alloc: Global,
+    constraints: &[Constraint],
+    number: u64,
+) -> Result<(), NoMemory>
+    ensures { OnOk result (string_bytes key.new ≡ string_bytes key.old ++ spec.patterns_text constraints.now number) }
+{
+    let Some(constraint) = constraint_numbered(constraints, number) else {
+        return Ok(());
+    };
+    let patterns = pattern_words(alloc, constraint)?;
+    push_texts(key, patterns.as_slice())
+}
+
+fn constraint_numbered(constraints: &[Constraint], number: u64) -> Option<&Constraint>
+    ensures { option_copied result ≡ spec.constraint_numbered constraints.now number }
+{
+    constraints
+        .iter()
+        .find(|constraint| constraint.number == number)
+}
+
+fn pattern_words(alloc: Global, constraint: &Constraint) -> Result<Vec<Text>, NoMemory>
+    ensures { IfOk result (λ words. words.items ≡ spec.words_of constraint.now) }
+{
+    let mut words = Vec::new(alloc);
+    for collection in constraint.collections.as_slice() {
+        push_pattern_words(&mut words, alloc, collection.patterns.as_slice())?;
+    }
+    Ok(words)
+}
+
+fn push_pattern_words(
+    words: &mut Vec<Text>,
+    alloc: Global,
+    patterns: &[Pattern],
+) -> Result<(), NoMemory>
+    ensures { OnOk result (words.new.items ≡ words.old.items ++ map spec.pattern_word patterns.now) }
+{
+    for pattern in patterns {
+        words.push(Text::copy_of(alloc, pattern_word(pattern.text()))?)?;
+    }
+    Ok(())
+}
+
+/// Returns the number of the constraint to change: that of the finding, or the first one that has its pattern.
+pub(crate) fn constraint_of(constraints: &[Constraint], finding: &Finding) -> Option<u64>
+    ensures { result ≡ spec.constraint_of constraints.now finding.now }
+{
+    match finding {
+        Finding::Uncovered(pattern, _) => first_with(constraints, pattern.as_str()),
+        Finding::HeadDiffers(pattern) => first_with(constraints, pattern.as_str()),
+        Finding::Dead(number) => Some(*number),
+        Finding::UnknownRole(number, _) => Some(*number),
+    }
+}
+
+/// Returns the number of the first constraint that has the pattern.
+fn first_with(constraints: &[Constraint], pattern: &str) -> Option<u64>
+    ensures { result ≡ spec.first_with constraints.now pattern.now }
+{
+    let constraint = constraints
+        .iter()
+        .find(|constraint| has_pattern(constraint, pattern))?;
+    Some(constraint.number)
+}
+
+fn has_pattern(constraint: &Constraint, pattern: &str) -> bool
+    ensures { result ≡ spec.has_pattern pattern.now constraint.now }
+{
+    constraint.collections.as_slice().iter().any(|collection| are_among(
+        collection.patterns.as_slice(),
+        pattern,
+    ))
+}
+
+fn are_among(patterns: &[Pattern], text: &str) -> bool
+    ensures { result ≡ lists patterns.now text.now }
+{
+    patterns.iter().any(|pattern| pattern.text() == text)
+}

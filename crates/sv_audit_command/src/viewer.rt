@@ -1,0 +1,95 @@
+//! The caller whose access is shown.
+
+ghost use Rattle.std.specs.List.{list_any};
+ghost use Rattle.std.specs.Prelude.{◌≡◌, is_some, option_copied, option_map};
+ghost use Rattle.sv_realm.specs.Realm.{caller_named};
+ghost use Rattle.sv_text.specs.Gives.{Gives, GivesAnswer};
+ghost use Rattle.sv_program.specs.CommandFault.{command_fault};
+ghost use Rattle.sv_audit_command.specs.Viewer as spec;
+
+use crate::access_options::Asked;
+use crate::audited_context::AuditedContext;
+use std::alloc::Global;
+use sv_program::{CommandFault, quoted};
+use sv_realm::{Caller, Realm};
+use sv_report::Viewer;
+use sv_text::{Listed, NoMemory, Text, copied_texts};
+
+/// Refuses a user that no context has.
+///
+/// # Errors
+/// [`CommandFault::User`], or [`CommandFault::NoMemory`].
+pub(crate) fn check_viewer(
+    alloc: Global,
+    asked: Option<Asked<'_>>,
+    contexts: &[AuditedContext],
+) -> Result<(), CommandFault>
+    ensures { Gives command_fault result (spec.check_viewer asked.entry contexts.now) }
+{
+    match asked {
+        Some(Asked::User(name)) => check_user(alloc, name, contexts),
+        Some(Asked::Role(_)) => Ok(()),
+        None => Ok(()),
+    }
+}
+
+fn check_user(alloc: Global, name: &str, contexts: &[AuditedContext]) -> Result<(), CommandFault>
+    ensures { Gives command_fault result (spec.check_user name.now contexts.now) }
+{
+    if have_user(name, contexts) {
+        return Ok(());
+    }
+    Err(CommandFault::User(quoted(alloc, name)?))
+}
+
+fn have_user(name: &str, contexts: &[AuditedContext]) -> bool
+    ensures { result ≡ list_any (λ context. is_some (caller_named context.realm name.now)) contexts.now }
+{
+    contexts.iter().any(|context| has_user(name, context))
+}
+
+fn has_user(name: &str, context: &AuditedContext) -> bool
+    ensures { result ≡ is_some (caller_named context.now.realm name.now) }
+{
+    context.realm.find(name).is_some()
+}
+
+/// Returns the caller in a context with these users. There is none if the context does not have the user.
+pub(crate) fn viewer_in(
+    alloc: Global,
+    asked: Option<Asked<'_>>,
+    realm: &Realm,
+) -> Result<Option<Viewer>, NoMemory>
+    ensures { GivesAnswer result (spec.viewer_in asked.entry realm.now) }
+{
+    match asked {
+        Some(Asked::User(name)) => user_viewer(alloc, realm.find(name)),
+        Some(Asked::Role(role)) => Ok(Some(role_viewer(alloc, role)?)),
+        None => Ok(None),
+    }
+}
+
+fn user_viewer(alloc: Global, caller: Option<&Caller>) -> Result<Option<Viewer>, NoMemory>
+    ensures { GivesAnswer result (option_map spec.user_viewer (option_copied caller.entry)) }
+{
+    let Some(caller) = caller else {
+        return Ok(None);
+    };
+    Ok(Some(Viewer {
+        name: Text::copy_of(alloc, caller.name.as_str())?,
+        roles: copied_texts(alloc, caller.roles.as_slice())?,
+    }))
+}
+
+/// Returns a caller with only this role.
+fn role_viewer(alloc: Global, role: &str) -> Result<Viewer, NoMemory>
+    ensures { GivesAnswer result (spec.role_viewer role.now) }
+{
+    let mut roles = Vec::new(alloc);
+    roles.push(Text::copy_of(alloc, role)?)?;
+    let name = format!(in alloc; "role {role}")?;
+    Ok(Viewer {
+        name: Text::from_string(name),
+        roles: Listed::from_vec(roles),
+    })
+}
