@@ -13,5 +13,6 @@ pub mod OneTopic
 mod Policy
 pub mod Saying
 pub mod Setting
+pub mod Walking
 pub mod Words
 pub mod Wrong

@@ -1,12 +1,15 @@
--- The second line about the arguments of `run`.
+-- The second line about the arguments of commands that have options.
 use Rattle.std.proofs.Common.{◌≡◌, ℕ, List, ◌∷◌, Some, Result, Ok, Err, codes, ap, subst, sym, ◌∙◌}
 use Rattle.std.specs.Prelude.{IfOk}
 use Rattle.sv.specs.Command.{NameNothing}
-use Rattle.sv.specs.Options.{IsAsked}
+use Rattle.sv.specs.AuditOptions.{IsAudit}
+use Rattle.sv.specs.RunOptions.{IsAsked}
 use Rattle.sv.specs.Topics.{IsCalled}
-use Rattle.sv.specs.Usage.{IsRunLine, IsUsageLine}
+use Rattle.sv.specs.Usage.{IsOptionLine, IsUsageLine}
 use Rattle.sv.specs.Values.{Finds}
-use Rattle.sv.specs.declared.command.Command.TheVariants.{Help, Run}
+use Rattle.sv.specs.declared.command.Command.TheVariants.{Audit, Help, Run}
+use Rattle.sv.specs.declared.audit_options.AuditOptions.{AuditOptions}
+use Rattle.sv.specs.declared.option_set.OptionSet.TheVariants as set
 use Rattle.sv.specs.declared.run_options.RunOptions.{RunOptions}
 use Rattle.sv.specs.declared.topic.Topic.TheVariants as topic
 
@@ -23,8 +26,19 @@ none_asked : (words arguments : List (List ℕ)) → words ≡ codes "run" ∷ a
 none_asked words arguments same nothing options asked = nothing (Run options) ((arguments, same, asked), λ about asks. nothing (Help about) asks)
 
 pub run_line : (words arguments : List (List ℕ)) (word line : List ℕ) → words ≡ word ∷ arguments → Finds (IsCalled word) (Some topic.Run)
-    → (((options : RunOptions) → IsAsked arguments options → ⊥) → IsRunLine arguments line) → NameNothing words → IsUsageLine words line
+    → (((options : RunOptions) → IsAsked arguments options → ⊥) → IsOptionLine set.Run arguments line) → NameNothing words → IsUsageLine words line
 run_line words arguments word line same calls says nothing =
     let Is : List (List ℕ) → Type 0 = λ all. IsUsageLine all line in
     let named : words ≡ codes "run" ∷ arguments = same ∙ ap (λ (name : List ℕ). name ∷ arguments) calls.0 in
     subst Is (sym same) (Some topic.Run, calls, says (none_asked words arguments named nothing))
+
+-- arguments that name nothing are no valid arguments of `audit`
+none_audit : (words arguments : List (List ℕ)) → words ≡ codes "audit" ∷ arguments → NameNothing words → (options : AuditOptions) → IsAudit arguments options → ⊥
+none_audit words arguments same nothing options asked = nothing (Audit options) ((arguments, same, asked), λ about asks. nothing (Help about) asks)
+
+pub audit_line : (words arguments : List (List ℕ)) (word line : List ℕ) → words ≡ word ∷ arguments → Finds (IsCalled word) (Some topic.Audit)
+    → (((options : AuditOptions) → IsAudit arguments options → ⊥) → IsOptionLine set.Audit arguments line) → NameNothing words → IsUsageLine words line
+audit_line words arguments word line same calls says nothing =
+    let Is : List (List ℕ) → Type 0 = λ all. IsUsageLine all line in
+    let named : words ≡ codes "audit" ∷ arguments = same ∙ ap (λ (name : List ℕ). name ∷ arguments) calls.0 in
+    subst Is (sym same) (Some topic.Audit, calls, says (none_audit words arguments named nothing))

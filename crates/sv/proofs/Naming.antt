@@ -6,9 +6,11 @@ use Rattle.sv.specs.declared.command.Command.{Command}
 use Rattle.sv.specs.declared.command.Command.TheVariants.{First, Policy, Uncovered, Audit, Replay, Serve, Run, SelfTest, Help, Version}
 use Rattle.sv.specs.declared.topic.Topic.{Topic}
 use Rattle.sv.specs.declared.topic.Topic.TheVariants as topic
-use Rattle.sv.specs.Options.{IsAsked}
+use Rattle.sv.specs.AuditOptions.{IsAudit}
+use Rattle.sv.specs.RunOptions.{IsAsked}
 use Rattle.sv.specs.Topics.{IsCalled, topic_name}
 use Rattle.sv.specs.Values.{Finds}
+use Rattle.sv.specs.declared.audit_options.AuditOptions.{AuditOptions}
 use Rattle.sv.specs.declared.run_options.RunOptions.{RunOptions}
 
 module _ (words : List (List ℕ)) where
@@ -17,7 +19,7 @@ module _ (words : List (List ℕ)) where
   only_run none (First deny) is = cc
   only_run none (Policy question) is = cc
   only_run none (Uncovered config) is = cc
-  only_run none (Audit config options) is = cc
+  only_run none (Audit options) (rest, same, asked) = cc
   only_run none (Replay config) is = cc
   only_run none (Serve service) is = cc
   only_run none (Run options) (rest, same, asked) =
@@ -26,6 +28,20 @@ module _ (words : List (List ℕ)) where
   only_run none (Help about) is = is
   only_run none Version (word, same, inl is) = cc
   only_run none Version (word, same, inr is) = cc
+
+  pub only_audit : ((any : AuditOptions) → IsAudit words any → ⊥) → (command : Command) → AreWordsOf (codes "audit" ∷ words) command → ⊥
+  only_audit none (First deny) is = cc
+  only_audit none (Policy question) is = cc
+  only_audit none (Uncovered config) is = cc
+  only_audit none (Audit options) (rest, same, asked) =
+      none options (subst (λ w. IsAudit w options) (sym (ap (drop 1) same)) asked)
+  only_audit none (Replay config) is = cc
+  only_audit none (Serve service) is = cc
+  only_audit none (Run options) (rest, same, asked) = cc
+  only_audit none (SelfTest config) is = cc
+  only_audit none (Help about) is = is
+  only_audit none Version (word, same, inl is) = cc
+  only_audit none Version (word, same, inr is) = cc
 
 module _ (word : List ℕ) (rest words : List (List ℕ)) (same : words ≡ word ∷ rest) (none : (topic : Topic) → IsCalled word topic → ⊥) where
   begins : (name : List ℕ) (others : List (List ℕ)) → words ≡ name ∷ others → word ≡ name
@@ -36,7 +52,7 @@ module _ (word : List ℕ) (rest words : List (List ℕ)) (same : words ≡ word
   not_called (First deny) is = none topic.First (begins (topic_name topic.First) _ is)
   not_called (Policy question) is = none topic.Policy (begins (topic_name topic.Policy) _ is)
   not_called (Uncovered config) is = none topic.Uncovered (begins (topic_name topic.Uncovered) _ is)
-  not_called (Audit config options) is = none topic.Audit (begins (topic_name topic.Audit) _ is)
+  not_called (Audit options) is = none topic.Audit (begins (topic_name topic.Audit) is.0 is.1)
   not_called (Replay config) is = none topic.Replay (begins (topic_name topic.Replay) _ is)
   not_called (Serve service) is = none topic.Serve (begins (topic_name topic.Serve) _ is)
   not_called (Run options) is = none topic.Run (begins (topic_name topic.Run) is.0 is.1)

@@ -92,7 +92,7 @@ unfolding Begins
 begins arguments (command.First deny) is = (_, _, is, refl)
 begins arguments (command.Policy question) is = (_, _, is, refl)
 begins arguments (command.Uncovered config) is = (_, _, is, refl)
-begins arguments (command.Audit config options) is = (_, _, is, refl)
+begins arguments (command.Audit options) (rest, is, asked) = (_, rest, is, refl)
 begins arguments (command.Replay config) is = (_, _, is, refl)
 begins arguments (command.Serve service) is = (_, _, is, refl)
 begins arguments (command.Run options) (rest, is, asked) = (_, rest, is, refl)

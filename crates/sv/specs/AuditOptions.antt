@@ -1,32 +1,35 @@
--- The options of the command `audit`.
-use Rattle.std.specs.Prelude.{ℕ, Bool, true, false, List, [], ◌∷◌, codes, Option, Some, None}
-use Rattle.std.specs.Option.{unwrap_or}
+-- The meaning of the arguments of the command `audit`.
+use Rattle.std.specs.Prelude.{◌≡◌, ℕ, List, [], ◌∷◌, Option, Some, None}
+use Rattle.sv.specs.AuditWords.{IsFormat}
+use Rattle.sv.specs.Options.{AreProper}
+use Rattle.sv.specs.Settings.{Setting, values, words_of}
+use Rattle.sv.specs.Values.{IsGiven, IsName, Says, SaysOr}
 use Rattle.sv.specs.declared.audit_options.AuditOptions.{AuditOptions}
-use Rattle.sv.specs.declared.audit_options.AuditOptions.TheVariants.{Plain, SecureFirst, FormatFirst}
-use Rattle.sv_program.specs.declared.access_report.AccessOptions.{AccessOptions}
-use Rattle.sv_program.specs.declared.access_report.Format.{Format}
-use Rattle.sv_program.specs.declared.access_report.Format.TheVariants.{Text, Json}
+use Rattle.sv.specs.declared.key.Key.TheVariants.{Accept, As, FailOn, Format, Lines, Role, Secure}
+use Rattle.sv.specs.declared.option_set.OptionSet.TheVariants.{Audit}
+use Rattle.sv_audit_command.specs.declared.access_options.AccessOptions.{AccessOptions}
+use Rattle.sv_audit_command.specs.declared.access_options.Asked.{Asked}
+use Rattle.sv_audit_command.specs.declared.access_options.Asked.TheVariants as asked
+use Rattle.sv_audit_command.specs.declared.access_options.Format.TheVariants as format
 
-abbrev pub format_name : Format → List ℕ
-format_name Text = codes "text"
-format_name Json = codes "json"
+-- no caller, a user or a role
+abbrev pub IsViewer : List (List ℕ) → List (List ℕ) → Option Asked → Type 0
+IsViewer [] [] None = Unit {0}
+IsViewer (user ∷ []) [] (Some (asked.User name)) = name.now ≡ user
+IsViewer [] (role ∷ []) (Some (asked.Role name)) = name.now ≡ role
+IsViewer users roles viewer = ⊥
 
-abbrev pub format_words : Option Format → List (List ℕ)
-format_words None = []
-format_words (Some format) = codes "--format" ∷ format_name format ∷ []
+-- the settings give these options; the form of the report is text if none is named
+abbrev pub GiveAccess : List Setting → AccessOptions → Type 0
+GiveAccess settings options =
+    SaysOr format.Text IsFormat (values Format settings) options.format
+    × IsGiven (values Secure settings) options.is_secure
+    × IsViewer (values As settings) (values Role settings) options.viewer
+    × Says IsName (values FailOn settings) options.fail_on
+    × Says IsName (values Accept settings) options.accept
+    × Says IsName (values Lines settings) options.lines
 
-abbrev pub secure_words : Bool → List (List ℕ)
-secure_words true = codes "--secure" ∷ []
-secure_words false = []
-
--- the options as words
-abbrev pub option_words : AuditOptions → List (List ℕ)
-option_words Plain = []
-option_words (SecureFirst format) = codes "--secure" ∷ format_words format
-option_words (FormatFirst format is_secure) = codes "--format" ∷ format_name format ∷ secure_words is_secure
-
--- the options of the report; its form is text if none is named
-abbrev pub access_options : AuditOptions → AccessOptions
-access_options Plain = record { format = Text; is_secure = false }
-access_options (SecureFirst its_format) = record { format = unwrap_or its_format Text; is_secure = true }
-access_options (FormatFirst its_format secure) = record { format = its_format; is_secure = secure }
+-- the arguments are the name of the server file, then the words of settings in any order, which give these options
+abbrev pub IsAudit : List (List ℕ) → AuditOptions → Type 0
+IsAudit arguments options =
+    (settings : List Setting) × (arguments ≡ options.config.now ∷ words_of settings) × AreProper Audit settings × GiveAccess settings options.access

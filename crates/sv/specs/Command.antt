@@ -1,7 +1,7 @@
 -- The command that arguments name.
 use Rattle.std.specs.Prelude.{◌≡◌, ℕ, ◌⊎◌, List, [], ◌∷◌, codes, Option, Some, None}
-use Rattle.sv.specs.AuditOptions.{option_words}
-use Rattle.sv.specs.Options.{IsAsked}
+use Rattle.sv.specs.AuditOptions.{IsAudit}
+use Rattle.sv.specs.RunOptions.{IsAsked}
 use Rattle.sv.specs.Question.{question_words}
 use Rattle.sv.specs.Service.{service_words}
 use Rattle.sv.specs.Topics.{IsCalled, IsHelpOption, topic_name}
@@ -34,7 +34,7 @@ abbrev pub AreWordsOf : List (List ℕ) → Command → Type 0
 AreWordsOf arguments (First deny_uncovered) = arguments ≡ codes "first" ∷ first_options deny_uncovered
 AreWordsOf arguments (Policy question) = arguments ≡ codes "policy" ∷ question_words question
 AreWordsOf arguments (Uncovered config) = arguments ≡ codes "uncovered" ∷ name_words config
-AreWordsOf arguments (Audit config options) = arguments ≡ codes "audit" ∷ config.now ∷ option_words options
+AreWordsOf arguments (Audit options) = IsBehind (codes "audit") IsAudit arguments options
 AreWordsOf arguments (Replay config) = arguments ≡ codes "replay" ∷ name_words config
 AreWordsOf arguments (Serve service) = arguments ≡ codes "serve" ∷ service_words service
 AreWordsOf arguments (Run options) = IsBehind (codes "run") IsAsked arguments options

@@ -1,5 +1,5 @@
 -- The effects of the commands of the program.
-use Rattle.std.specs.Prelude.{◌≡◌, ℕ, List, Option, Result, Ok, Err}
+use Rattle.std.specs.Prelude.{◌≡◌, ◌≢◌, ℕ, List, Option, Result, Ok, Err}
 use Rattle.sv_deployments.specs.declared.program_filter.ProgramFilter.{ProgramFilter}
 use Rattle.sv_deployments.specs.declared.program_listener.ProgramListener.{ProgramListener}
 use Rattle.sv_deployments.specs.declared.program_servlet.ProgramServlet.{ProgramServlet}
@@ -8,13 +8,13 @@ use Rattle.sv_program.specs.CommandFault.{UnlessNoMemory}
 use Rattle.sv_program.specs.FileStore.{Giving}
 use Rattle.sv_program.specs.FirstLine.{RunsFirst}
 use Rattle.sv_program.specs.Printed.{Prints}
-use Rattle.sv_program.specs.Report.{IsReported}
+use Rattle.sv_program.specs.UncoveredCommand.{IsReported}
 use Rattle.sv_program.specs.declared.command_fault.CommandFault.{CommandFault}
-use Rattle.sv_program.specs.declared.report.Report.TheVariants as report
+use Rattle.sv_program.specs.declared.command_fault.CommandFault.TheVariants.{Output}
 use Rattle.sv_deployments.specs.Configuration.{FindsConfiguration}
 use Rattle.sv_deployments.specs.Folders.{FolderGiving}
 use Rattle.sv_deployments.specs.declared.configuration.Configuration.{Configuration}
-use Rattle.sv.specs.AuditOptions.{access_options}
+use Rattle.sv_audit_command.specs.AuditCommand.{Audits, IsAudited, IsBeforeOutput}
 use Rattle.sv.specs.Policy.{RunsPolicy}
 use Rattle.sv.specs.Printed.{Shows}
 use Rattle.sv.specs.Topics.{help_text}
@@ -39,15 +39,20 @@ ServesNothing (Run options) = ⊥
 ServesNothing (SelfTest config) = ⊥
 ServesNothing other = Unit {0}
 
+-- the command ends with this fault before it writes; `audit` counts findings after its report
+abbrev pub IsBefore : Command → CommandFault → Type 0
+IsBefore (Audit options) fault = IsBeforeOutput fault
+IsBefore command fault = fault ≢ Output
+
 module _ (moving : ComponentSteps ProgramServlet ProgramFilter ProgramListener) where
   -- the result of a command and the bytes that it adds to its writer, by the store and the known bytes of its reader;
   -- the contracts of `replay`, `serve`, `run` and `self_test` say what the events of a container write
   abbrev pub RunsCommand : {S : Type 0} → Giving S → FolderGiving S → Command → Result (Unit {0}) CommandFault → S → S → Option (List ℕ) → Option (List ℕ) → Option (List ℕ) → Type 0
   RunsCommand gives files (First deny_uncovered) result before after stream old new = (after ≡ before) × RunsFirst deny_uncovered result stream old new
   RunsCommand gives files (Policy question) result before after stream old new = RunsPolicy moving gives files question result before after old new
-  RunsCommand gives files (Uncovered config) result before after stream old new = Prints (IsReported gives report.Uncovered config.now) result before after old new
-  RunsCommand gives files (Audit config options) result before after stream old new =
-      Prints (IsReported gives (report.Access (access_options options)) config.now) result before after old new
+  RunsCommand gives files (Uncovered config) result before after stream old new = Prints (IsReported gives config.now) result before after old new
+  RunsCommand gives files (Audit options) result before after stream old new =
+      Audits (IsAudited gives options.access options.config.now) result before after old new
   RunsCommand gives files (Replay config) result before after stream old new = ReadsFiles gives files config.now result before after
   RunsCommand gives files (Serve service) result before after stream old new = ReadsFiles gives files service.config.now result before after
   RunsCommand gives files (Run options) result before after stream old new = ReadsFiles gives files options.config.now result before after

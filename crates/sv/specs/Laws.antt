@@ -1,15 +1,20 @@
 -- Laws of the meaning of arguments.
-use Rattle.std.specs.Prelude.{◌≡◌, ◌≢◌, ◌<◌, ◌≤◌, ℕ, List, [], Some, None, option_copied}
+use Rattle.std.specs.Prelude.{◌≡◌, ◌≢◌, ◌<◌, ◌≤◌, ℕ, List, [], Option, Some, None, option_copied}
 use Rattle.std.specs.List.{All, Contains}
 use Rattle.sv.specs.Command.{IsNamed}
 use Rattle.sv.specs.Near.{distance, near}
-use Rattle.sv.specs.Options.{IsAsked}
+use Rattle.sv.specs.AuditOptions.{IsAudit}
+use Rattle.sv.specs.RunOptions.{IsAsked}
 use Rattle.sv.specs.Usage.{IsUsageLine}
 use Rattle.sv.specs.declared.command.Command.{Command}
 use Rattle.sv.specs.declared.command.Command.TheVariants.{First, Policy, Uncovered, Audit, Replay, Serve, Run, SelfTest, Help, Version}
 use Rattle.sv.specs.declared.topic.Topic.{Topic}
 use Rattle.sv.specs.declared.topic.Topic.TheVariants as topic
+use Rattle.sv.specs.declared.audit_options.AuditOptions.{AuditOptions}
 use Rattle.sv.specs.declared.run_options.RunOptions.{RunOptions}
+use Rattle.sv_audit_command.specs.declared.access_options.AccessOptions.{AccessOptions}
+use Rattle.sv_audit_command.specs.declared.access_options.Asked.{Asked}
+use Rattle.sv_audit_command.specs.declared.access_options.Asked.TheVariants as asked
 
 -- the same names, address and numbers
 abbrev pub AreSame : RunOptions → RunOptions → Type 0
@@ -21,12 +26,30 @@ AreSame one other =
 abbrev pub AskForOne : Type 0
 AskForOne = (arguments : List (List ℕ)) (one other : RunOptions) → IsAsked arguments one → IsAsked arguments other → AreSame one other
 
+-- the same caller
+abbrev pub SameViewer : Option Asked → Option Asked → Type 0
+SameViewer None None = Unit {0}
+SameViewer (Some (asked.User one)) (Some (asked.User other)) = one.now ≡ other.now
+SameViewer (Some (asked.Role one)) (Some (asked.Role other)) = one.now ≡ other.now
+SameViewer one other = ⊥
+
+-- the same form, caller, kinds and names
+abbrev pub SameAccess : AccessOptions → AccessOptions → Type 0
+SameAccess one other =
+    (one.format ≡ other.format) × (one.is_secure ≡ other.is_secure) × SameViewer one.viewer other.viewer
+    × (option_copied one.fail_on ≡ option_copied other.fail_on) × (option_copied one.accept ≡ option_copied other.accept)
+    × (option_copied one.lines ≡ option_copied other.lines)
+
+abbrev pub AuditsOne : Type 0
+AuditsOne = (arguments : List (List ℕ)) (one other : AuditOptions) → IsAudit arguments one → IsAudit arguments other
+    → (one.config.now ≡ other.config.now) × SameAccess one.access other.access
+
 -- the topic of a command
 abbrev pub topic_of : Command → Topic
 topic_of (First deny_uncovered) = topic.First
 topic_of (Policy question) = topic.Policy
 topic_of (Uncovered config) = topic.Uncovered
-topic_of (Audit config options) = topic.Audit
+topic_of (Audit options) = topic.Audit
 topic_of (Replay config) = topic.Replay
 topic_of (Serve service) = topic.Serve
 topic_of (Run options) = topic.Run

@@ -1,9 +1,11 @@
 pub mod Options
 pub mod AuditOptions
+pub mod AuditWords
+pub mod RunOptions
+pub mod Given
 pub mod Command
 pub mod Laws
 pub mod Question
-pub mod Reading
 pub mod Service
 pub mod Settings
 pub mod Values

@@ -1,29 +1,35 @@
--- What is wrong with the arguments of the command `run`.
-use Rattle.std.specs.Prelude.{◌≡◌, ◌≢◌, ℕ, List, [], ◌∷◌, ◌++◌, codes}
-use Rattle.std.specs.List.{filter, flat_map}
-use Rattle.sv.specs.Options.{AreSet, IsSet}
-use Rattle.sv.specs.Settings.{Setting, is_same_seed, key_word, option_word, setting_words, words_behind}
+-- What is wrong with the arguments of a command that has options.
+use Rattle.std.specs.Prelude.{◌≡◌, ◌≢◌, ℕ, List, [], ◌∷◌, ◌++◌, true, Option, Some}
+use Rattle.sv.specs.Options.{AreProper, IsValue}
+use Rattle.sv.specs.Settings.{Setting, IsKey, key_word, rival, set_of, takes_word, values, words_of}
+use Rattle.sv.specs.declared.key.Key.{Key}
 use Rattle.sv.specs.declared.option_fault.OptionFault.{OptionFault}
-use Rattle.sv.specs.declared.option_fault.OptionFault.TheVariants.{NoServer, Unknown, Twice, SameSeedTwice, NoValue, BadValue}
-use Rattle.sv.specs.declared.run_options.RunOptions.{RunOptions}
+use Rattle.sv.specs.declared.option_fault.OptionFault.TheVariants.{NoServer, Unknown, Twice, Excluded, NoValue, BadValue}
+use Rattle.sv.specs.declared.option_set.OptionSet.{OptionSet}
+
+-- the command has this option, and it may follow these settings
+abbrev pub IsFree : OptionSet → List Setting → Key → Type 0
+IsFree set settings key =
+    (set_of key ≡ set) × (values key settings ≡ []) × ((other : Key) → rival key ≡ Some other → values other settings ≡ [])
 
 -- the words after these settings begin with this fault
-abbrev pub IsWrong : List Setting → List (List ℕ) → OptionFault → Type 0
-IsWrong settings words NoServer = ⊥
-IsWrong settings words (Unknown word) =
-    (after : List (List ℕ)) × (words ≡ word.now ∷ after) × ((setting : Setting) → word.now ≢ option_word setting)
-IsWrong settings words (Twice key) =
-    (after : List (List ℕ)) × (words ≡ key_word key ∷ after) × (words_behind key settings ≢ [])
-IsWrong settings words SameSeedTwice =
-    (after : List (List ℕ)) × (words ≡ codes "--same-seed" ∷ after) × (filter is_same_seed settings ≢ [])
-IsWrong settings words (NoValue key) = (words ≡ key_word key ∷ []) × (words_behind key settings ≡ [])
-IsWrong settings words (BadValue key value) =
-    (after : List (List ℕ)) × (words ≡ key_word key ∷ value.now ∷ after) × (words_behind key settings ≡ [])
-    × ((options : RunOptions) → IsSet key (value.now ∷ []) options → ⊥)
+abbrev pub IsWrong : OptionSet → List Setting → List (List ℕ) → OptionFault → Type 0
+IsWrong set settings words NoServer = ⊥
+IsWrong set settings words (Unknown word) =
+    (after : List (List ℕ)) × (words ≡ word.now ∷ after) × ((key : Key) → IsKey set word.now key → ⊥)
+IsWrong set settings words (Twice key) =
+    (after : List (List ℕ)) × (words ≡ key_word key ∷ after) × (set_of key ≡ set) × (values key settings ≢ [])
+IsWrong set settings words (Excluded key other) =
+    (after : List (List ℕ)) × (words ≡ key_word key ∷ after) × (set_of key ≡ set) × (values key settings ≡ [])
+    × (rival key ≡ Some other) × (values other settings ≢ [])
+IsWrong set settings words (NoValue key) = (words ≡ key_word key ∷ []) × IsFree set settings key × (takes_word key ≡ true)
+IsWrong set settings words (BadValue key value) =
+    (after : List (List ℕ)) × (words ≡ key_word key ∷ value.now ∷ after) × IsFree set settings key × (takes_word key ≡ true)
+    × (IsValue key value.now → ⊥)
 
--- there is no server file, or the words after its name are those of settings, followed by words with this fault
-abbrev pub IsRefused : List (List ℕ) → OptionFault → Type 0
-IsRefused arguments NoServer = arguments ≡ []
-IsRefused arguments fault =
-    (options : RunOptions) × (settings : List Setting) × (rest : List (List ℕ))
-    × (arguments ≡ options.config.now ∷ (flat_map setting_words settings ++ rest)) × AreSet settings options × IsWrong settings rest fault
+-- there is no server file, or the words after its name are those of proper settings, followed by words with this fault
+abbrev pub IsRefused : OptionSet → List (List ℕ) → OptionFault → Type 0
+IsRefused set arguments NoServer = arguments ≡ []
+IsRefused set arguments fault =
+    (config : List ℕ) × (settings : List Setting) × (rest : List (List ℕ))
+    × (arguments ≡ config ∷ (words_of settings ++ rest)) × AreProper set settings × IsWrong set settings rest fault

@@ -1,28 +1,34 @@
--- The meaning of the arguments of the command `run`.
-use Rattle.std.specs.Prelude.{◌≡◌, ℕ, List, [], ◌∷◌, if◌then◌else◌}
-use Rattle.std.specs.List.{filter, flat_map}
-use Rattle.sv.specs.Settings.{Setting, SameSeed, is_same_seed, setting_words, words_behind}
-use Rattle.sv.specs.Values.{IsAddress, IsCount, IsName, Says}
+-- Which options the arguments of a command may have.
+use Rattle.std.specs.Prelude.{◌≡◌, ◌⊎◌, ℕ, ◌≤◌, List, [], length, All, Option, Some}
+use Rattle.sv_audit_command.specs.Kinds.{AreKinds}
+use Rattle.sv_audit_command.specs.declared.access_options.Format as report
+use Rattle.sv.specs.Settings.{Setting, Keyed, rival, set_of, values}
+use Rattle.sv.specs.Values.{IsAddress, IsCount}
+use Rattle.sv.specs.AuditWords.{IsFormat}
 use Rattle.sv.specs.declared.key.Key.{Key}
-use Rattle.sv.specs.declared.key.Key.TheVariants.{Connections, Control, HeldMebibytes, IdleSeconds, Journal, Listen}
-use Rattle.sv.specs.declared.run_options.RunOptions.{RunOptions}
+use Rattle.sv.specs.declared.key.Key.TheVariants.{Listen, SameSeed, Connections, IdleSeconds, HeldMebibytes, Secure, Format, FailOn}
+use Rattle.sv.specs.declared.option_set.OptionSet.{OptionSet}
+use Rattle.std.specs.declared.net.socket_addr.SocketAddr.{SocketAddr}
 
--- the words after an option give its value
-abbrev pub IsSet : Key → List (List ℕ) → RunOptions → Type 0
-IsSet Control words options = Says IsName words options.control
-IsSet Journal words options = Says IsName words options.journal
-IsSet Listen words options = Says IsAddress words options.listen
-IsSet Connections words options = Says (IsCount 1024) words options.connections
-IsSet IdleSeconds words options = Says (IsCount 86400) words options.idle_seconds
-IsSet HeldMebibytes words options = Says (IsCount 1048576) words options.held_mebibytes
+-- the word is a value of the option
+abbrev pub IsValue : Key → List ℕ → Type 0
+IsValue Listen word = (address : SocketAddr) × IsAddress word address
+IsValue SameSeed word = word ≡ []
+IsValue Connections word = (count : ℕ) × IsCount 1024 word count
+IsValue IdleSeconds word = (count : ℕ) × IsCount 86400 word count
+IsValue HeldMebibytes word = (count : ℕ) × IsCount 1048576 word count
+IsValue Secure word = word ≡ []
+IsValue Format word = (format : report.Format) × IsFormat word format
+IsValue FailOn word = AreKinds word
+IsValue other word = Unit {0}
 
--- each option occurs at most once, and the settings give these options
-abbrev pub AreSet : List Setting → RunOptions → Type 0
-AreSet settings options =
-    ((key : Key) → IsSet key (words_behind key settings) options)
-    × (filter is_same_seed settings ≡ if options.same_seed then SameSeed ∷ [] else [])
+-- an option of the command with a value of it
+abbrev pub IsProper : OptionSet → Setting → Type 0
+IsProper set (Keyed key word) = (set_of key ≡ set) × IsValue key word
 
--- the arguments are the name of the server file, then the words of settings in any order, which give these options
-abbrev pub IsAsked : List (List ℕ) → RunOptions → Type 0
-IsAsked arguments options =
-    (settings : List Setting) × (arguments ≡ options.config.now ∷ flat_map setting_words settings) × AreSet settings options
+-- options of the command with values of them, each at most once, and no two that exclude each other
+abbrev pub AreProper : OptionSet → List Setting → Type 0
+AreProper set settings =
+    All (IsProper set) settings
+    × ((key : Key) → length (values key settings) ≤ 1)
+    × ((key other : Key) → rival key ≡ Some other → (values key settings ≡ []) ⊎ (values other settings ≡ []))

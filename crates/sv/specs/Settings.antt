@@ -1,58 +1,98 @@
--- The options of the command `run` as words.
-use Rattle.std.specs.Prelude.{ℕ, Bool, true, false, List, [], ◌∷◌, codes}
+-- The options of the commands as words.
+use Rattle.std.specs.Prelude.{◌≡◌, ℕ, Bool, true, false, List, [], ◌∷◌, codes, Option, Some, None}
 use Rattle.std.specs.List.{flat_map}
+use Rattle.std.specs.Str.{bytes_eq}
 use Rattle.sv.specs.declared.key.Key.{Key}
-use Rattle.sv.specs.declared.key.Key.TheVariants.{Connections, Control, HeldMebibytes, IdleSeconds, Journal, Listen}
+use Rattle.sv.specs.declared.key.Key.TheVariants.{Control, Journal, Listen, SameSeed, Connections, IdleSeconds, HeldMebibytes, Secure, Format, As, Role, FailOn, Accept, Lines}
+use Rattle.sv.specs.declared.option_set.OptionSet.{OptionSet}
+use Rattle.sv.specs.declared.option_set.OptionSet.TheVariants.{Run, Audit}
 
--- an option with its word, or the only option without one
+-- an option and the word after it; that of an option which takes none is empty
 pub data Setting : Type 0 where
   Keyed : Key → List ℕ → Setting
-  SameSeed : Setting
 
 abbrev pub key_word : Key → List ℕ
 key_word Control = codes "--control"
 key_word Journal = codes "--journal"
 key_word Listen = codes "--listen"
+key_word SameSeed = codes "--same-seed"
 key_word Connections = codes "--connections"
 key_word IdleSeconds = codes "--idle-seconds"
 key_word HeldMebibytes = codes "--held-mebibytes"
+key_word Secure = codes "--secure"
+key_word Format = codes "--format"
+key_word As = codes "--as"
+key_word Role = codes "--role"
+key_word FailOn = codes "--fail-on"
+key_word Accept = codes "--accept"
+key_word Lines = codes "--lines"
 
 -- the value of an option, as messages call it
 abbrev pub value_name : Key → List ℕ
 value_name Control = codes "SOCKET"
 value_name Journal = codes "FILE"
 value_name Listen = codes "ADDRESS:PORT"
+value_name SameSeed = codes "nothing"
 value_name Connections = codes "a number from 1 to 1024"
 value_name IdleSeconds = codes "a number from 1 to 86400"
 value_name HeldMebibytes = codes "a number from 1 to 1048576"
+value_name Secure = codes "nothing"
+value_name Format = codes "text, json, html or keys"
+value_name As = codes "USER"
+value_name Role = codes "ROLE"
+value_name FailOn = codes "any, or kinds of findings joined by commas"
+value_name Accept = codes "FILE"
+value_name Lines = codes "FILE"
 
--- all options, in the order of the help
-abbrev pub option_words : List (List ℕ)
-option_words =
-    key_word Control ∷ key_word Journal ∷ key_word Listen ∷ codes "--same-seed" ∷ key_word Connections ∷ key_word IdleSeconds ∷ key_word HeldMebibytes ∷ []
+-- the options of a command, in the order of its help
+abbrev pub option_words : OptionSet → List (List ℕ)
+option_words Run =
+    key_word Control ∷ key_word Journal ∷ key_word Listen ∷ key_word SameSeed ∷ key_word Connections ∷ key_word IdleSeconds ∷ key_word HeldMebibytes ∷ []
+option_words Audit =
+    key_word Secure ∷ key_word Format ∷ key_word As ∷ key_word Role ∷ key_word FailOn ∷ key_word Accept ∷ key_word Lines ∷ []
 
--- the first word of a setting
-abbrev pub option_word : Setting → List ℕ
-option_word (Keyed key word) = key_word key
-option_word SameSeed = codes "--same-seed"
+-- the command of an option
+abbrev pub set_of : Key → OptionSet
+set_of Secure = Audit
+set_of Format = Audit
+set_of As = Audit
+set_of Role = Audit
+set_of FailOn = Audit
+set_of Accept = Audit
+set_of Lines = Audit
+set_of other = Run
+
+-- the command has this option, and its word is this
+abbrev pub IsKey : OptionSet → List ℕ → Key → Type 0
+IsKey set word key = (set_of key ≡ set) × (word ≡ key_word key)
+
+-- a word follows the option's own
+abbrev pub takes_word : Key → Bool
+takes_word SameSeed = false
+takes_word Secure = false
+takes_word other = true
+
+-- the option that cannot be given with this one
+abbrev pub rival : Key → Option Key
+rival As = Some Role
+rival Role = Some As
+rival other = None
+
+-- the word after the option's own, if it takes one
+abbrev pub own_words : Bool → List ℕ → List (List ℕ)
+own_words true word = word ∷ []
+own_words false word = []
 
 abbrev pub setting_words : Setting → List (List ℕ)
-setting_words (Keyed key word) = key_word key ∷ word ∷ []
-setting_words SameSeed = codes "--same-seed" ∷ []
+setting_words (Keyed key word) = key_word key ∷ own_words (takes_word key) word
 
--- the word after a key, if the setting has that key
-abbrev pub word_behind : Key → Setting → List (List ℕ)
-word_behind Control (Keyed Control word) = word ∷ []
-word_behind Journal (Keyed Journal word) = word ∷ []
-word_behind Listen (Keyed Listen word) = word ∷ []
-word_behind Connections (Keyed Connections word) = word ∷ []
-word_behind IdleSeconds (Keyed IdleSeconds word) = word ∷ []
-word_behind HeldMebibytes (Keyed HeldMebibytes word) = word ∷ []
-word_behind key other = []
+abbrev pub words_of : List Setting → List (List ℕ)
+words_of settings = flat_map setting_words settings
 
-abbrev pub words_behind : Key → List Setting → List (List ℕ)
-words_behind key settings = flat_map (word_behind key) settings
+-- the word of a setting, if it is of that option
+abbrev pub value_in : Key → Setting → List (List ℕ)
+value_in key (Keyed own word) = own_words (bytes_eq (key_word key) (key_word own)) word
 
-abbrev pub is_same_seed : Setting → Bool
-is_same_seed (Keyed key word) = false
-is_same_seed SameSeed = true
+-- the words after an option
+abbrev pub values : Key → List Setting → List (List ℕ)
+values key settings = flat_map (value_in key) settings

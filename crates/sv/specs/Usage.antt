@@ -7,9 +7,11 @@ use Rattle.sv.specs.Topics.{IsCalled, topic_name, topic_names, topic_usage}
 use Rattle.sv.specs.Values.{Finds}
 use Rattle.sv.specs.declared.key.Key.{Key}
 use Rattle.sv.specs.declared.option_fault.OptionFault.{OptionFault}
-use Rattle.sv.specs.declared.option_fault.OptionFault.TheVariants.{NoServer, Unknown, Twice, SameSeedTwice, NoValue, BadValue}
+use Rattle.sv.specs.declared.option_fault.OptionFault.TheVariants.{NoServer, Unknown, Twice, Excluded, NoValue, BadValue}
+use Rattle.sv.specs.declared.option_set.OptionSet.{OptionSet}
+use Rattle.sv.specs.declared.option_set.OptionSet.TheVariants as set
 use Rattle.sv.specs.declared.topic.Topic.{Topic}
-use Rattle.sv.specs.declared.topic.Topic.TheVariants.{Run, Help}
+use Rattle.sv.specs.declared.topic.Topic.TheVariants.{Run, Audit, Help}
 use Rattle.sv_program.specs.Shown.{quoted}
 
 -- the near name, or else where the names are listed
@@ -22,10 +24,22 @@ unknown_command word =
     codes "  there is no command " ++ quoted word ++ codes "; "
     ++ hint (near topic_names word) (codes "\"sv help\" lists the commands")
 
-abbrev pub unknown_option : List ℕ → List ℕ
-unknown_option word =
-    codes "  run has no option " ++ quoted word ++ codes "; "
-    ++ hint (near option_words word) (codes "\"sv help run\" lists the options")
+-- the command with these options
+abbrev pub set_topic : OptionSet → Topic
+set_topic set.Run = Run
+set_topic set.Audit = Audit
+
+abbrev pub no_option : OptionSet → List ℕ
+no_option set.Run = codes "  run has no option "
+no_option set.Audit = codes "  audit has no option "
+
+abbrev pub options_listing : OptionSet → List ℕ
+options_listing set.Run = codes "\"sv help run\" lists the options"
+options_listing set.Audit = codes "\"sv help audit\" lists the options"
+
+abbrev pub unknown_option : OptionSet → List ℕ → List ℕ
+unknown_option its word =
+    no_option its ++ quoted word ++ codes "; " ++ hint (near (option_words its) word) (options_listing its)
 
 abbrev pub usage_line : Topic → List ℕ
 usage_line topic = codes "  usage: " ++ topic_usage topic
@@ -33,17 +47,17 @@ usage_line topic = codes "  usage: " ++ topic_usage topic
 abbrev pub needs_line : Key → List ℕ
 needs_line key = codes "  " ++ key_word key ++ codes " needs " ++ value_name key
 
--- the line about the arguments of `run`
-abbrev pub option_fault_line : OptionFault → List ℕ
-option_fault_line NoServer = usage_line Run
-option_fault_line (Unknown word) = unknown_option word.now
-option_fault_line (Twice key) = codes "  " ++ key_word key ++ codes " is given twice"
-option_fault_line SameSeedTwice = codes "  --same-seed is given twice"
-option_fault_line (NoValue key) = needs_line key
-option_fault_line (BadValue key value) = needs_line key ++ codes ", not " ++ quoted value.now
+-- the line about the arguments of a command that has options
+abbrev pub option_fault_line : OptionSet → OptionFault → List ℕ
+option_fault_line its NoServer = usage_line (set_topic its)
+option_fault_line its (Unknown word) = unknown_option its word.now
+option_fault_line its (Twice key) = codes "  " ++ key_word key ++ codes " is given twice"
+option_fault_line its (Excluded key other) = codes "  " ++ key_word key ++ codes " cannot be given with " ++ key_word other
+option_fault_line its (NoValue key) = needs_line key
+option_fault_line its (BadValue key value) = needs_line key ++ codes ", not " ++ quoted value.now
 
-abbrev pub IsRunLine : List (List ℕ) → List ℕ → Type 0
-IsRunLine arguments line = (fault : OptionFault) × IsRefused arguments fault × (line ≡ option_fault_line fault)
+abbrev pub IsOptionLine : OptionSet → List (List ℕ) → List ℕ → Type 0
+IsOptionLine its arguments line = (fault : OptionFault) × IsRefused its arguments fault × (line ≡ option_fault_line its fault)
 
 -- the line about a word after `help`: it is no name of a command, or other words are wrong
 abbrev pub about_line : Option Topic → List ℕ → List ℕ
@@ -58,7 +72,8 @@ IsHelpLine arguments line = line ≡ usage_line Help
 -- the line about the arguments after a word, which calls this command, if any
 abbrev pub IsLineAfter : List ℕ → Option Topic → List (List ℕ) → List ℕ → Type 0
 IsLineAfter word None arguments line = line ≡ unknown_command word
-IsLineAfter word (Some Run) arguments line = IsRunLine arguments line
+IsLineAfter word (Some Run) arguments line = IsOptionLine set.Run arguments line
+IsLineAfter word (Some Audit) arguments line = IsOptionLine set.Audit arguments line
 IsLineAfter word (Some Help) arguments line = IsHelpLine arguments line
 IsLineAfter word (Some topic) arguments line = line ≡ usage_line topic
 

@@ -1,5 +1,5 @@
 -- The meaning of the words after options.
-use Rattle.std.specs.Prelude.{◌≡◌, ℕ, ◌<◌, ◌≤◌, ◌^◌, true, List, [], ◌∷◌, length, Option, Some, None, IfSome, IsSome}
+use Rattle.std.specs.Prelude.{◌≡◌, ℕ, ◌<◌, ◌≤◌, ◌^◌, Bool, true, false, List, [], ◌∷◌, length, Option, Some, None, IfSome, IsSome}
 use denote.Ref.{Bor}
 use Rattle.std.specs.Char.{is_ascii_digit}
 use Rattle.std.specs.List.{list_all}
@@ -25,14 +25,21 @@ Says means [] None = Unit {0}
 Says means (word ∷ []) (Some value) = means word value
 Says means words found = ⊥
 
+-- no word gives this value, and one word gives its meaning
+abbrev pub SaysOr : {A : Type 0} → A → (List ℕ → A → Type 0) → List (List ℕ) → A → Type 0
+SaysOr usual means [] value = value ≡ usual
+SaysOr usual means (word ∷ []) value = means word value
+SaysOr usual means words value = ⊥
+
+-- the option without a word is given or not
+abbrev pub IsGiven : List (List ℕ) → Bool → Type 0
+IsGiven [] false = Unit {0}
+IsGiven (word ∷ []) true = Unit {0}
+IsGiven words given = ⊥
+
 -- the result has this property, and there is a result if any value has it
 abbrev pub Finds : {A : Type 0} → (A → Type 0) → Option A → Type 0
 Finds {A} asked found = IfSome found asked × ((any : A) → asked any → IsSome found)
-
--- the meaning of the word is taken, if there was no value before
-abbrev pub Takes : {A : Type 0} → (List ℕ → A → Type 0) → Option A → List ℕ → Option A → Type 0
-Takes {A} means before word found =
-    IfSome found (λ value. (before ≡ None) × means word value) × ((value : A) → before ≡ None → means word value → IsSome found)
 
 -- the number that decimal digits write, unless there are no digits or it does not fit 32 bits
 abbrev pub IsNumber : List ℕ → Option ℕ → Type 0

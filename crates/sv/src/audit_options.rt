@@ -1,102 +1,92 @@
-//! The options of the command `audit`.
+//! The arguments of the command `audit`.
 
-ghost use Rattle.std.specs.Prelude.{◌≡◌, map, string_bytes};
+ghost use Rattle.std.specs.Prelude.{IfErr, IfOk, List, map, string_bytes};
 ghost use Rattle.sv.specs.AuditOptions as spec;
-ghost use Rattle.sv.specs.Values.{Finds};
-ghost use Rattle.sv_program.specs.Arguments.{Names};
+ghost use Rattle.sv.specs.AuditWords.{IsFormat};
+ghost use Rattle.sv.specs.Given.{AreOf};
+ghost use Rattle.sv.specs.Laws.{AuditsOne};
+ghost use Rattle.sv.specs.OptionFault.{IsRefused};
+ghost use Rattle.sv.specs.Settings.{Setting, values};
+ghost use Rattle.sv.specs.Values.{Finds, SaysOr};
 
-use sv_program::{AccessOptions, Format};
+use crate::given::Given;
+use crate::key::Key;
+use crate::option_fault::OptionFault;
+use crate::option_set::OptionSet;
+use sv_audit_command::{AccessOptions, Asked, Format};
 
-/// The options of the command `audit`, in the order in which they are written.
+/// A server, and the options of the report on its access.
 #[derive(Clone, Copy)]
-pub enum AuditOptions {
-    /// No options.
-    Plain,
-    /// `--secure`, and then `--format FORMAT`, if there is a format.
-    SecureFirst(Option<Format>),
-    /// `--format FORMAT`, and then `--secure`, if it is true.
-    FormatFirst(Format, bool),
+pub struct AuditOptions<'a> {
+    /// The name of the server file.
+    pub config: &'a str,
+    /// The options of the report.
+    pub access: AccessOptions<'a>,
 }
 
-impl AuditOptions {
-    /// Parses the arguments after the server file. Returns none if they are invalid.
-    pub fn parse(arguments: &[String]) -> Option<AuditOptions>
-        ensures { Names spec.option_words (map string_bytes arguments.now) result }
+impl<'a> AuditOptions<'a> {
+    /// Parses the arguments: the name of the server file, followed by options in any order, each at most once. The
+    /// options are `--secure`, `--format FORMAT` (`text`, `json`, `html` or `keys`; `text` without it), `--as USER` or
+    /// `--role ROLE`, but not both, `--fail-on KINDS`, `--accept FILE` and `--lines FILE`.
+    ///
+    /// # Errors
+    /// The first fault, from the left.
+    pub fn parse(arguments: &'a [String]) -> Result<AuditOptions<'a>, OptionFault<'a>>
+        ensures it { IfOk result (spec.IsAudit (map string_bytes arguments.now)) }
+        ensures fault { IfErr result (IsRefused OptionSet.Audit (map string_bytes arguments.now)) }
     {
-        let Some((word, rest)) = arguments.split_first() else {
-            return Some(AuditOptions::Plain);
-        };
-        if word.as_str() == "--secure" {
-            let format = format_in(rest)?;
-            return Some(AuditOptions::SecureFirst(format));
-        }
-        if word.as_str() == "--format" {
-            let (name, rest) = rest.split_first()?;
-            let format = format_named(name.as_str())?;
-            let is_secure = secure_in(rest)?;
-            return Some(AuditOptions::FormatFirst(format, is_secure));
-        }
-        None
-    }
-
-    /// Returns the options of the report. Its form is text if none is named.
-    pub fn access(self) -> AccessOptions
-        ensures { result ≡ spec.access_options self }
-    {
-        match self {
-            AuditOptions::Plain => AccessOptions {
-                format: Format::Text,
-                is_secure: false,
+        let given = Given::parse(OptionSet::Audit, arguments)?;
+        Ok(AuditOptions {
+            config: given.config,
+            access: AccessOptions {
+                format: format_in(&given),
+                is_secure: given.has(Key::Secure),
+                viewer: viewer_in(&given),
+                fail_on: given.value(Key::FailOn),
+                accept: given.value(Key::Accept),
+                lines: given.value(Key::Lines),
             },
-            AuditOptions::SecureFirst(format) => AccessOptions {
-                format: format.unwrap_or(Format::Text),
-                is_secure: true,
-            },
-            AuditOptions::FormatFirst(format, is_secure) => AccessOptions { format, is_secure },
-        }
+        })
     }
 }
 
-/// Returns the form in `[--format FORMAT]`.
-fn format_in(arguments: &[String]) -> Option<Option<Format>>
-    ensures { Names spec.format_words (map string_bytes arguments.now) result }
+/// Returns the form of the report.
+fn format_in(given: &Given<'_>) -> Format
+    ensures { (settings : List Setting) → AreOf given.now.set (map string_bytes given.now.words.now) settings
+        → SaysOr Format.Text IsFormat (values Key.Format settings) result }
 {
-    let Some((word, rest)) = arguments.split_first() else {
-        return Some(None);
-    };
-    if word.as_str() != "--format" {
-        return None;
+    match given.value(Key::Format) {
+        Some(name) => format_named(name).unwrap_or(Format::Text),
+        None => Format::Text,
     }
-    let (name, rest) = rest.split_first()?;
-    let format = format_named(name.as_str())?;
-    if rest.is_empty() {
-        Some(Some(format))
-    } else {
-        None
+}
+
+/// Returns the caller that `--as` or `--role` names.
+fn viewer_in<'a>(given: &Given<'a>) -> Option<Asked<'a>>
+    ensures { (settings : List Setting) → AreOf given.now.set (map string_bytes given.now.words.now) settings
+        → spec.IsViewer (values Key.As settings) (values Key.Role settings) result }
+{
+    if let Some(user) = given.value(Key::As) {
+        return Some(Asked::User(user));
     }
+    let role = given.value(Key::Role)?;
+    Some(Asked::Role(role))
 }
 
 /// Returns the form of this name.
-fn format_named(name: &str) -> Option<Format>
-    ensures { Finds (λ format. name.now ≡ spec.format_name format) result }
+pub(crate) fn format_named(name: &str) -> Option<Format>
+    ensures { Finds (IsFormat name.now) result }
 {
     match name {
         "text" => Some(Format::Text),
         "json" => Some(Format::Json),
+        "html" => Some(Format::Html),
+        "keys" => Some(Format::Keys),
         _ => None,
     }
 }
 
-/// Returns whether there is `--secure`.
-fn secure_in(arguments: &[String]) -> Option<bool>
-    ensures { Names spec.secure_words (map string_bytes arguments.now) result }
-{
-    let Some((word, rest)) = arguments.split_first() else {
-        return Some(false);
-    };
-    if word.as_str() == "--secure" && rest.is_empty() {
-        Some(true)
-    } else {
-        None
-    }
-}
+/// Arguments have only one meaning.
+pub fn audit_arguments_ask_for_one_thing()
+    ensures { AuditsOne }
+{}

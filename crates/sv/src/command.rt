@@ -29,13 +29,9 @@ pub enum Command<'a> {
         /// The name of the server file.
         config: &'a str,
     },
-    /// `audit CONFIG [OPTION ..]`: prints who may reach what in a server's contexts. [`AuditOptions`] lists the options.
-    Audit {
-        /// The name of the server file.
-        config: &'a str,
-        /// The options.
-        options: AuditOptions,
-    },
+    /// `audit CONFIG [OPTION ..]`: prints who may reach what in a server's contexts. [`AuditOptions::parse`] lists the
+    /// options.
+    Audit(AuditOptions<'a>),
     /// `replay CONFIG`: runs the script on standard input on a server's container, and prints the results.
     Replay {
         /// The name of the server file.
@@ -92,14 +88,7 @@ fn command_in(arguments: &[String]) -> Option<Command<'_>>
             let config = config_in(rest)?;
             Some(Command::Uncovered { config })
         }
-        Topic::Audit => {
-            let (config, rest) = rest.split_first()?;
-            let options = AuditOptions::parse(rest)?;
-            Some(Command::Audit {
-                config: config.as_str(),
-                options,
-            })
-        }
+        Topic::Audit => audit_in(rest),
         Topic::Replay => {
             let config = config_in(rest)?;
             Some(Command::Replay { config })
@@ -173,6 +162,16 @@ fn run_in(arguments: &[String]) -> Option<Command<'_>>
 {
     match RunOptions::parse(arguments) {
         Ok(options) => Some(Command::Run(options)),
+        Err(_) => None,
+    }
+}
+
+/// Returns the command `audit` with the options in its arguments, or none.
+fn audit_in(arguments: &[String]) -> Option<Command<'_>>
+    ensures { Finds (AreWordsOf (codes "audit" ∷ map string_bytes arguments.now)) result }
+{
+    match AuditOptions::parse(arguments) {
+        Ok(options) => Some(Command::Audit(options)),
         Err(_) => None,
     }
 }

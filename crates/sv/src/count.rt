@@ -2,16 +2,15 @@
 
 ghost use Rattle.std.specs.Char.{is_ascii_digit};
 ghost use Rattle.std.specs.List.{list_all};
-ghost use Rattle.std.specs.Prelude.{IfSome, IsSome, Some, true, ℕ, ◌≡◌};
-ghost use Rattle.sv.specs.Values.{IsAddress, IsCount, IsName, IsNumber, Takes};
+ghost use Rattle.std.specs.Prelude.{Some, true, ◌≡◌};
+ghost use Rattle.sv.specs.Values.{Finds, IsAddress, IsCount, IsNumber};
 ghost use Rattle.sv_script.specs.Fields.{number};
 
 use std::net::SocketAddr;
 
 /// Returns the number that decimal digits write, if it is from 1 to the limit.
 pub(crate) fn count_in(text: &str, limit: u32) -> Option<u32>
-    ensures it { IfSome result (IsCount limit text.now) }
-    ensures found { (count : ℕ) → IsCount limit text.now count → IsSome result }
+    ensures { Finds (IsCount limit text.now) result }
 {
     if !has_digits_alone(text.as_bytes()) {
         return None;
@@ -56,41 +55,12 @@ impl Count<'_> {
     }
 }
 
-/// Returns the name that the word gives.
-pub(crate) fn name_once<'a>(before: Option<&'a str>, word: &'a str) -> Option<&'a str>
-    ensures { Takes IsName before.entry word.now result }
-{
-    match before {
-        Some(_) => None,
-        None => Some(word),
-    }
-}
-
 /// Returns the address with its port that the word writes.
-pub(crate) fn address_once(before: Option<SocketAddr>, word: &str) -> Option<SocketAddr>
-    ensures { Takes IsAddress before word.now result }
-{
-    match before {
-        Some(_) => None,
-        None => address_in(word),
-    }
-}
-
-fn address_in(word: &str) -> Option<SocketAddr>
-    ensures { Takes IsAddress None word.now result }
+pub(crate) fn address_in(word: &str) -> Option<SocketAddr>
+    ensures { Finds (IsAddress word.now) result }
 {
     match word.parse::<SocketAddr>() {
         Ok(address) => Some(address),
         Err(_) => None,
-    }
-}
-
-/// Returns the number from 1 to the limit that the word writes.
-pub(crate) fn count_once(before: Option<u32>, word: &str, limit: u32) -> Option<u32>
-    ensures { Takes (IsCount limit) before word.now result }
-{
-    match before {
-        Some(_) => None,
-        None => count_in(word, limit),
     }
 }

@@ -1,8 +1,8 @@
 //! Runs a command.
 
 ghost use Rattle.sv_component.specs.Steps.{steps_of};
-ghost use Rattle.std.specs.Prelude.{◌≡◌, ◌≢◌, IfErr};
-ghost use Rattle.sv.specs.Execution.{ReadsFiles, RunsCommand, ServesNothing};
+ghost use Rattle.std.specs.Prelude.{◌≡◌, IfErr};
+ghost use Rattle.sv.specs.Execution.{IsBefore, ReadsFiles, RunsCommand, ServesNothing};
 
 use crate::command::Command;
 use crate::help_command::help;
@@ -18,9 +18,10 @@ use std::net::Net;
 use std::random::RandomSource;
 use std::rt::Files;
 use std::time::Clock;
+use sv_audit_command::audit;
 use sv_component::{Filter, Listener, Servlet};
 use sv_deployments::{FolderStore, ProgramFilter, ProgramListener, ProgramServlet};
-use sv_program::{CommandFault, FileStore, Report, first, print_report, print_text};
+use sv_program::{CommandFault, FileStore, first, print_text, uncovered};
 use sv_streams::{ReadSource, WriteSink};
 
 /// Runs the command. Its parameters are a store of files and folders, a host with a network, a clock, random bytes,
@@ -41,18 +42,13 @@ pub fn carry_out<
 ) -> Result<(), CommandFault>
     ensures run { RunsCommand (steps_of ⟦<ProgramServlet as Servlet>⟧.servlet_step ⟦<ProgramFilter as Filter>⟧.filter_step ⟦<ProgramListener as Listener>⟧.listener_step)
         S.gives_text S.gives_files command.entry result store.old store.new (R.remaining reader) (W.contents writer.old) (W.contents writer.new) }
-    ensures untouched { ServesNothing command.entry → IfErr result (λ fault. fault ≢ CommandFault.Output → writer.new ≡ writer.old) }
+    ensures untouched { ServesNothing command.entry → IfErr result (λ fault. IsBefore command.entry fault → writer.new ≡ writer.old) }
 {
     match command {
         Command::First { deny_uncovered } => first(alloc, reader, writer, deny_uncovered),
         Command::Policy(question) => policy(alloc, store, writer, &question),
-        Command::Uncovered { config } => {
-            print_report(alloc, store, writer, config, Report::Uncovered)
-        }
-        Command::Audit { config, options } => {
-            let report = Report::Access(options.access());
-            print_report(alloc, store, writer, config, report)
-        }
+        Command::Uncovered { config } => uncovered(alloc, store, writer, config),
+        Command::Audit(options) => audit(alloc, store, writer, options.config, &options.access),
         Command::Replay { config } => replay_streams(alloc, store, reader, writer, config),
         Command::Serve(service) => {
             let count = service.connections.value();

@@ -1,18 +1,18 @@
-//! What is wrong with the arguments of the command `run`.
+//! What is wrong with the arguments of a command that has options.
 
 use crate::key::Key;
 
-/// The first fault, from the left, of the arguments of `run`.
+/// The first fault, from the left, of the arguments of a command.
 #[derive(Clone, Copy)]
 pub enum OptionFault<'a> {
     /// There is no server file.
     NoServer,
-    /// The word is not an option.
+    /// The word is not an option of the command.
     Unknown(&'a str),
-    /// The option, which takes a word, is given twice.
+    /// The option is given twice.
     Twice(Key),
-    /// `--same-seed` is given twice.
-    SameSeedTwice,
+    /// The first option cannot be given with the second, which was given before.
+    Excluded(Key, Key),
     /// The option is the last argument, and its word is missing.
     NoValue(Key),
     /// The word after the option is not a value of it.

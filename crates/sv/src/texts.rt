@@ -14,7 +14,14 @@ pub const UNCOVERED: &str =
 pub const AUDIT: &str = "    \
     shows who may enter where, by URL pattern and method; options, in any order:
     --secure                as over a connection whose transport is guaranteed
-    --format FORMAT         text or json; text without it
+    --format FORMAT         text, json, html or keys of findings; text without it
+    --as USER               marks what that user may enter
+    --role ROLE             marks what a caller with that role may enter; not with --as
+    --fail-on KINDS         exits with status 4 if there are findings of these kinds, joined by commas, or any:
+                            opened, uncovered, head-differs, dead, dead-pattern, escaped, unknown-role,
+                            unheld-role, unused-role
+    --accept FILE           does not count findings whose keys are lines of that file
+    --lines FILE            takes the lines of constraints from that file
 ";
 
 /// What `replay` does.

@@ -4,17 +4,21 @@ ghost use Rattle.std.specs.Prelude.{◌≡◌, ◌++◌, IfOk, codes, map, optio
 ghost use Rattle.sv.specs.Command.{NameNothing};
 ghost use Rattle.sv.specs.Laws.{HaveOneLine};
 ghost use Rattle.sv.specs.Near.{near};
-ghost use Rattle.sv.specs.Options.{IsAsked};
-ghost use Rattle.sv.specs.Settings.{key_word};
+ghost use Rattle.sv.specs.AuditOptions.{IsAudit};
+ghost use Rattle.sv.specs.RunOptions.{IsAsked};
+ghost use Rattle.sv.specs.Settings.{key_word, option_words};
 ghost use Rattle.sv.specs.Topics.{topic_names};
 ghost use Rattle.sv.specs.Usage as spec;
+ghost use Rattle.sv.specs.declared.audit_options.AuditOptions.{AuditOptions};
 ghost use Rattle.sv.specs.declared.run_options.RunOptions.{RunOptions};
 ghost use Rattle.sv_program.specs.Shown as shown;
 ghost use Rattle.sv_text.specs.Gives.{GivesAnswer};
 
+use crate::audit_options::AuditOptions;
 use crate::key::Key;
 use crate::near::nearest;
 use crate::option_fault::OptionFault;
+use crate::option_set::OptionSet;
 use crate::run_options::RunOptions;
 use crate::topic::{TOPICS, Topic};
 use std::alloc::Global;
@@ -22,7 +26,7 @@ use sv_program::quoted;
 use sv_text::{NoMemory, Text};
 
 /// The options of `run`, in the order of its help.
-const OPTIONS: [&str; 7] = [
+const RUN_OPTIONS: [&str; 7] = [
     "--control",
     "--journal",
     "--listen",
@@ -30,6 +34,17 @@ const OPTIONS: [&str; 7] = [
     "--connections",
     "--idle-seconds",
     "--held-mebibytes",
+];
+
+/// The options of `audit`, in the order of its help.
+const AUDIT_OPTIONS: [&str; 7] = [
+    "--secure",
+    "--format",
+    "--as",
+    "--role",
+    "--fail-on",
+    "--accept",
+    "--lines",
 ];
 
 /// Returns the line that says what is wrong with arguments that name no command, without a line feed. It shows a word
@@ -50,6 +65,7 @@ pub fn usage_detail(alloc: Global, arguments: &[String]) -> Result<Text, NoMemor
     match Topic::called(word.as_str()) {
         None => unknown_command(alloc, word.as_str()),
         Some(Topic::Run) => run_detail(alloc, rest),
+        Some(Topic::Audit) => audit_detail(alloc, rest),
         Some(Topic::Help) => help_detail(alloc, rest),
         Some(topic) => usage_line(alloc, topic),
     }
@@ -57,11 +73,21 @@ pub fn usage_detail(alloc: Global, arguments: &[String]) -> Result<Text, NoMemor
 
 /// Returns the line about these arguments of `run`.
 fn run_detail(alloc: Global, arguments: &[String]) -> Result<Text, NoMemory>
-    ensures { IfOk result (λ line. ((options : RunOptions) → IsAsked (map string_bytes arguments.now) options → ⊥) → spec.IsRunLine (map string_bytes arguments.now) line) }
+    ensures { IfOk result (λ line. ((options : RunOptions) → IsAsked (map string_bytes arguments.now) options → ⊥) → spec.IsOptionLine OptionSet.Run (map string_bytes arguments.now) line) }
 {
     match RunOptions::parse(arguments) {
         Ok(_) => usage_line(alloc, Topic::Run),
-        Err(fault) => option_fault_line(alloc, fault),
+        Err(fault) => option_fault_line(alloc, OptionSet::Run, fault),
+    }
+}
+
+/// Returns the line about these arguments of `audit`.
+fn audit_detail(alloc: Global, arguments: &[String]) -> Result<Text, NoMemory>
+    ensures { IfOk result (λ line. ((options : AuditOptions) → IsAudit (map string_bytes arguments.now) options → ⊥) → spec.IsOptionLine OptionSet.Audit (map string_bytes arguments.now) line) }
+{
+    match AuditOptions::parse(arguments) {
+        Ok(_) => usage_line(alloc, Topic::Audit),
+        Err(fault) => option_fault_line(alloc, OptionSet::Audit, fault),
     }
 }
 
@@ -114,13 +140,23 @@ fn command_names(alloc: Global) -> Result<Vec<&'static str>, NoMemory>
     Ok(names)
 }
 
-fn unknown_option(alloc: Global, word: &str) -> Result<Text, NoMemory>
-    ensures { GivesAnswer result (spec.unknown_option word.now) }
+fn unknown_option(alloc: Global, set: OptionSet, word: &str) -> Result<Text, NoMemory>
+    ensures { GivesAnswer result (spec.unknown_option set word.now) }
 {
-    let name = nearest(alloc, &OPTIONS, word)?;
-    let hint = hint(alloc, name, "\"sv help run\" lists the options")?;
+    let name = near_option(alloc, set, word)?;
+    let hint = hint(alloc, name, set.listing())?;
+    let front = set.no_option();
     let word = quoted(alloc, word)?;
-    Ok(Text::from_string(format!(in alloc; "  run has no option {word}; {hint}")?))
+    Ok(Text::from_string(format!(in alloc; "{front}{word}; {hint}")?))
+}
+
+fn near_option(alloc: Global, set: OptionSet, word: &str) -> Result<Option<&'static str>, NoMemory>
+    ensures { IfOk result (λ found. option_copied found ≡ near (option_words set) word.now) }
+{
+    match set {
+        OptionSet::Run => nearest(alloc, &RUN_OPTIONS, word),
+        OptionSet::Audit => nearest(alloc, &AUDIT_OPTIONS, word),
+    }
 }
 
 /// Returns the question whether the near name is meant, or else where the names are listed.
@@ -133,14 +169,18 @@ fn hint(alloc: Global, name: Option<&str>, listing: &str) -> Result<Text, NoMemo
     }
 }
 
-fn option_fault_line(alloc: Global, fault: OptionFault<'_>) -> Result<Text, NoMemory>
-    ensures { GivesAnswer result (spec.option_fault_line fault.entry) }
+fn option_fault_line(
+    alloc: Global,
+    set: OptionSet,
+    fault: OptionFault<'_>,
+) -> Result<Text, NoMemory>
+    ensures { GivesAnswer result (spec.option_fault_line set fault.entry) }
 {
     match fault {
-        OptionFault::NoServer => usage_line(alloc, Topic::Run),
-        OptionFault::Unknown(word) => unknown_option(alloc, word),
+        OptionFault::NoServer => usage_line(alloc, set.topic()),
+        OptionFault::Unknown(word) => unknown_option(alloc, set, word),
         OptionFault::Twice(key) => twice_line(alloc, key),
-        OptionFault::SameSeedTwice => Text::copy_of(alloc, "  --same-seed is given twice"),
+        OptionFault::Excluded(key, other) => excluded_line(alloc, key, other),
         OptionFault::NoValue(key) => needs_line(alloc, key),
         OptionFault::BadValue(key, value) => bad_value_line(alloc, key, value),
     }
@@ -151,6 +191,13 @@ fn twice_line(alloc: Global, key: Key) -> Result<Text, NoMemory>
 {
     let word = key.word();
     Ok(Text::from_string(format!(in alloc; "  {word} is given twice")?))
+}
+
+fn excluded_line(alloc: Global, key: Key, other: Key) -> Result<Text, NoMemory>
+    ensures { GivesAnswer result (codes "  " ++ key_word key ++ codes " cannot be given with " ++ key_word other) }
+{
+    let (word, earlier) = (key.word(), other.word());
+    Ok(Text::from_string(format!(in alloc; "  {word} cannot be given with {earlier}")?))
 }
 
 fn needs_line(alloc: Global, key: Key) -> Result<Text, NoMemory>

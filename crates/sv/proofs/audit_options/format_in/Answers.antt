@@ -1,15 +1,18 @@
-use Rattle.std.proofs.Common.{List, ℕ, [], ◌∷◌, ap, codes, map, refl, string_bytes, sym, ◌∙◌}
-use Rattle.sv.proofs.Going.{behind_is}
-use Rattle.sv.proofs.Words.{no_words, not_other}
+use Rattle.std.proofs.Common.{subst, sym}
+use Rattle.sv.proofs.Saying.{says_found, usual_found}
+use Rattle.sv.proofs.Setting.{value_proper}
 use Rattle.sv.proofs.audit_options.format_in.Goals as goal
+use Rattle.sv.specs.AuditWords.{IsFormat}
+use Rattle.sv.specs.Settings.{values}
+use Rattle.sv.specs.Values.{SaysOr}
+use Rattle.sv.specs.declared.key.Key.TheVariants.{Format}
+use Rattle.sv_audit_command.specs.declared.access_options.Format as report
+use Rattle.sv_audit_command.specs.declared.access_options.Format.TheVariants.{Text}
 
-pub returns-then-is_empty : goal.returns-then-is_empty
-returns-then-is_empty c =
-    let after = behind_is string_bytes c.in-Some.rest.now c.in_ok-name.name.now c.in_ok-name.rest.now c.as_str-2.result.now c.in_ok-name.ensures.cases.0 c.as_str-2.ensures.value in
-    let none = no_words string_bytes c.in_ok-name.rest.now (sym c.is_empty.ensures ∙ c.if-is_empty.true) in (
-      behind_is string_bytes c.args.arguments.now c.in-Some.word.now c.in-Some.rest.now c.as_str.result.now c.in-Some.ensures.cases.0 c.as_str.ensures.value
-          ∙ ap (λ (word : List ℕ). word ∷ map string_bytes c.in-Some.rest.now) (not_other c.as_str.result.now (codes "--format") c.ne.result c.ne.ensures c.if-ne.false)
-          ∙ ap (λ (words : List (List ℕ)). codes "--format" ∷ words)
-          (after ∙ ap (λ (words : List (List ℕ)). c.as_str-2.result.now ∷ words) none ∙ ap (λ (name : List ℕ). name ∷ []) c.in_ok-format.ensures.0),
-      λ named same. refl,
-    )
+pub returns-in-Some : goal.returns-in-Some
+returns-in-Some c = λ settings are.
+    let Is : report.Format → Type 0 = λ form. SaysOr Text IsFormat (values Format settings) form in
+    subst Is (sym c.unwrap_or.ensures)
+    (usual_found IsFormat Text (values Format settings) c.format_named.result
+    (says_found IsFormat (values Format settings) c.in-Some.name c.format_named.result (c.in-Some.ensures settings are)
+    (λ word is. value_proper c.args.given.now.set Format word settings are.1.0 is) c.format_named.ensures))
