@@ -1,13 +1,16 @@
 //! The control socket, a Unix socket file that takes commands for a running server.
 
-ghost use Rattle.std.specs.Prelude.{◌≡◌, ◌≤◌, drop, length};
-ghost use Rattle.sv_connection.specs.Asking.{EditsOnce};
+ghost use Rattle.std.specs.Prelude.{◌≡◌, ◌≤◌, drop, length, Some};
+ghost use Rattle.sv_connection.specs.declared.poller.PollEvent.TheVariants.{Asked};
+ghost use Rattle.sv_readiness.specs.Polling.{IsLine, RepliesAt};
+ghost use Rattle.sv_readiness.specs.declared.control_line.Heard.TheVariants.{Whole};
 
-use crate::calls::{try_read, try_write};
-use crate::control_commands::{asks_to_stop, line_end};
+use crate::calls::try_write;
+use crate::control_commands::asks_to_stop;
+use crate::control_line::{Heard, read_part};
 use crate::control_replies::{last_text, reply};
 use crate::crowd::lacks_room;
-use crate::limits::{ASKED_AT_ONCE, MAX_ASKING_SECONDS, MAX_LINE_BYTES};
+use crate::limits::MAX_ASKING_SECONDS;
 use mio::net::{UnixListener, UnixStream};
 use mio::{Interest, Registry, Token};
 use std::alloc::Global;
@@ -136,7 +139,9 @@ impl<'a> Control<'a> {
 
     /// Reads from the client and returns an event once its line is whole. This function itself replies to `stop`. A
     /// client that closes before its line is whole is dropped. If a reply is in progress, writes more of it.
-    pub fn hear(&mut self, now: u64) -> Option<PollEvent> {
+    pub fn hear(&mut self, now: u64) -> Option<PollEvent>
+        ensures { result ≡ Some Asked → IsLine self.new.line.items }
+    {
         if !self.answer.is_empty() {
             self.write_on(now);
             return None;
@@ -160,7 +165,9 @@ impl<'a> Control<'a> {
     }
 
     // Returns the event of a whole line.
-    fn told_by_line(&mut self, now: u64) -> PollEvent {
+    fn told_by_line(&mut self, now: u64) -> PollEvent
+        ensures { result ≡ Asked → self.new.line ≡ self.old.line }
+    {
         if asks_to_stop(self.line.as_slice()) {
             self.stop(now);
             return PollEvent::Stop;
@@ -174,31 +181,13 @@ impl<'a> Control<'a> {
         self.offset = offset;
     }
 
-    // Reads once.
-    fn read_on(&mut self) -> Heard {
-        let mut buffer = [0; ASKED_AT_ONCE];
-        let Some(stream) = &mut self.asker else {
-            return Heard::UntilPaused;
-        };
-        match try_read(stream, &mut buffer) {
-            Tried::Done(0) | Tried::Failed => Heard::End,
-            Tried::WouldBlock => Heard::UntilPaused,
-            Tried::Done(count) => self.add(buffer.split_at(count).0),
-        }
-    }
-
-    // Adds bytes to the line, and cuts it before its line end.
-    fn add(&mut self, bytes: &[u8]) -> Heard {
-        if self.line.extend_from_slice(bytes).is_err() {
-            return Heard::End;
-        }
-        match line_end(self.line.as_slice()) {
-            Some(end) => {
-                self.line.truncate(end);
-                Heard::Whole
-            }
-            None if self.line.len() >= MAX_LINE_BYTES => Heard::TooLong,
-            None => Heard::Part,
+    // Reads once, if a client is connected.
+    fn read_on(&mut self) -> Heard
+        ensures { result ≡ Whole → IsLine self.new.line.items }
+    {
+        match &mut self.asker {
+            Some(stream) => read_part(stream, &mut self.line),
+            None => Heard::UntilPaused,
         }
     }
 
@@ -223,7 +212,7 @@ impl<'a> Control<'a> {
         handler: &mut R,
         now: u64,
     ) -> Result<(), StepFault>
-        ensures { EditsOnce R.steps handler.old result handler.new }
+        ensures { RepliesAt handler.old R.steps R.explains R.uncovers R.stands figures self.old result handler.new }
     {
         let line = mem::replace(&mut self.line, Vec::new(self.alloc));
         match reply(self.alloc, line.as_slice(), figures, self.offset, handler) {
@@ -340,20 +329,5 @@ enum Wrote {
     // The next write would block.
     UntilPaused,
     // The reply is complete, no client is connected, or the write failed.
-    End,
-}
-
-// The outcome of reading more of a line.
-#[derive(Clone, Copy)]
-enum Heard {
-    // The next read may return more.
-    Part,
-    // The line is whole.
-    Whole,
-    // The line is longer than any command may be.
-    TooLong,
-    // The next read would block, or no client is connected.
-    UntilPaused,
-    // The stream has ended or failed, or memory for the line ran out.
     End,
 }

