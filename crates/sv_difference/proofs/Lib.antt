@@ -1,0 +1,3 @@
+pub mod Alike
+pub mod Names
+pub mod Represented

@@ -1,0 +1,7 @@
+//! Differences of two access tables: which requests two configurations of a context decide differently (Jakarta Servlet
+//! 6.0, sections 12.1 and 13.8).
+#![tactic(auto)]
+
+mod laws;
+
+pub use laws::each_path_is_represented;
