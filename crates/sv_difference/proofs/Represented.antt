@@ -56,6 +56,16 @@ length_long : (n : ℕ) → length {A = ℕ} (repeat n (120 ∷ [])) ≡ n
 length_long zero = refl
 length_long (suc n) = ap suc (length_long n)
 
+abbrev xs_of : ℕ → List ℕ
+xs_of n = repeat n (codes "x")
+
+pub repeat_more : (n : ℕ) → xs_of n ++ codes "x" ≡ xs_of (n + 1)
+repeat_more zero = refl
+repeat_more (suc n) = ap (λ xs. 120 ∷ xs) (repeat_more n) ∙ ap xs_of (next n)
+  where
+    next : (m : ℕ) → suc (m + 1) ≡ suc m + 1
+    next m = omega arith
+
 none_in_long : (test : ℕ → Bool) (n : ℕ) → test 120 ≡ false → list_any test (repeat n (120 ∷ [])) ≡ false
 none_in_long test zero other = refl
 none_in_long test (suc n) other = rw other (none_in_long test n other)
@@ -157,15 +167,17 @@ record IsLongest (patterns : List (List ℕ)) (text directory : List ℕ) : Type
 
 longest_directory : (patterns : List (List ℕ)) (text : List ℕ) → is_at_or_below [] text ≡ true → (directory : List ℕ) × IsLongest patterns text directory
 longest_directory patterns text rooted =
-    let chosen = witness (is_chosen (directories patterns) text) (directories patterns) (chosen_where_served (directories patterns) text ∙ or_left _ _ rooted) in
-    (chosen.0, record {
-      is_one = chosen.1;
-      above = (and_parts _ _ chosen.2).0;
-      longest_of = λ other there under.
-          le_from (length other) (length chosen.0)
-          (false_from_ne_true _ (λ longer.
-          both_ways _ (not-true _ (and_parts _ _ chosen.2).1) (any_from (λ one. is_at_or_below one text && ltb (length chosen.0) (length one)) other (directories patterns) there (and_from _ _ under longer))));
-    })
+    let chosen = witness (is_chosen (directories patterns) text) (directories patterns) (chosen_where_served (directories patterns) text ∙ or_left _ _ rooted) in (
+      chosen.0,
+      record {
+        is_one = chosen.1;
+        above = (and_parts _ _ chosen.2).0;
+        longest_of = λ other there under.
+            le_from (length other) (length chosen.0)
+            (false_from_ne_true _ (λ longer.
+            both_ways _ (not-true _ (and_parts _ _ chosen.2).1) (any_from (λ one. is_at_or_below one text && ltb (length chosen.0) (length one)) other (directories patterns) there (and_from _ _ under longer))));
+      },
+    )
   where
     le_from : (m n : ℕ) → ltb n m ≡ false → m ≤ n
     le_from m n h = ltb-false n m h
@@ -207,15 +219,21 @@ no_ending patterns path none = record {
 ending_at : (patterns : List (List ℕ)) (path found : List ℕ) → extension path ≡ Some found → list_any is_slash found ≡ false → list_any is_dot found ≡ false → (ending : List ℕ) × HasEnding patterns path ending
 ending_at patterns path found is no_slash no_dot =
     elim (cases_Bool (lists (endings patterns) (46 ∷ found))) [
-      | inl listed ↦ (46 ∷ found, record {
-        is_one = in_listed (endings patterns) (46 ∷ found) listed;
-        plain = no_slash;
-        same = λ directory name wanted plain undotted there.
-            ap (λ one. has one wanted) (is ∙ sym (extension_of directory name found (none_joined is_slash name (46 ∷ found) plain no_slash) no_dot));
-      })
-      | inr none ↦ ([], no_ending patterns path (λ wanted there.
-      ap (λ one. has one wanted) is
-      ∙ false_from_ne_true _ (λ same. both_ways _ none (ap (λ text. lists (endings patterns) (46 ∷ text)) ((bytes_eq-Decides found wanted).0 same) ∙ listed_in (endings patterns) (46 ∷ wanted) there))))
+      | inl listed ↦ (
+        46 ∷ found,
+        record {
+          is_one = in_listed (endings patterns) (46 ∷ found) listed;
+          plain = no_slash;
+          same = λ directory name wanted plain undotted there.
+              ap (λ one. has one wanted) (is ∙ sym (extension_of directory name found (none_joined is_slash name (46 ∷ found) plain no_slash) no_dot));
+        },
+      )
+      | inr none ↦ (
+        [],
+        no_ending patterns path (λ wanted there.
+            ap (λ one. has one wanted) is
+            ∙ false_from_ne_true _ (λ same. both_ways _ none (ap (λ text. lists (endings patterns) (46 ∷ text)) ((bytes_eq-Decides found wanted).0 same) ∙ listed_in (endings patterns) (46 ∷ wanted) there))),
+      )
     ]
 
 ending_for : (patterns : List (List ℕ)) (front back : List ℕ) → list_any is_slash back ≡ false → (ending : List ℕ) × HasEnding patterns (front ++ 47 ∷ back) ending
@@ -252,7 +270,7 @@ new_path patterns directory ending there here rooted =
 -- The representative stands for the path.
 stands : (patterns : List (List ℕ)) (path directory ending representative : List ℕ) → IsFree (named_paths patterns) directory ending representative → lists (representatives patterns) representative ≡ true
     → ((name : List ℕ) → list_any is_slash name ≡ false → list_any is_dot name ≡ false → lists (named_paths patterns) (directory ++ 47 ∷ (name ++ ending)) ≡ false
-        → (pattern : List ℕ) → lists patterns pattern ≡ true → matches pattern path ≡ matches pattern (directory ++ 47 ∷ (name ++ ending)))
+    → (pattern : List ℕ) → lists patterns pattern ≡ true → matches pattern path ≡ matches pattern (directory ++ 47 ∷ (name ++ ending)))
     → (one : List ℕ) × (lists (representatives patterns) one ≡ true) × ((part : List (List ℕ)) → ((text : List ℕ) → lists part text ≡ true → lists patterns text ≡ true) → best_pattern part one ≡ best_pattern part path)
 stands patterns path directory ending representative free there same = (
   representative,
@@ -307,8 +325,8 @@ abbrev IsRepresented : List (List ℕ) → List ℕ → Type 0
 IsRepresented patterns path = (one : List ℕ) × (lists (representatives patterns) one ≡ true)
     × ((part : List (List ℕ)) → ((text : List ℕ) → lists part text ≡ true → lists patterns text ≡ true) → best_pattern part one ≡ best_pattern part path)
 
-slash_free : (patterns : List (List ℕ)) (directory ending more : List ℕ) → ((other : List ℕ) → (rest : List ℕ) × (directory ++ 47 ∷ other ≡ 47 ∷ rest)) → is_slashed (free_path (named_paths patterns) directory ending) ≡ true
-slash_free patterns directory ending more begins =
+slash_free : (patterns : List (List ℕ)) (directory ending : List ℕ) → ((other : List ℕ) → (rest : List ℕ) × (directory ++ 47 ∷ other ≡ 47 ∷ rest)) → is_slashed (free_path (named_paths patterns) directory ending) ≡ true
+slash_free patterns directory ending begins =
     let free = free_is (named_paths patterns) directory ending in
     let rest = begins (free.name ++ ending) in
     slashed (free_path (named_paths patterns) directory ending) rest.0 (free.is ∙ rest.1)
@@ -316,7 +334,7 @@ slash_free patterns directory ending more begins =
 empty_represented : (patterns : List (List ℕ)) → IsRepresented patterns []
 empty_represented patterns =
     stands patterns [] [] [] (free_path (named_paths patterns) [] []) (free_is (named_paths patterns) [] [])
-    (new_path patterns [] [] (inl refl) (inl refl) (slash_free patterns [] [] [] (λ other. (other, refl))))
+    (new_path patterns [] [] (inl refl) (inl refl) (slash_free patterns [] [] (λ other. (other, refl))))
     (empty_same patterns)
 
 new_represented : (patterns : List (List ℕ)) (front back rest : List ℕ) → front ++ 47 ∷ back ≡ 47 ∷ rest → list_any is_slash back ≡ false → lists (named_paths patterns) (front ++ 47 ∷ back) ≡ false → IsRepresented patterns (front ++ 47 ∷ back)
@@ -325,7 +343,7 @@ new_represented patterns front back rest is plain new =
     let ending = ending_for patterns front back plain in
     let more = first_slash front back [] rest is in
     stands patterns (front ++ 47 ∷ back) longest.0 ending.0 (free_path (named_paths patterns) longest.0 ending.0) (free_is (named_paths patterns) longest.0 ending.0)
-    (new_path patterns longest.0 ending.0 longest.1.is_one ending.1.is_one (slash_free patterns longest.0 ending.0 [] (above_slash longest.0 front more.0 longest.1.above more.1)))
+    (new_path patterns longest.0 ending.0 longest.1.is_one ending.1.is_one (slash_free patterns longest.0 ending.0 (above_slash longest.0 front more.0 longest.1.above more.1)))
     (path_same patterns front back longest.0 ending.0 plain new longest.1 ending.1)
 
 slash_represented : (patterns : List (List ℕ)) (path rest : List ℕ) → path ≡ 47 ∷ rest → IsRepresented patterns path
@@ -334,7 +352,7 @@ slash_represented patterns path rest is =
       | inl named ↦ (
         path,
         listed_in (representatives patterns) path
-        (in_kept is_slashed path (named_paths patterns ++ free_paths (named_paths patterns) (endings patterns) (directories patterns)) (In-left path (named_paths patterns) _ (in_listed (named_paths patterns) path named)) (slashed path rest is)),
+            (in_kept is_slashed path (named_paths patterns ++ free_paths (named_paths patterns) (endings patterns) (directories patterns)) (In-left path (named_paths patterns) _ (in_listed (named_paths patterns) path named)) (slashed path rest is)),
         λ part within. refl,
       )
       | inr new ↦

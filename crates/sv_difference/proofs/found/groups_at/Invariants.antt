@@ -1,0 +1,9 @@
+use Rattle.std.proofs.Common.{◌≡◌, ◌++◌, [], map, take, not}
+use Rattle.std.specs.Prelude.{filter, fold}
+use Rattle.std.specs.List.{flat_map}
+use Rattle.sv_constraints.specs.Covering.{lists}
+use Rattle.sv_difference.specs.Differences as spec
+use Rattle.sv_difference.proofs.found.groups_at.Given as goal
+
+abbrev pub invariant-loop-row : goal.invariant-loop-row
+invariant-loop-row l = map (λ group. group.now) l.groups.items ≡ spec.groups_at (take l.row-index l.rows) l.pattern

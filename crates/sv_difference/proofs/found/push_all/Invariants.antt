@@ -1,0 +1,9 @@
+use Rattle.std.proofs.Common.{◌≡◌, ◌++◌, [], map, take, not}
+use Rattle.std.specs.Prelude.{filter, fold}
+use Rattle.std.specs.List.{flat_map}
+use Rattle.sv_constraints.specs.Covering.{lists}
+use Rattle.sv_difference.specs.Differences as spec
+use Rattle.sv_difference.proofs.found.push_all.Given as goal
+
+abbrev pub invariant-loop-group : goal.invariant-loop-group
+invariant-loop-group l = map (λ group. group.now) l.groups.items ≡ map (λ group. group.now) l.initial.groups.items ++ take l.group-index l.others

@@ -1,0 +1,9 @@
+use Rattle.std.proofs.Common.{◌≡◌, ◌++◌, [], map, take, not}
+use Rattle.std.specs.Prelude.{filter, fold}
+use Rattle.std.specs.List.{flat_map}
+use Rattle.sv_constraints.specs.Covering.{lists}
+use Rattle.sv_difference.specs.Differences as spec
+use Rattle.sv_difference.proofs.method_sets.push_unlisted.Given as goal
+
+abbrev pub invariant-loop-text : goal.invariant-loop-text
+invariant-loop-text l = l.copies.items ≡ l.initial.copies.items ++ filter (λ text. not (lists l.others text)) (take l.text-index l.texts)
