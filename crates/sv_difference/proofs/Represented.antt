@@ -32,7 +32,7 @@ listed_in [] x there = absurd there
 listed_in (y ∷ ys) x (inl here) = or_left _ _ ((bytes_eq-Decides y x).1 (sym here))
 listed_in (y ∷ ys) x (inr later) = or_right _ _ (listed_in ys x later)
 
-in_joined : {X Y : Type 0} (f : X → List Y) (x : X) (y : Y) (xs : List X) → In x xs → In y (f x) → In y (flat_map f xs)
+pub in_joined : {X Y : Type 0} (f : X → List Y) (x : X) (y : Y) (xs : List X) → In x xs → In y (f x) → In y (flat_map f xs)
 in_joined f x y [] there here = absurd there
 in_joined f x y (z ∷ zs) (inl same) here = In-left y (f z) (flat_map f zs) (rw same at here)
 in_joined f x y (z ∷ zs) (inr later) here = In-right y (f z) (flat_map f zs) (in_joined f x y zs later here)

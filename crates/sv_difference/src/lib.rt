@@ -12,4 +12,4 @@ mod same_callers;
 
 pub use difference::Difference;
 pub use found::differences;
-pub use laws::each_path_is_represented;
+pub use laws::{differences_are_complete, differences_are_right, each_path_is_represented};
