@@ -1,7 +1,6 @@
 -- The best match depends only on the patterns that match.
-use Rattle.std.proofs.Common.{◌≡◌, ℕ, Bool, true, not, ◌&&◌, ◌||◌, List, [], ◌∷◌, refl, ap, ap₂, ◌∙◌, cond, Some}
+use Rattle.std.proofs.Common.{◌≡◌, ℕ, Bool, true, not, ◌&&◌, ◌||◌, List, [], ◌∷◌, refl, ap, ap₂, cond, Some}
 use Rattle.std.specs.List.{find, list_any}
-use Rattle.std.specs.Str.{bytes_eq}
 use Rattle.std.proofs.lemmas.Bool.{or_right}
 use Rattle.std.proofs.lemmas.Slice.Eq.{bytes_eq-Decides}
 use Rattle.sv_mapping.specs.BestMatch.{best_pattern, is_best, outranks}

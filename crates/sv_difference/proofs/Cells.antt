@@ -1,9 +1,9 @@
 -- The groups of a path in the table of a configuration say what the verdicts are.
-use Rattle.std.proofs.lemmas.Bool.{and_from, and_parts, cases_Bool, false≢true}
+use Rattle.std.proofs.lemmas.Bool.{and_parts, false≢true}
 use Rattle.std.proofs.lemmas.List.{map-append}
 use Rattle.std.proofs.lemmas.List.Elements.{All-cons, All-nil, filter-append}
 use Rattle.std.proofs.lemmas.Slice.Eq.{bytes_eq-Decides}
-use Rattle.std.proofs.Common.{◌≡◌, ℕ, Bool, true, false, not, ◌&&◌, ◌||◌, List, [], ◌∷◌, ◌++◌, length, map, refl, ap, ap₂, sym, ◌∙◌, append-nil, arith, cond, inl, inr, Option, None, Some}
+use Rattle.std.proofs.Common.{◌≡◌, ℕ, Bool, true, false, ◌&&◌, ◌||◌, List, [], ◌∷◌, ◌++◌, length, map, refl, ap, sym, ◌∙◌, append-nil, arith, cond, inl, inr, Option}
 use Rattle.std.specs.Prelude.{All, filter}
 use Rattle.std.specs.List.{flat_map, list_all, list_any}
 use Rattle.std.specs.Option.{option_to_list}
@@ -13,20 +13,19 @@ use Rattle.sv_mapping.specs.Pattern.{is_pattern}
 use Rattle.sv_mapping.specs.Segments.{is_rooted}
 use Rattle.sv_mapping.proofs.Tried.{In, In-cases, In-map}
 use Rattle.sv_realm.specs.declared.caller.Caller.{Caller}
-use Rattle.sv_constraints.specs.Covering.{all_patterns, covers_method, lists}
-use Rattle.sv_constraints.specs.declared.cause.Cause.{Cause}
+use Rattle.sv_constraints.specs.Covering.{all_patterns, lists}
 use Rattle.sv_policy.proofs.Steps.{passing_lists}
 use Rattle.sv_policy.specs.Patterns.{BestIsOfTexts}
 use Rattle.sv_audit.proofs.Found.{ordered_lists}
 use Rattle.sv_audit.specs.Findings.{has_method}
-use Rattle.sv_audit.specs.Reading.{Kind, TablesAreRight, cells_for, cells_in, is_same, row_patterns, said_to}
+use Rattle.sv_audit.specs.Reading.{TablesAreRight, cells_for, cells_in, is_same, row_patterns, said_to}
 use Rattle.sv_audit.specs.Rows.{in_row_order, match_every_path, other_paths, row_at, table_of}
 use Rattle.sv_audit.specs.declared.access.Cell.{Cell}
 use Rattle.sv_audit.specs.declared.rows.Group.{Group}
 use Rattle.sv_audit.specs.declared.rows.Row.{Row}
 use Rattle.sv_audit.specs.declared.rows.Table.{Table}
 use Rattle.sv_difference.specs.DifferenceLaws.{Configuration, HasUrlPatterns, best_of, said_by}
-use Rattle.sv_difference.specs.Differences.{groups_at, groups_of_row, url_patterns}
+use Rattle.sv_difference.specs.Differences.{groups_at, url_patterns}
 
 -- ---- Lists.
 pub in_along : {X : Type 0} (xs ys : List X) (x : X) → xs ≡ ys → In x xs → In x ys

@@ -2,13 +2,13 @@
 use Rattle.std.proofs.lemmas.Bool.{and_from, and_parts, false≢true, ne_eqb, not-true, not_from_false, or_left, or_right}
 use Rattle.std.proofs.lemmas.List.Folds.{list_any-append}
 use Rattle.std.proofs.Math.Bool.{and_comm}
-use Rattle.std.proofs.Common.{◌≡◌, ℕ, Bool, true, false, not, ◌&&◌, ◌||◌, ◌==◌, List, [], ◌∷◌, ◌++◌, length, refl, ap, ap₂, sym, ◌∙◌, arith, cond, inl, inr, Option, None, Some}
+use Rattle.std.proofs.Common.{◌≡◌, ℕ, Bool, true, false, not, ◌&&◌, ◌||◌, ◌==◌, List, [], ◌∷◌, ◌++◌, length, refl, ap, ap₂, sym, ◌∙◌, arith, cond, inl, inr, Option}
 use Rattle.std.specs.Prelude.{◌≢◌, All, filter}
 use Rattle.std.specs.List.{flat_map, list_any}
 use Rattle.std.specs.Str.{bytes_eq}
 use Rattle.sv_mapping.specs.BestMatch.{best_pattern}
 use Rattle.sv_mapping.specs.Segments.{is_rooted, is_slashed}
-use Rattle.sv_mapping.proofs.Tried.{In, In-left, In-right}
+use Rattle.sv_mapping.proofs.Tried.{In}
 use Rattle.sv_realm.specs.declared.caller.Caller.{Caller}
 use Rattle.sv_constraints.specs.Covering.{covers_method, lists}
 use Rattle.sv_constraints.specs.declared.cause.Cause.{Cause}
@@ -29,7 +29,7 @@ use Rattle.sv_difference.proofs.Cells.{all_from, any_found, best_url, found_any,
 use Rattle.sv_difference.proofs.MeetingLemmas.{of_each, path_met, same_decides, same_itself}
 use Rattle.sv_difference.proofs.Represented.{in_joined, in_listed, represented}
 use Rattle.sv_difference.specs.DifferenceLaws.{Configuration, DifferencesAreComplete, DifferencesAreRight, HasUrlPatterns, IsOf, IsRight, best_of, is_of, said_by}
-use Rattle.sv_difference.specs.Differences.{between, difference_of, differences, differences_at, groups_at, meet, meeting_of, meetings, met, same_rows, url_patterns}
+use Rattle.sv_difference.specs.Differences.{between, difference_of, differences, differences_at, groups_at, meet, meeting_of, meetings, same_rows, url_patterns}
 use Rattle.sv_difference.specs.Representatives.{free_paths, directories, endings, named_paths, representatives}
 use Rattle.sv_difference.specs.declared.difference.Difference.{Difference}
 use Rattle.sv_difference.specs.declared.meetings.Meeting.{Meeting}
@@ -105,17 +105,19 @@ module _ (right : TablesAreRight) (best_same : BestIsOfTexts) (one other : Confi
   meeting_for path rooted =
       let it = represented patterns path rooted in
       let known = found_any (same_rows (meeting_of (url_patterns befores) (url_patterns afters) it.0)) (meetings (url_patterns befores) (url_patterns afters))
-          (path_met (url_patterns befores) (url_patterns afters) (representatives patterns) [] it.0 (in_listed (representatives patterns) it.0 it.1)) in
-      let same = and_parts (is_same (best_pattern (url_patterns befores) it.0) known.0.before) (is_same (best_pattern (url_patterns afters) it.0) known.0.after) known.2 in
-      (known.0, record {
-        is_one = known.1;
-        before =
-            sym (same_decides (best_pattern (url_patterns befores) it.0) known.0.before same.0)
-            ∙ (it.2 (url_patterns befores) (λ text there. list_any-append (λ listed. bytes_eq listed text) (url_patterns befores) (url_patterns afters) ∙ or_left _ _ there) ∙ best_url one best_same one_url path);
-        after =
-            sym (same_decides (best_pattern (url_patterns afters) it.0) known.0.after same.1)
-            ∙ (it.2 (url_patterns afters) (λ text there. list_any-append (λ listed. bytes_eq listed text) (url_patterns befores) (url_patterns afters) ∙ or_right _ _ there) ∙ best_url other best_same other_url path);
-      })
+      (path_met (url_patterns befores) (url_patterns afters) (representatives patterns) [] it.0 (in_listed (representatives patterns) it.0 it.1)) in
+      let same = and_parts (is_same (best_pattern (url_patterns befores) it.0) known.0.before) (is_same (best_pattern (url_patterns afters) it.0) known.0.after) known.2 in (
+        known.0,
+        record {
+          is_one = known.1;
+          before =
+              sym (same_decides (best_pattern (url_patterns befores) it.0) known.0.before same.0)
+              ∙ (it.2 (url_patterns befores) (λ text there. list_any-append (λ listed. bytes_eq listed text) (url_patterns befores) (url_patterns afters) ∙ or_left _ _ there) ∙ best_url one best_same one_url path);
+          after =
+              sym (same_decides (best_pattern (url_patterns afters) it.0) known.0.after same.1)
+              ∙ (it.2 (url_patterns afters) (λ text there. list_any-append (λ listed. bytes_eq listed text) (url_patterns befores) (url_patterns afters) ∙ or_right _ _ there) ∙ best_url other best_same other_url path);
+        },
+      )
 
   module _ (method path : List ℕ) (caller : Option Caller) (rooted : is_rooted path ≡ true) (apart_is : (said_by one method path caller).0 ≢ (said_by other method path caller).0) where
     in_differences : (meeting : Meeting) → Meets path meeting → (first second : Group) → In first (groups_at befores meeting.before) → In second (groups_at afters meeting.after)
@@ -134,8 +136,8 @@ module _ (right : TablesAreRight) (best_same : BestIsOfTexts) (one other : Confi
         let second = only_some (λ (group : Group). said_to caller group.cell.access) (has_method method) (said_by other method path caller) (groups_at afters (best_of other path)) (groups_say other right best_same method path caller rooted) in
         let covered : covers_method (meet first.0.methods second.0.methods) method ≡ true = meet_covers first.0.methods second.0.methods method ∙ and_from (has_method method first.0) (has_method method second.0) first.2 second.2 in
         let differ : same_callers first.0.cell.access second.0.cell.access ≡ false =
-            not-true _ (differ_at caller first.0.cell.access second.0.cell.access (same_callers first.0.cell.access second.0.cell.access) refl
-            (λ same. apart_is (ap (λ (said : Kind × Cause). said.0) (sym first.3) ∙ (same ∙ ap (λ (said : Kind × Cause). said.0) second.3)))) in
+        not-true _ (differ_at caller first.0.cell.access second.0.cell.access (same_callers first.0.cell.access second.0.cell.access) refl
+        (λ same. apart_is (ap (λ (said : Kind × Cause). said.0) (sym first.3) ∙ (same ∙ ap (λ (said : Kind × Cause). said.0) second.3)))) in
         any_found (is_of one other method path) (difference_of meets.0 first.0 second.0) (differences (table_of one.constraints one.rules) (table_of other.constraints other.rules))
         (in_differences meets.0 meets.1 first.0 second.0
         (in_along (groups_at befores (best_of one path)) (groups_at befores meets.0.before) first.0 (ap (groups_at befores) (sym meets.1.before)) first.1)
@@ -198,8 +200,11 @@ module _ (right : TablesAreRight) (best_same : BestIsOfTexts) (one other : Confi
           some = some;
           was = was_said;
           becomes = becomes_said;
-          differs = (caller.0, λ method path of same.
-          caller.1 (ap (λ (said : Kind × Cause). said.0) (sym (was_said method path caller.0 of)) ∙ (same ∙ ap (λ (said : Kind × Cause). said.0) (becomes_said method path caller.0 of))));
+          differs = (
+            caller.0,
+            λ method path of same.
+                caller.1 (ap (λ (said : Kind × Cause). said.0) (sym (was_said method path caller.0 of)) ∙ (same ∙ ap (λ (said : Kind × Cause). said.0) (becomes_said method path caller.0 of))),
+          );
         }
 
   right_at : (difference : Difference) → In difference (differences (table_of one.constraints one.rules) (table_of other.constraints other.rules)) → IsRight one other difference

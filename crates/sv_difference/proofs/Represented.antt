@@ -1,20 +1,20 @@
 -- Each path has a representative that matches the same patterns.
-use Rattle.std.proofs.Common.{◌≡◌, ℕ, ◌+◌, ◌<◌, ◌≤◌, zero, suc, Bool, true, false, not, ◌&&◌, ◌||◌, eqb, ltb, List, [], ◌∷◌, ◌++◌, length, map, codes, refl, sym, ◌∙◌, ap, ap₂, arith, append_assoc, append-nil, length-append, cond, inl, inr, ◌⊎◌, Option, None, Some}
-use Rattle.std.specs.Prelude.{filter, fold, max, Contains}
-use Rattle.std.specs.List.{flat_map, list_any, repeat, starts_with}
+use Rattle.std.proofs.Common.{◌≡◌, ℕ, ◌+◌, ◌≤◌, zero, suc, Bool, true, false, ◌&&◌, ◌||◌, ltb, List, [], ◌∷◌, ◌++◌, length, map, codes, refl, sym, ◌∙◌, ap, ap₂, arith, append_assoc, length-append, inl, inr, Option, None, Some}
+use Rattle.std.specs.Prelude.{filter, fold, max}
+use Rattle.std.specs.List.{flat_map, list_any, repeat}
 use Rattle.std.specs.Option.{option_map_or, option_to_list}
 use Rattle.std.specs.Str.{bytes_eq}
 use Rattle.std.proofs.lemmas.Bool.{and_parts, both_ways, cases_Bool, false_from_ne_true, and_from, eqb-true, ltb-false, not-true, or_cases, or_left, or_parts, or_right}
 use Rattle.std.proofs.lemmas.Bool.Decides.{Decides-eqb}
-use Rattle.std.proofs.lemmas.List.Folds.{Any-from_list_any, list_any-append}
+use Rattle.std.proofs.lemmas.List.Folds.{list_any-append}
 use Rattle.std.proofs.lemmas.Slice.Eq.{bytes_eq-Decides, starts_is}
 use Rattle.sv_mapping.specs.BestMatch.{best_pattern}
 use Rattle.sv_mapping.specs.Chosen.{is_chosen}
 use Rattle.sv_mapping.specs.Pattern.{Form, Root, Default, Extension, Prefix, Exact, extension, form, form_matches, form_text, is_at_or_below, is_dot, is_slash, matches}
-use Rattle.sv_mapping.specs.Segments.{is_rooted, is_slashed}
+use Rattle.sv_mapping.specs.Segments.{is_slashed}
 use Rattle.sv_mapping.proofs.Longest.{chosen_where_served}
 use Rattle.sv_mapping.proofs.Rooted.{rooted_cases}
-use Rattle.sv_mapping.proofs.Tried.{In, In-cases, In-left, In-map, In-map_from, In-right}
+use Rattle.sv_mapping.proofs.Tried.{In, In-cases, In-left, In-map, In-right}
 use Rattle.sv_mapping.proofs.Uniqueness.{form_text-form}
 use Rattle.sv_constraints.specs.Covering.{lists}
 use Rattle.sv_difference.proofs.Alike.{same_best}

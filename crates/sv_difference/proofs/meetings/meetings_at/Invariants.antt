@@ -1,7 +1,5 @@
-use Rattle.std.proofs.Common.{◌≡◌, ◌++◌, [], map, take, not}
-use Rattle.std.specs.Prelude.{filter, fold}
-use Rattle.std.specs.List.{flat_map}
-use Rattle.sv_constraints.specs.Covering.{lists}
+use Rattle.std.proofs.Common.{◌≡◌, [], take}
+use Rattle.std.specs.Prelude.{fold}
 use Rattle.sv_difference.specs.Differences as spec
 use Rattle.sv_difference.proofs.meetings.meetings_at.Given as goal
 

@@ -1,7 +1,4 @@
-use Rattle.std.proofs.Common.{◌≡◌, ◌++◌, [], map, take, not}
-use Rattle.std.specs.Prelude.{filter, fold}
-use Rattle.std.specs.List.{flat_map}
-use Rattle.sv_constraints.specs.Covering.{lists}
+use Rattle.std.proofs.Common.{◌≡◌, ◌++◌, take}
 use Rattle.sv_difference.specs.Differences as spec
 use Rattle.sv_difference.proofs.meetings.push_url_patterns.Given as goal
 

@@ -1,8 +1,6 @@
-use Rattle.std.proofs.Common.{◌≡◌, ◌++◌, [], map, take, not}
-use Rattle.std.specs.Prelude.{filter, fold}
-use Rattle.std.specs.List.{flat_map}
+use Rattle.std.proofs.Common.{◌≡◌, take}
+use Rattle.std.specs.Prelude.{filter}
 use Rattle.sv_constraints.specs.Covering.{lists}
-use Rattle.sv_difference.specs.Differences as spec
 use Rattle.sv_difference.proofs.method_sets.listed.Given as goal
 
 abbrev pub invariant-loop-text : goal.invariant-loop-text

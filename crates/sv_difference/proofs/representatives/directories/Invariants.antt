@@ -1,6 +1,4 @@
-use Rattle.std.proofs.Common.{◌≡◌, ◌++◌, map, take}
-use Rattle.std.specs.Prelude.{filter}
-use Rattle.sv_mapping.specs.Segments.{is_slashed}
+use Rattle.std.proofs.Common.{◌≡◌, take}
 use Rattle.sv_difference.specs.Representatives as spec
 use Rattle.sv_difference.proofs.representatives.directories.Given as goal
 

@@ -1,7 +1,6 @@
-use Rattle.std.proofs.Common.{◌≡◌, ◌++◌, map, take}
+use Rattle.std.proofs.Common.{◌≡◌, ◌++◌, take}
 use Rattle.std.specs.Prelude.{filter}
 use Rattle.sv_mapping.specs.Segments.{is_slashed}
-use Rattle.sv_difference.specs.Representatives as spec
 use Rattle.sv_difference.proofs.representatives.push_slashed.Given as goal
 
 abbrev pub invariant-loop-path : goal.invariant-loop-path
