@@ -1,0 +1,3 @@
+pub mod Representatives
+pub mod Differences
+pub mod DifferenceLaws
