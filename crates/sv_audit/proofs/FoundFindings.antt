@@ -1,17 +1,18 @@
--- Nothing uncovered and no difference of HEAD is missed.
+-- No opened pattern, nothing uncovered, no difference of HEAD and no dead pattern is missed.
 use Rattle.std.proofs.lemmas.List.Folds.{list_all_at, list_any-append, list_any_at}
 use Rattle.std.proofs.lemmas.List.Sums.{AllPass-from_list_all}
 use Rattle.std.proofs.lemmas.Slice.Eq.{bytes_eq-Decides}
 use Rattle.std.proofs.lemmas.Bool.{false≢true}
-use Rattle.std.proofs.Common.{◌≡◌, ℕ, Bool, true, false, not, ◌||◌, ◌&&◌, ◌==◌, List, [], ◌∷◌, ◌++◌, length, map, codes, refl, ap, sym, ◌∙◌, cond, Option, None, Some}
-use Rattle.std.specs.Prelude.{◌≢◌, filter, slice_index_or}
+use Rattle.std.proofs.Common.{arith, ◌≡◌, ℕ, Bool, true, false, not, ◌||◌, ◌&&◌, ◌==◌, List, [], ◌∷◌, ◌++◌, length, map, codes, refl, ap, sym, ◌∙◌, cond, Option, None, Some}
+use Rattle.std.specs.Prelude.{◌≢◌, Contains, filter, is_some, slice_index_or}
+use Rattle.std.specs.Option.{option_to_list}
 use Rattle.std.specs.Cmp.{both_ways}
 use Rattle.std.specs.List.{flat_map, list_all, list_any}
 use Rattle.std.specs.Str.{bytes_eq}
 use Rattle.sv_mapping.specs.BestMatch.{BestIsAMatch, best_pattern}
 use Rattle.sv_realm.specs.declared.caller.Caller.{Caller}
-use Rattle.sv_constraints.specs.Covering.{all_patterns, covering, lists}
-use Rattle.sv_constraints.specs.Verdict.{verdict}
+use Rattle.sv_constraints.specs.Covering.{all_patterns, covering, lists, patterns_in}
+use Rattle.sv_constraints.specs.Verdict.{verdict, verdict_at}
 use Rattle.sv_constraints.specs.declared.cause.Cause.{Cause}
 use Rattle.sv_constraints.specs.declared.cause.Cause.TheVariants as cause
 use Rattle.sv_constraints.specs.declared.constraint.Constraint.{Constraint}
@@ -22,12 +23,15 @@ use Rattle.sv_policy.proofs.Rising.{same_text}
 use Rattle.sv_policy.proofs.Steps.{any_of_joined, any_same}
 use Rattle.sv_policy.specs.Uncovered.{is_uncovered as is_uncovered_at}
 use Rattle.sv_audit.proofs.Equal.{and_left, and_right, both}
-use Rattle.sv_audit.proofs.FindingLemmas.{dead, found, heads, in_row, says, uncovered, unknown}
+use Rattle.sv_audit.proofs.FindingLemmas.{dead, found, heads, in_row, opened, partly_dead, says, uncovered, unheld, unknown, unused}
 use Rattle.sv_audit.proofs.Found.{in_texts, ordered_lists}
 use Rattle.sv_audit.proofs.RowCells.{row_cell}
 use Rattle.sv_audit.specs.Access.{cell_at}
-use Rattle.sv_audit.specs.FindingLaws.{HeadIsFound, UncoveredIsFound, says_head, says_uncovered}
-use Rattle.sv_audit.specs.Findings.{has_method, head_at, head_differs, head_strays, is_closed, is_left_open, is_left_out, is_open, same_callers, same_logins, uncovered_at}
+use Rattle.sv_audit.proofs.OpenedLemmas.{contained, kept_any, pair_found}
+use Rattle.sv_audit.specs.Dead.{dead_patterns_in, decides_nothing, escaped, is_dead}
+use Rattle.sv_audit.specs.FindingLaws.{DeadIsFound, HeadIsFound, OpenedIsFound, UncoveredIsFound, says_dead, says_head, says_opened, says_uncovered}
+use Rattle.sv_audit.specs.Findings.{findings_of, has_method, head_at, head_differs, head_strays, is_closed, is_left_open, is_left_out, is_open, same_callers, same_logins, uncovered_at}
+use Rattle.sv_audit.specs.Opened.{opened_at, opened_pair}
 use Rattle.sv_audit.specs.Reading.{Kind, IsDenied, Passes, kind_and_cause, said_to}
 use Rattle.sv_audit.specs.Rows.{in_row_order, match_every_path, other_paths, row_at, table_of}
 use Rattle.sv_audit.specs.declared.access.Access.{Access}
@@ -39,14 +43,6 @@ use Rattle.sv_audit.specs.declared.rows.Group.{Group}
 use Rattle.sv_audit.specs.declared.rows.Row.{Row}
 
 -- ---- Lists.
-kept_any_at : {X : Type 0} (test : X → Bool) (b : Bool) (x : X) (xs : List X) → list_any test (cond b (x ∷ xs) xs) ≡ (b && test x || list_any test xs)
-kept_any_at test true x xs = refl
-kept_any_at test false x xs = refl
-
-kept_any : {X : Type 0} (test keep : X → Bool) (xs : List X) → list_any test (filter keep xs) ≡ list_any (λ x. keep x && test x) xs
-kept_any test keep [] = refl
-kept_any test keep (x ∷ xs) = kept_any_at test (keep x) x (filter keep xs) ∙ ap (λ b. keep x && test x || b) (kept_any test keep xs)
-
 any_first : {X : Type 0} (test : X → Bool) (xs ys : List X) → list_any test xs ≡ true → list_any test (xs ++ ys) ≡ true
 any_first test xs ys some = list_any-append test xs ys ∙ ap (λ b. b || list_any test ys) some
 
@@ -59,11 +55,11 @@ uncovered_from true true rest is open_to_all = absurd (false≢true (sym open_to
 uncovered_from true false rest is open_to_all = refl
 uncovered_from false denied rest is open_to_all = absurd (false≢true is)
 
-covered_from : (none precluded transport opened any : Bool) (first : Access) (names : List (List ℕ)) → none ≡ false
-    → is_left_open (cond none first (cond precluded Precluded (cond transport NeedsTls (cond opened Everyone (cond any AnyLogin (Roles names)))))) ≡ false
-covered_from true precluded transport opened any first names is = absurd (false≢true (sym is))
-covered_from false true transport opened any first names is = refl
-covered_from false false true opened any first names is = refl
+covered_from : (none precluded transport lets_in any : Bool) (first : Access) (names : List (List ℕ)) → none ≡ false
+    → is_left_open (cond none first (cond precluded Precluded (cond transport NeedsTls (cond lets_in Everyone (cond any AnyLogin (Roles names)))))) ≡ false
+covered_from true precluded transport lets_in any first names is = absurd (false≢true (sym is))
+covered_from false true transport lets_in any first names is = refl
+covered_from false false true lets_in any first names is = refl
 covered_from false false false true any first names is = refl
 covered_from false false false false true first names is = refl
 covered_from false false false false false first names is = refl
@@ -119,27 +115,113 @@ module _ (constraints : List Constraint) (rules : Rules) (pattern : List ℕ) wh
       (any_seen (λ (row : Row). list_any test (at row.pattern row.groups)) (row_at constraints rules) (in_row_order (all_patterns constraints))
       ∙ any_in (λ p. list_any test (at (Some p) (row_at constraints rules p).groups)) (in_row_order (all_patterns constraints)) pattern (ordered_lists (all_patterns constraints) pattern ∙ there) some)
 
+-- ---- The parts of all findings.
+module _ (test : Finding → Bool) (o u h d p e k x y : List Finding) where
+  of_five : list_any test (o ++ u ++ h ++ d ++ p) ≡ true → list_any test (o ++ u ++ h ++ d ++ p ++ e ++ k ++ x ++ y) ≡ true
+  of_five some =
+      any_first test (o ++ u ++ h ++ d ++ p ++ e ++ k ++ x) y
+      (any_first test (o ++ u ++ h ++ d ++ p ++ e ++ k) x (any_first test (o ++ u ++ h ++ d ++ p ++ e) k (any_first test (o ++ u ++ h ++ d ++ p) e some)))
+
+  of_three : list_any test (o ++ u ++ h) ≡ true → list_any test (o ++ u ++ h ++ d ++ p ++ e ++ k ++ x ++ y) ≡ true
+  of_three some = of_five (any_first test (o ++ u ++ h ++ d) p (any_first test (o ++ u ++ h) d some))
+
+  in_opened : list_any test o ≡ true → list_any test (o ++ u ++ h ++ d ++ p ++ e ++ k ++ x ++ y) ≡ true
+  in_opened some = of_three (any_first test (o ++ u) h (any_first test o u some))
+
+  in_uncovered : list_any test u ≡ true → list_any test (o ++ u ++ h ++ d ++ p ++ e ++ k ++ x ++ y) ≡ true
+  in_uncovered some = of_three (any_first test (o ++ u) h (any_last test o u some))
+
+  in_heads : list_any test h ≡ true → list_any test (o ++ u ++ h ++ d ++ p ++ e ++ k ++ x ++ y) ≡ true
+  in_heads some = of_three (any_last test (o ++ u) h some)
+
+  in_dead : list_any test d ≡ true → list_any test (o ++ u ++ h ++ d ++ p ++ e ++ k ++ x ++ y) ≡ true
+  in_dead some = of_five (any_first test (o ++ u ++ h ++ d) p (any_last test (o ++ u ++ h) d some))
+
+  in_partly_dead : list_any test p ≡ true → list_any test (o ++ u ++ h ++ d ++ p ++ e ++ k ++ x ++ y) ≡ true
+  in_partly_dead some = of_five (any_last test (o ++ u ++ h ++ d) p some)
+
+module _ (constraints : List Constraint) (rules : Rules) (held : Option (List (List ℕ))) (test : Finding → Bool) where
+  abbrev IsAmong : Type 0
+  IsAmong = list_any test (findings_of constraints rules (table_of constraints rules) held) ≡ true
+
+  among_opened : list_any test (opened constraints rules held) ≡ true → IsAmong
+  among_opened =
+      in_opened test (opened constraints rules held) (uncovered constraints rules held) (heads constraints rules held) (dead constraints rules held) (partly_dead constraints rules held) (escaped constraints) (unknown constraints rules held) (unheld constraints rules held) (unused constraints rules held)
+
+  among_uncovered : list_any test (uncovered constraints rules held) ≡ true → IsAmong
+  among_uncovered =
+      in_uncovered test (opened constraints rules held) (uncovered constraints rules held) (heads constraints rules held) (dead constraints rules held) (partly_dead constraints rules held) (escaped constraints) (unknown constraints rules held) (unheld constraints rules held) (unused constraints rules held)
+
+  among_heads : list_any test (heads constraints rules held) ≡ true → IsAmong
+  among_heads =
+      in_heads test (opened constraints rules held) (uncovered constraints rules held) (heads constraints rules held) (dead constraints rules held) (partly_dead constraints rules held) (escaped constraints) (unknown constraints rules held) (unheld constraints rules held) (unused constraints rules held)
+
+  among_dead : list_any test (dead constraints rules held) ≡ true → IsAmong
+  among_dead =
+      in_dead test (opened constraints rules held) (uncovered constraints rules held) (heads constraints rules held) (dead constraints rules held) (partly_dead constraints rules held) (escaped constraints) (unknown constraints rules held) (unheld constraints rules held) (unused constraints rules held)
+
+  among_partly_dead : list_any test (partly_dead constraints rules held) ≡ true → IsAmong
+  among_partly_dead =
+      in_partly_dead test (opened constraints rules held) (uncovered constraints rules held) (heads constraints rules held) (dead constraints rules held) (partly_dead constraints rules held) (escaped constraints) (unknown constraints rules held) (unheld constraints rules held) (unused constraints rules held)
+
 pub uncovered_found : UncoveredIsFound
-uncovered_found constraints rules pattern method other open_to_all there none some =
-    any_first (says_uncovered pattern method) ((uncovered constraints rules ++ dead constraints rules) ++ unknown constraints rules) (heads constraints rules)
-    (any_first (says_uncovered pattern method) (uncovered constraints rules ++ dead constraints rules) (unknown constraints rules)
-    (any_first (says_uncovered pattern method) (uncovered constraints rules) (dead constraints rules)
-    (in_table constraints rules pattern (says_uncovered pattern method) uncovered_at there (reported constraints rules pattern method other open_to_all none some))))
+uncovered_found constraints rules held pattern method other open_to_all there none some =
+    among_uncovered constraints rules held (says_uncovered pattern method)
+    (in_table constraints rules pattern (says_uncovered pattern method) uncovered_at there (reported constraints rules pattern method other open_to_all none some))
+
+-- ---- Opened patterns.
+reported_pair : (pattern : List ℕ) (found : Option (ℕ × ℕ)) → is_some found ≡ true → list_any (says_opened pattern) (map (λ (pair : ℕ × ℕ). finding.Opened pattern pair.0 pair.1) (option_to_list found)) ≡ true
+reported_pair pattern None some = absurd (false≢true some)
+reported_pair pattern (Some pair) some = ap (λ b. b || false) (same_text pattern)
+
+pub opened_found : BestIsAMatch → OpenedIsFound
+opened_found best_is_a_match constraints rules held pattern method path number other both_on best passing =
+    among_opened constraints rules held (says_opened pattern)
+    (in_table constraints rules pattern (says_opened pattern) (λ its_pattern groups. opened_at constraints its_pattern) (in_texts (all_patterns constraints) pattern (best_is_a_match (all_patterns constraints) path pattern best).0)
+    (reported_pair pattern (opened_pair constraints pattern)
+    (pair_found constraints pattern rules method number other both_on (sym (ap (λ b. kind_and_cause (verdict_at rules None b (covering constraints b method))) best) ∙ passing))))
+
+-- ---- Dead patterns.
+same_number : (n : ℕ) → (n == n) ≡ true
+same_number n = grind arith
+
+module _ (constraints : List Constraint) (rules : Rules) (held : Option (List (List ℕ))) (c : Constraint) (pattern : List ℕ) (there : Contains constraints c) (listed : lists (patterns_in c) pattern ≡ true) where
+  abbrev has_prefix : Bool
+  has_prefix = lists (all_patterns constraints) (codes "/*")
+
+  dead_found_at : decides_nothing has_prefix pattern ≡ true → (all_dead : Bool) → is_dead has_prefix c ≡ all_dead → list_any (says_dead c.number pattern) (findings_of constraints rules (table_of constraints rules) held) ≡ true
+  dead_found_at nothing true is =
+      among_dead constraints rules held (says_dead c.number pattern)
+      (any_seen (says_dead c.number pattern) (λ (x : Constraint). finding.Dead x.number) (filter (is_dead has_prefix) constraints)
+      ∙ kept_any (λ (x : Constraint). x.number == c.number) (is_dead has_prefix) constraints
+      ∙ contained (λ (x : Constraint). is_dead has_prefix x && (x.number == c.number)) constraints c there (both (is_dead has_prefix c) (c.number == c.number) is (same_number c.number)))
+  dead_found_at nothing false is =
+      among_partly_dead constraints rules held (says_dead c.number pattern)
+      (any_of_joined (says_dead c.number pattern) (dead_patterns_in has_prefix) constraints
+      ∙ contained (λ (x : Constraint). list_any (says_dead c.number pattern) (dead_patterns_in has_prefix x)) constraints c there
+      (ap (λ b. list_any (says_dead c.number pattern) (cond b [] (map (finding.DeadPattern c.number) (filter (decides_nothing has_prefix) (patterns_in c))))) is
+      ∙ any_seen (says_dead c.number pattern) (finding.DeadPattern c.number) (filter (decides_nothing has_prefix) (patterns_in c))
+      ∙ kept_any (λ text. (c.number == c.number) && bytes_eq text pattern) (decides_nothing has_prefix) (patterns_in c)
+      ∙ any_in (λ text. decides_nothing has_prefix text && ((c.number == c.number) && bytes_eq text pattern)) (patterns_in c) pattern listed
+      (both (decides_nothing has_prefix pattern) ((c.number == c.number) && bytes_eq pattern pattern) nothing (both (c.number == c.number) (bytes_eq pattern pattern) (same_number c.number) (same_text pattern)))))
+
+pub dead_found : DeadIsFound
+dead_found constraints rules held c pattern there listed nothing = dead_found_at constraints rules held c pattern there listed nothing (is_dead (lists (all_patterns constraints) (codes "/*")) c) refl
 
 -- ---- The same callers fare alike.
 module _ (caller : Option Caller) where
   abbrev kind : Access → Kind
   kind access = (said_to caller access).0
 
-  opened : (access : Access) → is_open access ≡ true → kind access ≡ Passes
-  opened Unconstrained is = refl
-  opened Uncovered is = refl
-  opened UncoveredDenied is = absurd (false≢true is)
-  opened Precluded is = absurd (false≢true is)
-  opened NeedsTls is = absurd (false≢true is)
-  opened Everyone is = refl
-  opened AnyLogin is = absurd (false≢true is)
-  opened (Roles names) is = absurd (false≢true is)
+  opened_kind : (access : Access) → is_open access ≡ true → kind access ≡ Passes
+  opened_kind Unconstrained is = refl
+  opened_kind Uncovered is = refl
+  opened_kind UncoveredDenied is = absurd (false≢true is)
+  opened_kind Precluded is = absurd (false≢true is)
+  opened_kind NeedsTls is = absurd (false≢true is)
+  opened_kind Everyone is = refl
+  opened_kind AnyLogin is = absurd (false≢true is)
+  opened_kind (Roles names) is = absurd (false≢true is)
 
   closed : (access : Access) → is_closed access ≡ true → kind access ≡ IsDenied
   closed Unconstrained is = absurd (false≢true is)
@@ -198,7 +280,7 @@ logins_alike caller (Roles names) other same = named_alike caller names other sa
 alike_at : (caller : Option Caller) (access other : Access) (open_both closed_both : Bool) → (is_open access && is_open other) ≡ open_both → (is_closed access && is_closed other) ≡ closed_both
     → (open_both || closed_both || same_logins access other) ≡ true → kind caller access ≡ kind caller other
 alike_at caller access other true closed_both is was same =
-    opened caller access (and_left (is_open access) (is_open other) is) ∙ sym (opened caller other (and_right (is_open access) (is_open other) is))
+    opened_kind caller access (and_left (is_open access) (is_open other) is) ∙ sym (opened_kind caller other (and_right (is_open access) (is_open other) is))
 alike_at caller access other false true is was same =
     closed caller access (and_left (is_closed access) (is_closed other) was) ∙ sym (closed caller other (and_right (is_closed access) (is_closed other) was))
 alike_at caller access other false false is was same = logins_alike caller access other same
@@ -233,7 +315,7 @@ module _ (constraints : List Constraint) (rules : Rules) (pattern path : List �
       ap (λ b. list_any (says_head pattern) (cond b (finding.HeadDiffers pattern ∷ []) [])) differs ∙ ap (λ b. b || false) (same_text pattern)
 
 pub head_found : BestIsAMatch → HeadIsFound
-head_found best_is_a_match constraints rules pattern path caller best apart =
-    any_last (says_head pattern) ((uncovered constraints rules ++ dead constraints rules) ++ unknown constraints rules) (heads constraints rules)
+head_found best_is_a_match constraints rules held pattern path caller best apart =
+    among_heads constraints rules held (says_head pattern)
     (in_table constraints rules pattern (says_head pattern) head_at (in_texts (all_patterns constraints) pattern (best_is_a_match (all_patterns constraints) path pattern best).0)
     (head_reported constraints rules pattern path caller best apart))

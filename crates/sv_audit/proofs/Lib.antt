@@ -4,9 +4,15 @@ pub mod Equal
 pub mod Said
 pub mod RowCells
 pub mod Found
+pub mod Shapes
+pub mod OpenedLemmas
 pub mod Callers
 pub mod FindingLemmas
 pub mod FoundFindings
 pub mod CellLemmas
 pub mod Made
+pub mod OpenedSteps
 pub mod SecureLemmas
+pub mod ExampleLemmas
+pub mod NarrowerLemmas
+pub mod FirstTexts

@@ -114,7 +114,7 @@ any_weaker : {A : Type 0} (f g : A → Bool) → ((x : A) → f x ≡ true → g
 any_weaker f g weaker [] found = found
 any_weaker f g weaker (x ∷ xs) found = weaker_or (f x) (g x) (list_any f xs) (list_any g xs) (weaker x) (any_weaker f g weaker xs) found
 
-unnamed_listed : (pattern : List ℕ) (c : Constraint) → covers_unnamed c pattern ≡ true → lists_pattern c pattern ≡ true
+pub unnamed_listed : (pattern : List ℕ) (c : Constraint) → covers_unnamed c pattern ≡ true → lists_pattern c pattern ≡ true
 unnamed_listed pattern c = any_weaker (λ collection. collection_covers_unnamed collection pattern) (λ collection. lists collection.patterns pattern)
     (λ collection. and_left (lists collection.patterns pattern) (not (leaves_others_open collection.methods))) c.collections
 
@@ -128,7 +128,7 @@ named_at : (pattern : List ℕ) (c : Constraint) (rest : List Constraint) (names
 named_at pattern c rest names true is below = ap (λ ns. listed_methods c.collections pattern ++ ns) below
 named_at pattern c rest names false is below = below ∙ ap (λ ns. ns ++ names) (sym (none_listed pattern c.collections is))
 
-named_of_all : (pattern : List ℕ) (constraints : List Constraint) → named_methods (filter (λ c. lists_pattern c pattern) constraints) pattern ≡ named_methods constraints pattern
+pub named_of_all : (pattern : List ℕ) (constraints : List Constraint) → named_methods (filter (λ c. lists_pattern c pattern) constraints) pattern ≡ named_methods constraints pattern
 named_of_all pattern [] = refl
 named_of_all pattern (c ∷ constraints) = named_at pattern c (filter (λ x. lists_pattern x pattern) constraints) (named_methods constraints pattern) (lists_pattern c pattern) refl (named_of_all pattern constraints)
 

@@ -1,13 +1,12 @@
 -- What constraints leave open by mistake, or state without effect (Jakarta Servlet 6.0, sections 12.1 and 13.8).
 use Rattle.std.specs.Prelude.{ℕ, Bool, true, false, not, ◌&&◌, ◌||◌, List, [], ◌∷◌, ◌++◌, codes, filter, map, Option, None, Some, if◌then◌else◌}
 use Rattle.std.specs.List.{flat_map, list_all, list_any}
-use Rattle.std.specs.Str.{bytes_eq}
-use Rattle.sv_mapping.specs.Pattern.{is_extension_pattern}
 use Rattle.sv_constraints.specs.Covering.{all_patterns, covers_method, lists}
-use Rattle.sv_constraints.specs.declared.constraint.Auth.{Auth}
-use Rattle.sv_constraints.specs.declared.constraint.Auth.TheVariants as auth
 use Rattle.sv_constraints.specs.declared.constraint.Constraint.{Constraint}
 use Rattle.sv_constraints.specs.declared.constraint.Rules.{Rules}
+use Rattle.sv_audit.specs.Dead.{dead_among, dead_patterns, escaped}
+use Rattle.sv_audit.specs.Opened.{opened_at}
+use Rattle.sv_audit.specs.RoleFindings.{unheld_roles, unknown_among, unused_roles}
 use Rattle.sv_audit.specs.declared.access.Access.{Access}
 use Rattle.sv_audit.specs.declared.access.Access.TheVariants.{Unconstrained, Uncovered, UncoveredDenied, Precluded, NeedsTls, Everyone, AnyLogin, Roles}
 use Rattle.sv_audit.specs.declared.finding.Finding.{Finding}
@@ -28,26 +27,6 @@ abbrev pub uncovered_at : Option (List ℕ) → List Group → List Finding
 uncovered_at None groups = []
 uncovered_at (Some pattern) groups =
     if list_all is_left_out groups then [] else map (λ group. finding.Uncovered pattern group.methods) (filter is_left_out groups)
-
--- Whether `/*` takes each path from the pattern: it matches every path of a context, and is chosen before `/` and
--- before extension patterns (section 12.1).
-abbrev pub is_beaten : Bool → List ℕ → Bool
-is_beaten has_prefix pattern = has_prefix && (bytes_eq pattern (codes "/") || is_extension_pattern pattern)
-
--- Whether each pattern of the constraint is beaten, so that the constraint covers no request.
-abbrev pub is_dead : Bool → Constraint → Bool
-is_dead has_prefix constraint = list_all (λ collection. list_all (is_beaten has_prefix) collection.patterns) constraint.collections
-
-abbrev pub dead_among : Bool → List Constraint → List Finding
-dead_among has_prefix constraints = map (λ constraint. finding.Dead constraint.number) (filter (is_dead has_prefix) constraints)
-
--- Whether the name is a role that is not declared. `*` and `**` are no roles (section 13.8.1).
-abbrev pub is_unknown : List (List ℕ) → List ℕ → Bool
-is_unknown declared name = not (bytes_eq name (codes "*") || bytes_eq name (codes "**") || lists declared name)
-
-abbrev pub unknown_roles : List (List ℕ) → ℕ → Auth → List Finding
-unknown_roles declared number auth.Absent = []
-unknown_roles declared number (auth.Roles names) = map (finding.UnknownRole number) (filter (is_unknown declared) names)
 
 -- Whether everyone passes, without a caller.
 abbrev pub is_open : Access → Bool
@@ -93,11 +72,15 @@ abbrev pub head_at : Option (List ℕ) → List Group → List Finding
 head_at None groups = []
 head_at (Some pattern) groups = if head_differs groups then finding.HeadDiffers pattern ∷ [] else []
 
--- The findings of constraints and their table: uncovered methods, dead constraints, roles that are not declared, and
--- differences between GET and HEAD.
-abbrev pub findings_of : List Constraint → Rules → Table → List Finding
-findings_of constraints rules table =
-    flat_map (λ row. uncovered_at row.pattern row.groups) table.rows
-    ++ dead_among (lists (all_patterns constraints) (codes "/*")) constraints
-    ++ flat_map (λ constraint. unknown_roles rules.declared constraint.number constraint.auth) constraints
+-- The findings of constraints and their table, given the roles that users have, if users are known.
+abbrev pub findings_of : List Constraint → Rules → Table → Option (List (List ℕ)) → List Finding
+findings_of constraints rules table held =
+    flat_map (λ row. opened_at constraints row.pattern) table.rows
+    ++ flat_map (λ row. uncovered_at row.pattern row.groups) table.rows
     ++ flat_map (λ row. head_at row.pattern row.groups) table.rows
+    ++ dead_among (lists (all_patterns constraints) (codes "/*")) constraints
+    ++ dead_patterns (lists (all_patterns constraints) (codes "/*")) constraints
+    ++ escaped constraints
+    ++ unknown_among rules.declared constraints
+    ++ unheld_roles rules.declared held constraints
+    ++ unused_roles rules.declared constraints

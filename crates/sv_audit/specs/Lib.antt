@@ -3,5 +3,10 @@ pub mod Access
 pub mod Rows
 pub mod Reading
 pub mod Secure
+pub mod Dead
+pub mod Opened
+pub mod RoleFindings
 pub mod Findings
 pub mod FindingLaws
+pub mod Examples
+pub mod Narrower

@@ -26,7 +26,7 @@ pub fn cell_at(alloc: Global, rules: &Rules, members: &[&Constraint]) -> Result<
 }
 
 /// Returns the findings for constraints without a caller.
-fn findings_of(rules: &Rules, members: &[&Constraint]) -> Findings
+pub fn findings_of(rules: &Rules, members: &[&Constraint]) -> Findings
     ensures { result ≡ findings_of rules.now None (map (λ member. member.now) members.now) }
 {
     one_more_is_found();

@@ -22,6 +22,15 @@ pub fn all_patterns(alloc: Global, constraints: &[Constraint]) -> Result<Vec<&st
     Ok(texts)
 }
 
+/// Returns the patterns of a constraint, in order and with duplicates.
+pub fn patterns_in(alloc: Global, constraint: &Constraint) -> Result<Vec<&str>, NoMemory>
+    ensures { IfOk result (λ texts. map (λ text. text.now) texts.items ≡ patterns_in constraint.now) }
+{
+    let mut texts = Vec::new(alloc);
+    push_patterns_in(&mut texts, constraint)?;
+    Ok(texts)
+}
+
 /// Appends the patterns of a constraint.
 fn push_patterns_in<'a>(
     texts: &mut Vec<&'a str>,

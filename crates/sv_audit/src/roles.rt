@@ -60,7 +60,7 @@ fn all_roles<'a>(
 }
 
 /// Appends the roles that an authorization constraint means.
-fn push_meant<'a>(
+pub fn push_meant<'a>(
     roles: &mut Vec<&'a str>,
     declared: &'a [Text],
     auth: &'a Auth,

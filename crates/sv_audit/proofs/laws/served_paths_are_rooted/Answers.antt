@@ -6,11 +6,8 @@ use Rattle.std.specs.List.{starts_with}
 use Rattle.std.specs.Str.{bytes_eq}
 use Rattle.sv_mapping.proofs.Rooted.{slashed_rooted}
 use Rattle.sv_mapping.specs.Segments.{is_rooted}
+use Rattle.sv_audit.proofs.Shapes.{after}
 use Rattle.sv_audit.proofs.laws.served_paths_are_rooted.Goals as goal
-
-after : (front rest : List ℕ) → drop (length front) ((front ++ 47 ∷ []) ++ rest) ≡ 47 ∷ rest
-after [] rest = refl
-after (b ∷ front) rest = after front rest
 
 rooted_at : (context path : List ℕ) (same : Bool) → (same || starts_with nat_eq path (context ++ codes "/")) ≡ true → is_rooted (cond same (codes "/") (drop (length context) path)) ≡ true
 rooted_at context path true at = refl

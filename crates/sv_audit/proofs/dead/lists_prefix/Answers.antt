@@ -3,7 +3,7 @@ use Rattle.std.specs.Borrow.{Bor}
 use Rattle.std.specs.Str.{bytes_eq}
 use Rattle.sv_constraints.specs.Covering.{lists}
 use Rattle.sv_policy.proofs.Listed.{any_seen}
-use Rattle.sv_audit.proofs.findings.lists_prefix.Goals as goal
+use Rattle.sv_audit.proofs.dead.lists_prefix.Goals as goal
 
 pub returns : goal.returns
 returns c =

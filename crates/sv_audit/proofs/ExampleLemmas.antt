@@ -1,0 +1,44 @@
+-- An example is canonical as it is written, and its best match is the pattern.
+use Rattle.std.proofs.lemmas.Bool.{and_parts, false≢true}
+use Rattle.std.proofs.lemmas.Slice.Eq.{bytes_eq-Decides}
+use Rattle.std.proofs.Common.{◌≡◌, ℕ, true, List, refl, ap, ap₂, sym, is_none, Option, None, Some, Result, Ok, Err}
+use Rattle.std.specs.Str.{bytes_eq}
+use Rattle.sv_mapping.proofs.FirstBest.{found_passes}
+use Rattle.sv_mapping.specs.BestMatch.{best_pattern}
+use Rattle.sv_uri.specs.Canonical.{canonical}
+use Rattle.sv_uri.specs.Shape.{CanonicalHasShape, IsCanonicalPath}
+use Rattle.sv_uri.specs.declared.fault.PathFault.{PathFault}
+use Rattle.sv_uri.specs.declared.path.Canon.{Canon}
+use Rattle.sv_audit.specs.Examples.{ExamplesAreRight, candidates, gives_only, is_example, is_its_own}
+use Rattle.sv_audit.specs.Reading.{is_same}
+
+abbrev plain : List ℕ → Canon
+plain its_path = record { path = its_path; query = None }
+
+without_query : (query : Option (List ℕ)) → is_none query ≡ true → query ≡ None
+without_query None is = refl
+without_query (Some text) is = absurd (false≢true is)
+
+own_at : (path : List ℕ) (result : Result Canon PathFault) → gives_only path result ≡ true → result ≡ Ok (plain path)
+own_at path (Err fault) is = absurd (false≢true is)
+own_at path (Ok canon) is =
+    let parts : (bytes_eq canon.path path ≡ true) × (is_none canon.query ≡ true) = and_parts (bytes_eq canon.path path) (is_none canon.query) is in
+    ap₂ (λ p q. let made : Canon = record { path = p; query = q } in Ok made) ((bytes_eq-Decides canon.path path).0 parts.0) (without_query canon.query parts.1)
+
+own : (path : List ℕ) → is_its_own path ≡ true → canonical path ≡ Ok (plain path)
+unfolding is_its_own
+own path is = own_at path (canonical path) is
+
+same_is : (pattern other : Option (List ℕ)) → is_same pattern other ≡ true → other ≡ pattern
+same_is None None is = refl
+same_is (Some pattern) (Some other) is = ap Some (sym ((bytes_eq-Decides pattern other).0 is))
+same_is None (Some other) is = absurd (false≢true is)
+same_is (Some pattern) None is = absurd (false≢true is)
+
+pub examples_right : CanonicalHasShape → ExamplesAreRight
+examples_right shapes patterns pattern path is =
+    let parts : (is_its_own path ≡ true) × (is_same pattern (best_pattern patterns path) ≡ true) =
+    and_parts (is_its_own path) (is_same pattern (best_pattern patterns path)) (found_passes (is_example patterns pattern) (candidates pattern) path is) in
+    let given : canonical path ≡ Ok (plain path) = own path parts.0 in
+    let shape : IsCanonicalPath path = shapes path (plain path) given in
+    (given, same_is pattern (best_pattern patterns path) parts.1, shape.rooted)

@@ -1,0 +1,49 @@
+-- Paths whose best match is a pattern (Jakarta Servlet 6.0, sections 3.5.2 and 12.1).
+use Rattle.std.specs.Prelude.{◌≡◌, ℕ, Bool, false, ◌&&◌, List, [], ◌∷◌, ◌++◌, codes, find, is_none, map, Option, None, Some, Result, Ok, Err, IsTrue}
+use Rattle.std.specs.Str.{bytes_eq}
+use Rattle.sv_mapping.specs.BestMatch.{best_pattern}
+use Rattle.sv_mapping.specs.Pattern.{Form, Root, Default, Extension, Prefix, Exact, form}
+use Rattle.sv_uri.specs.Canonical.{begins_with_slash, canonical}
+use Rattle.sv_uri.specs.declared.fault.PathFault.{PathFault}
+use Rattle.sv_uri.specs.declared.path.Canon.{Canon}
+use Rattle.sv_audit.specs.Reading.{is_same}
+
+-- Each of the texts between the same two texts.
+abbrev pub around : List ℕ → List (List ℕ) → List ℕ → List (List ℕ)
+around front middles end = map (λ middle. front ++ middle ++ end) middles
+
+abbrev pub plain_paths : List (List ℕ)
+plain_paths = codes "/page" ∷ codes "/page.html" ∷ codes "/a/page" ∷ []
+
+-- The paths to try for a pattern, or for the paths that no pattern matches.
+abbrev pub candidates_of : Form → List (List ℕ)
+candidates_of Root = codes "/" ∷ []
+candidates_of Default = plain_paths
+candidates_of (Extension wanted) = around [] (codes "/page." ∷ codes "/a/page." ∷ []) wanted
+candidates_of (Prefix prefix) = around prefix (codes "/page" ∷ codes "/page.html" ∷ codes "/" ∷ []) []
+candidates_of (Exact text) = text ∷ []
+
+abbrev pub candidates : Option (List ℕ) → List (List ℕ)
+candidates None = plain_paths
+candidates (Some pattern) = candidates_of (form pattern)
+
+abbrev pub gives_only : List ℕ → Result Canon PathFault → Bool
+gives_only path (Ok canon) = bytes_eq canon.path path && is_none canon.query
+gives_only path (Err fault) = false
+
+-- Whether the path, read as a target, is its own canonical path and has no query.
+unfoldable pub is_its_own : List ℕ → Bool
+is_its_own path = gives_only path (canonical path)
+
+-- Whether the path is its own canonical path, and the pattern is its best match, or there is none.
+abbrev pub is_example : List (List ℕ) → Option (List ℕ) → List ℕ → Bool
+is_example patterns pattern path = is_its_own path && is_same pattern (best_pattern patterns path)
+
+-- The first such path of those to try.
+abbrev pub example : List (List ℕ) → Option (List ℕ) → Option (List ℕ)
+example patterns pattern = find (is_example patterns pattern) (candidates pattern)
+
+-- An example is its own canonical path, begins with a slash, and has the pattern as its best match.
+abbrev pub ExamplesAreRight : Type 0
+ExamplesAreRight = (patterns : List (List ℕ)) (pattern : Option (List ℕ)) (path : List ℕ) → example patterns pattern ≡ Some path →
+    (canonical path ≡ Ok (record { path = path; query = None })) × (best_pattern patterns path ≡ pattern) × IsTrue (begins_with_slash path)
