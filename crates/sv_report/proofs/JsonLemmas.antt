@@ -10,7 +10,7 @@ use Rattle.sv_report.specs.Json.{audit_value, context_value, group_value, named_
 use Rattle.sv_report.specs.JsonParts.{number_value, roles_in, strings, text_value, truth_value}
 use Rattle.sv_report.specs.Places.{line_of}
 use Rattle.sv_audit.specs.declared.finding.Finding.{Finding}
-use Rattle.sv_audit.specs.declared.finding.Finding.TheVariants.{Uncovered, Dead, UnknownRole, HeadDiffers}
+use Rattle.sv_audit.specs.declared.finding.Finding.TheVariants.{Opened, Uncovered, HeadDiffers, Dead, DeadPattern, Escaped, UnknownRole, UnheldRole, UnusedRole}
 use Rattle.sv_report.specs.declared.report.ContextReport.{ContextReport}
 use Rattle.sv_report.specs.declared.report.ReportedFinding.{ReportedFinding}
 use Rattle.sv_report.specs.declared.report.ReportedRow.{ReportedRow}
@@ -64,9 +64,14 @@ in_members : (is_accepted : Bool) (constraint line : Option ℕ) (key kind : Lis
     → has_float (object (finding_members (boolean is_accepted) (number_value constraint) (string key) (string kind) (number_value line) finding)) ≡ false
 in_members is_accepted constraint line key kind (Uncovered pattern methods) =
     ap₂ (λ a b. a || b) (in_number constraint) (ap₂ (λ a b. a || (b || false)) (in_number line) (in_strings (method_names methods)))
-in_members is_accepted constraint line key kind (Dead number) = ap₂ (λ a b. a || (b || false)) (in_number constraint) (in_number line)
-in_members is_accepted constraint line key kind (UnknownRole number role) = ap₂ (λ a b. a || (b || false)) (in_number constraint) (in_number line)
+in_members is_accepted constraint line key kind (Opened pattern opening guarded) = ap₂ (λ a b. a || (b || false)) (in_number constraint) (in_number line)
 in_members is_accepted constraint line key kind (HeadDiffers pattern) = ap₂ (λ a b. a || (b || false)) (in_number constraint) (in_number line)
+in_members is_accepted constraint line key kind (Dead number) = ap₂ (λ a b. a || (b || false)) (in_number constraint) (in_number line)
+in_members is_accepted constraint line key kind (DeadPattern number pattern) = ap₂ (λ a b. a || (b || false)) (in_number constraint) (in_number line)
+in_members is_accepted constraint line key kind (Escaped number pattern) = ap₂ (λ a b. a || (b || false)) (in_number constraint) (in_number line)
+in_members is_accepted constraint line key kind (UnknownRole number role) = ap₂ (λ a b. a || (b || false)) (in_number constraint) (in_number line)
+in_members is_accepted constraint line key kind (UnheldRole role) = ap₂ (λ a b. a || (b || false)) (in_number constraint) (in_number line)
+in_members is_accepted constraint line key kind (UnusedRole role) = ap₂ (λ a b. a || (b || false)) (in_number constraint) (in_number line)
 
 in_finding : (lines : List (Option ℕ)) (reported : ReportedFinding) → has_float (finding_value lines reported) ≡ false
 unfolding finding_value

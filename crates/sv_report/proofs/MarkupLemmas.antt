@@ -1,11 +1,11 @@
 -- A text in HTML has no angle bracket and no quote.
-use Rattle.std.proofs.Common.{◌≡◌, ℕ, ◌+◌, ◌/◌, ◌%◌, ◌≤◌, ◌<◌, Bool, true, false, ◌||◌, ◌==◌, List, [], ◌∷◌, ◌++◌, ◌∙◌, codes, cond, refl, ap, ap₂, arith, nat_lt, if◌then◌else◌}
+use Rattle.std.proofs.Common.{◌≡◌, ℕ, ◌+◌, ◌/◌, ◌%◌, ◌≤◌, Bool, true, false, ◌||◌, ◌==◌, List, [], ◌∷◌, ◌∙◌, codes, cond, refl, ap, ap₂, arith, nat_lt, if◌then◌else◌}
 use Rattle.std.proofs.lemmas.Bool.{ne_eqb}
 use Rattle.std.proofs.lemmas.List.Folds.{list_any-append}
 use Rattle.std.specs.Char.{encode_utf8, is_control}
 use Rattle.std.specs.Fmt.{digit_glyph}
 use Rattle.std.specs.List.{flat_map, list_any}
-use Rattle.std.specs.Str.{byte, chars}
+use Rattle.std.specs.Str.{chars}
 use Rattle.sv_report.specs.Escaped.{escape_text}
 use Rattle.sv_report.specs.Markup.{html_character, html_text, is_markup, other_character}
 

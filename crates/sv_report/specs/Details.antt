@@ -4,7 +4,7 @@ use Rattle.std.specs.List.{flat_map}
 use Rattle.sv_report.specs.Escaped.{escaped}
 use Rattle.sv_report.specs.Parts.{joined}
 use Rattle.sv_report.specs.Words.{pattern_text}
-use Rattle.sv_report.specs.declared.report.Narrower.{Narrower}
+use Rattle.sv_audit.specs.declared.narrower_patterns.Narrower.{Narrower}
 use Rattle.sv_report.specs.declared.report.ReportedRow.{ReportedRow}
 
 -- What answers a path: a servlet, or files.

@@ -3,7 +3,7 @@ use Rattle.std.specs.Prelude.{ℕ, Bool, true, false, not, ◌&&◌, ◌||◌, L
 use Rattle.sv_realm.specs.declared.caller.Caller.{Caller}
 use Rattle.sv_audit.specs.Reading.{Kind, IsDenied, NeedsLogin, Passes, said_to}
 use Rattle.sv_audit.specs.declared.access.Access.{Access}
-use Rattle.sv_audit.specs.declared.access.Access.TheVariants.{Unconstrained, Uncovered, UncoveredDenied, Precluded, NeedsTls, Everyone, AnyLogin, Roles}
+use Rattle.sv_audit.specs.declared.access.Access.TheVariants.{AnyLogin, Roles}
 use Rattle.sv_report.specs.Escaped.{escaped}
 use Rattle.sv_report.specs.Parts.{joined}
 use Rattle.sv_report.specs.Words.{who_text}

@@ -7,9 +7,10 @@ ghost use Rattle.sv_report.specs.Details as spec;
 
 use crate::escaped::escaped;
 use crate::parts::{joined, push_all};
-use crate::report::{Narrower, ReportedRow};
+use crate::report::ReportedRow;
 use crate::words::shown_pattern;
 use std::alloc::Global;
+use sv_audit::Narrower;
 use sv_text::{NoMemory, Text};
 
 /// Returns the line of an example and of the exceptions of a row, or nothing if there is neither.

@@ -59,13 +59,35 @@ fn put_subject(
     ensures { OnOk result (members_view members.new.entries ≡ spec.with_subject finding.now (members_view members.old.entries)) }
 {
     match finding {
+        Finding::Opened(pattern, opening, guarded) => {
+            put_opened(members, alloc, pattern.as_str(), *opening, *guarded)
+        }
         Finding::Uncovered(pattern, methods) => {
             put_methods(members, alloc, pattern.as_str(), methods)
         }
-        Finding::Dead(_) => Ok(()),
-        Finding::UnknownRole(_, role) => put_text(members, alloc, "role", role.as_str()),
         Finding::HeadDiffers(pattern) => put_text(members, alloc, "pattern", pattern.as_str()),
+        Finding::Dead(_) => Ok(()),
+        Finding::DeadPattern(_, pattern) => put_text(members, alloc, "pattern", pattern.as_str()),
+        Finding::Escaped(_, pattern) => put_text(members, alloc, "pattern", pattern.as_str()),
+        Finding::UnknownRole(_, role) => put_text(members, alloc, "role", role.as_str()),
+        Finding::UnheldRole(role) => put_text(members, alloc, "role", role.as_str()),
+        Finding::UnusedRole(role) => put_text(members, alloc, "role", role.as_str()),
     }
+}
+
+/// Puts a pattern, the constraint that opens it and one that restricts it.
+fn put_opened(
+    members: &mut Map<String, Value>,
+    alloc: Global,
+    pattern: &str,
+    opening: u64,
+    guarded: u64,
+) -> Result<(), NoMemory>
+    ensures { OnOk result (members_view members.new.entries ≡ spec.with_opened pattern.now opening guarded (members_view members.old.entries)) }
+{
+    put_number(members, alloc, "openConstraint", Some(opening))?;
+    put_text(members, alloc, "pattern", pattern)?;
+    put_number(members, alloc, "roleConstraint", Some(guarded))
 }
 
 /// Puts the methods at a pattern.

@@ -18,10 +18,15 @@ pub fn kind_name(finding: &Finding) -> &'static str
     ensures { result.now ≡ spec.kind_name finding.now }
 {
     match finding {
+        Finding::Opened(_, _, _) => "opened",
         Finding::Uncovered(_, _) => "uncovered",
-        Finding::Dead(_) => "dead",
-        Finding::UnknownRole(_, _) => "unknown-role",
         Finding::HeadDiffers(_) => "head-differs",
+        Finding::Dead(_) => "dead",
+        Finding::DeadPattern(_, _) => "dead-pattern",
+        Finding::Escaped(_, _) => "escaped",
+        Finding::UnknownRole(_, _) => "unknown-role",
+        Finding::UnheldRole(_) => "unheld-role",
+        Finding::UnusedRole(_) => "unused-role",
     }
 }
 
@@ -30,11 +35,85 @@ pub fn problem_text(alloc: Global, finding: &Finding) -> Result<Text, NoMemory>
     ensures { GivesAnswer result (spec.problem_text finding.now) }
 {
     match finding {
+        Finding::Opened(pattern, opening, guarded) => {
+            opened_text(alloc, pattern.as_str(), *opening, *guarded)
+        }
         Finding::Uncovered(pattern, methods) => uncovered_text(alloc, pattern.as_str(), methods),
-        Finding::Dead(number) => dead_text(alloc, *number),
-        Finding::UnknownRole(number, role) => unknown_role_text(alloc, *number, role.as_str()),
         Finding::HeadDiffers(pattern) => head_text(alloc, pattern.as_str()),
+        Finding::Dead(number) => dead_text(alloc, *number),
+        Finding::DeadPattern(number, pattern) => {
+            dead_pattern_text(alloc, *number, pattern.as_str())
+        }
+        Finding::Escaped(number, pattern) => escaped_text(alloc, *number, pattern.as_str()),
+        Finding::UnknownRole(number, role) => unknown_role_text(alloc, *number, role.as_str()),
+        Finding::UnheldRole(role) => unheld_role_text(alloc, role.as_str()),
+        Finding::UnusedRole(role) => unused_role_text(alloc, role.as_str()),
     }
+}
+
+fn opened_text(alloc: Global, pattern: &str, opening: u64, guarded: u64) -> Result<Text, NoMemory>
+    ensures { GivesAnswer result (spec.opened_text pattern.now opening guarded) }
+{
+    let opening = number_text(alloc, opening)?;
+    let guarded = number_text(alloc, guarded)?;
+    let pattern = shown_pattern(alloc, pattern)?;
+    joined(
+        alloc,
+        &[
+            "constraint ",
+            opening.as_str(),
+            " opens to everyone what constraint ",
+            guarded.as_str(),
+            " restricts at ",
+            pattern.as_str(),
+        ],
+    )
+}
+
+fn dead_pattern_text(alloc: Global, number: u64, pattern: &str) -> Result<Text, NoMemory>
+    ensures { GivesAnswer result (spec.dead_pattern_text number pattern.now) }
+{
+    let number = number_text(alloc, number)?;
+    let pattern = shown_pattern(alloc, pattern)?;
+    joined(
+        alloc,
+        &[
+            "constraint ",
+            number.as_str(),
+            " covers no request at ",
+            pattern.as_str(),
+        ],
+    )
+}
+
+fn escaped_text(alloc: Global, number: u64, pattern: &str) -> Result<Text, NoMemory>
+    ensures { GivesAnswer result (spec.escaped_text number pattern.now) }
+{
+    let number = number_text(alloc, number)?;
+    let pattern = shown_pattern(alloc, pattern)?;
+    joined(
+        alloc,
+        &[
+            "constraint ",
+            number.as_str(),
+            " has a percent sign in ",
+            pattern.as_str(),
+        ],
+    )
+}
+
+fn unheld_role_text(alloc: Global, role: &str) -> Result<Text, NoMemory>
+    ensures { GivesAnswer result (spec.unheld_role_text role.now) }
+{
+    let role = escaped(alloc, role)?;
+    joined(alloc, &["no user has the role ", role.as_str()])
+}
+
+fn unused_role_text(alloc: Global, role: &str) -> Result<Text, NoMemory>
+    ensures { GivesAnswer result (spec.unused_role_text role.now) }
+{
+    let role = escaped(alloc, role)?;
+    joined(alloc, &["no constraint names the role ", role.as_str()])
 }
 
 fn uncovered_text(alloc: Global, pattern: &str, methods: &Methods) -> Result<Text, NoMemory>
@@ -92,10 +171,21 @@ pub fn remedy(finding: &Finding) -> &'static str
     ensures { result.now ≡ spec.remedy finding.now }
 {
     match finding {
+        Finding::Opened(_, _, _) => "Name roles in both, or take the pattern out of one of them.",
         Finding::Uncovered(_, _) => "Cover all methods there, or set deny-uncovered-http-methods.",
-        Finding::Dead(_) => "/* is chosen before its patterns. Change them, or remove it.",
-        Finding::UnknownRole(_, _) => "Declare it in a security-role, or correct the name.",
         Finding::HeadDiffers(_) => "Name HEAD wherever GET is named.",
+        Finding::Dead(_) => {
+            "No path matches its patterns, or /* is chosen before them. Change them, or remove it."
+        }
+        Finding::DeadPattern(_, _) => {
+            "No path matches it, or /* is chosen before it. Change it, or remove it."
+        }
+        Finding::Escaped(_, _) => {
+            "Patterns are compared with decoded paths. Write the character itself."
+        }
+        Finding::UnknownRole(_, _) => "Declare it in a security-role, or correct the name.",
+        Finding::UnheldRole(_) => "Give it to a user, or correct the name in the constraints.",
+        Finding::UnusedRole(_) => "Name it in a constraint, or remove its security-role.",
     }
 }
 

@@ -28,5 +28,5 @@ pub use keys::keys_text;
 pub use lines::{METHODS_WIDTH, PATTERN_WIDTH, WHO_WIDTH, audit_text};
 pub use markup::{html_text, html_text_is_plain};
 pub use page::audit_html;
-pub use report::{ContextReport, Narrower, ReportedFinding, ReportedRow, Viewer};
+pub use report::{ContextReport, ReportedFinding, ReportedRow, Viewer};
 pub use values::audit_json;

@@ -1,6 +1,6 @@
 //! What is reported of a context.
 
-use sv_audit::{Finding, Row};
+use sv_audit::{Finding, Narrower, Row};
 use sv_text::{Listed, Text};
 
 /// Who may reach what in a context, as it is reported.
@@ -42,15 +42,6 @@ pub struct ReportedRow {
     pub servlet: Option<Text>,
     /// The patterns that are chosen before this one at some of its paths.
     pub narrower: Narrower,
-}
-
-/// Patterns that are chosen before another one at some of its paths.
-#[derive(Drop)]
-pub struct Narrower {
-    /// The first of them.
-    pub patterns: Listed<Text>,
-    /// Whether these are all.
-    pub are_all: bool,
 }
 
 /// A finding, with where it belongs and whether it is accepted.
