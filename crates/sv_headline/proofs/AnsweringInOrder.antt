@@ -7,13 +7,13 @@ use Rattle.sv_context.specs.State.{ContextState}
 use Rattle.sv_context.specs.Theory.{theory}
 use Rattle.sv_headline.proofs.Leading.{some_is}
 use Rattle.sv_headline.proofs.RefutingEvents.{read_alike}
-use Rattle.sv_headline.specs.AnswersInOrder.{AnswersInOrder, AreAnswersTo, CompletesAll, ItemsAreAnsweredInOrder}
+use Rattle.sv_headline.specs.AnswersInOrder.{AreAnswersTo, CompletesAll, ItemsAreAnsweredInOrder}
 use Rattle.sv_headline.specs.Events.{Answers, AreOf, IsLawfulEvent, IsOf}
-use Rattle.sv_headline.specs.Transitions.{ContextAnswer, Continuation, Expiries, OwnAnswer, Refusal, Transition, effect_of, effect_of_all}
+use Rattle.sv_headline.specs.Transitions.{Refusal, Transition, effect_of, effect_of_all}
 use Rattle.sv_message.specs.declared.message.Message.{Message as MessageRecord}
 use Rattle.sv_message.specs.declared.message.Target.{Target}
 use Rattle.sv_run.specs.Contexts.{Request}
-use Rattle.sv_run.specs.Effect.{Deed, Effect}
+use Rattle.sv_run.specs.Effect.{Effect}
 use Rattle.sv_run.specs.Events.{Piece, moment_after}
 use Rattle.sv_run.specs.Feeding.{FeedsWhere}
 use Rattle.sv_run.specs.Items.{IsTextAt, closes_behind}

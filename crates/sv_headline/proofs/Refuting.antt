@@ -1,5 +1,5 @@
 -- Messages that are handled wrongly are not lawful.
-use Rattle.std.proofs.Common.{◌≡◌, ◌≢◌, ℕ, Bool, true, false, inl, inr, List, [], ◌∷◌, ◌++◌, Option, None, Some, Result, Ok, Err, refl, sym, ap, ◌∙◌, subst}
+use Rattle.std.proofs.Common.{◌≡◌, ℕ, Bool, true, false, inl, inr, List, [], ◌∷◌, ◌++◌, Option, None, Some, Result, Ok, Err, refl, sym, ap, ◌∙◌, subst}
 use Rattle.std.proofs.lemmas.List.{append_cancel_left}
 use Rattle.std.specs.Prelude.{codes, unwrap_or}
 use Rattle.sv_admission.specs.Answer.{root_of}
@@ -23,7 +23,6 @@ use Rattle.sv_headline.proofs.Hearing.{notified_in_order}
 use Rattle.sv_headline.specs.Message.{IsBecause, IsDoneBy, IsLawfulMessage, MayEnter, exchange_for, findings_in, settled_for}
 use Rattle.sv_headline.specs.Unlawful.{EntriesCallTheirServlet, EntriesPassTheirFirstFilter, GoesToFilter, GoesToServlet, LoginsAreOfTheirSession, MessagesAreHandledByTheirContext, OutcomesAreOfTheirContext, NotificationsAreInOrder, calls_from, calls_with, first_exchange, site}
 use Rattle.sv_journal.specs.declared.entry.Entry.{Entry}
-use Rattle.sv_journal.specs.declared.entry.Entry.TheVariants as entries
 use Rattle.sv_listeners.specs.Telling.{told}
 use Rattle.sv_login.specs.OutcomeLaws.{JustOneCaseHolds}
 use Rattle.sv_login.specs.declared.outcome.Outcome.{Outcome}

@@ -1,5 +1,5 @@
 -- Runs in which a message or an event is altered are not lawful.
-use Rattle.std.proofs.Common.{◌≡◌, ◌≢◌, ℕ, List, [], ◌∷◌, ◌++◌, length, Option, None, Some, Result, Ok, Err, refl, sym, ap, ◌∙◌, subst, arith, slice_get, slice_set, append_assoc}
+use Rattle.std.proofs.Common.{◌≡◌, ℕ, List, [], ◌∷◌, ◌++◌, length, Option, None, Some, Result, Ok, Err, refl, sym, ap, ◌∙◌, subst, arith, slice_get, slice_set, append_assoc}
 use Rattle.sv_component.specs.Laws.{RunsAreJournalled, RunsMoveComponents}
 use Rattle.sv_component.specs.Runs.{Record}
 use Rattle.sv_component.specs.Steps.{ComponentSteps}
@@ -27,7 +27,6 @@ use Rattle.sv_run.specs.Events.{Happening, Piece, Tick}
 use Rattle.sv_run.specs.Laws.{FeedingsMayBeCut}
 use Rattle.sv_run.specs.Runs.{Answer}
 use Rattle.sv_run.specs.State.{State}
-use Rattle.sv_run.specs.declared.step_fault.StepFault.{StepFault}
 use Rattle.sv_wire.specs.Laws.{ReadingsAreUnique}
 
 module _ {S F L : Type 0} (moving : ComponentSteps S F L) where
