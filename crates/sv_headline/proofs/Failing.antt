@@ -1,5 +1,5 @@
 -- The output of a script whose start is refused, and of one whose output fails, for our contexts.
-use Rattle.std.proofs.Common.{◌≡◌, ◌⊎◌, ℕ, ◌+◌, ◌<◌, true, List, [], ◌∷◌, ◌++◌, Result, Ok, Err, refl, sym, ap, ◌∙◌, inl, inr, subst, append_assoc, length, arith}
+use Rattle.std.proofs.Common.{◌≡◌, ◌⊎◌, ℕ, true, List, Result, Ok, Err, refl, inl, inr, subst}
 use Rattle.sv_component.specs.Steps.{ComponentSteps}
 use Rattle.sv_container.specs.Running.{StepsOf, StopsOf, run_of}
 use Rattle.sv_container.specs.Script.{AreFresh, EndsUnstarted, Follows, draws, ended_by, refused_by}

@@ -74,7 +74,7 @@ same_destination theory one other same target = λ i. destination_of (λ path. s
         ∙ by_map (is_chosen (map theory.path_of one) path) theory.path_of one
 
 -- the constraints after an answer other than `NoMemory`
-stands_after : (old new : Standing) (answer : Result ℕ EditFault) (outcome : Result (ℕ × Standing) EditFault) → GivesOutcome old new answer outcome
+pub stands_after : (old new : Standing) (answer : Result ℕ EditFault) (outcome : Result (ℕ × Standing) EditFault) → GivesOutcome old new answer outcome
     → answer ≢ Err faults.NoMemory → new ≡ standing_after old outcome
 stands_after old new answer (Err fault) gives answers = gives.1
 stands_after old new (Ok number) (Ok done) gives answers = gives.1

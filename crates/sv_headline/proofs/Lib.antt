@@ -1,4 +1,5 @@
 mod Admitting
+mod AnsweringInOrder
 mod Answers
 mod Beginning
 mod Calling
@@ -21,6 +22,7 @@ mod Recording
 mod Refusing
 mod Refuting
 mod RefutingEvents
+mod RefutingRuns
 mod Remembering
 mod Sending
 mod SinceTheStart

@@ -11,7 +11,7 @@ use Rattle.sv_context.specs.Theory.{theory}
 use Rattle.sv_headline.proofs.Leading.{GoesOn, leads_paths, path_of, same_destination, some_is, through_all, through_on, through_parts}
 use Rattle.sv_headline.proofs.Messages.{expiry_of, is_expiry, message_is_lawful, told_are}
 use Rattle.sv_headline.specs.Events.{Answers, AreOf, AreTransitionsOf, Brings, IsAnsweredBy, IsLawfulEvent, IsOf, Only}
-use Rattle.sv_headline.specs.Record.{AreDecidedByThen, EveryRunIsLawful, IsMovedBy}
+use Rattle.sv_headline.specs.Record.{AreDecidedByThen, EveryRunIsLawful, IsLawfulRun, IsMovedBy}
 use Rattle.sv_headline.specs.Transitions.{Closing, ContextAnswer, Continuation, EditAnswer, Expiries, Expiry, IsExpiry, Leads, LeadsThrough, OwnAnswer, Refusal, Transition, calls_at, edits_at, effect_of, effect_of_all, entries_of}
 use Rattle.sv_journal.specs.declared.entry.Entry.{Entry}
 use Rattle.sv_login.specs.OutcomeLaws.{JustOneCaseHolds}
@@ -380,14 +380,19 @@ module _ {S F L Words : Type 0} (moving : ComponentSteps S F L) (draws : Words �
         (through_on moving place before parts.between earlier parts.first) in
         ap (λ (context : ContextState S F L). context.policy) (some_is (sym parts.later.1.there ∙ goes.1)) ∙ goes.3
 
+    -- transitions that lead the contexts on make a run lawful
+    pub lawful_by : (before after : Whole) (happenings : List Happening) (answers : List (Answer (ContextState S F L))) (transitions : List (Transition S F L))
+        → AreTransitionsOf moving draws before happenings answers transitions after
+        → LeadsThrough moving before.world.contexts transitions after.world.contexts → IsLawfulRun moving draws before happenings answers after
+    lawful_by before after happenings answers transitions are leads = record {
+      transitions = transitions;
+      are = are;
+      constraints = decided_by_then before.world.contexts after.world.contexts transitions leads;
+      moved = λ place.
+          is_moved (slice_get before.world.contexts place) (slice_get after.world.contexts place) _ _
+          (through_on moving place before.world.contexts after.world.contexts transitions leads);
+    }
+
     pub every_run_is_lawful : EveryRunIsLawful moving draws
     every_run_is_lawful before after happenings answers run runs =
-        let its = recorded before after happenings answers run runs in
-        record {
-          transitions = its.transitions;
-          are = its.are;
-          constraints = decided_by_then before.world.contexts after.world.contexts its.transitions its.leads;
-          moved = λ place.
-              is_moved (slice_get before.world.contexts place) (slice_get after.world.contexts place) _ _
-              (through_on moving place before.world.contexts after.world.contexts its.transitions its.leads);
-        }
+        let its = recorded before after happenings answers run runs in lawful_by before after happenings answers its.transitions its.are its.leads

@@ -1,5 +1,5 @@
 -- Messages that are handled wrongly are not lawful.
-use Rattle.std.proofs.Common.{◌≡◌, ◌≢◌, ℕ, Bool, true, false, inl, inr, List, [], ◌∷◌, ◌++◌, Option, None, Some, Result, Ok, Err, refl, sym, ap, ◌∙◌, subst}
+use Rattle.std.proofs.Common.{◌≡◌, ℕ, Bool, true, false, inl, inr, List, [], ◌∷◌, ◌++◌, Option, None, Some, Result, Ok, Err, refl, sym, ap, ◌∙◌, subst}
 use Rattle.std.proofs.lemmas.List.{append_cancel_left}
 use Rattle.std.specs.Prelude.{codes, unwrap_or}
 use Rattle.sv_admission.specs.Answer.{root_of}
@@ -8,6 +8,7 @@ use Rattle.sv_admission.specs.declared.answer.TheConstants.{SEE_OTHER}
 use Rattle.sv_component.specs.Call.{Serviced}
 use Rattle.sv_component.specs.Runs.{OfServlet, Record}
 use Rattle.sv_component.specs.Steps.{ComponentSteps}
+use Rattle.sv_component.specs.declared.answers.Gate.{Gate}
 use Rattle.sv_component.specs.declared.answers.Step.{Step}
 use Rattle.sv_context.specs.Answered.{Answered, Requested, SendsTo, Tells}
 use Rattle.sv_context.specs.Conduct.{asked_of}
@@ -16,15 +17,15 @@ use Rattle.sv_context.specs.State.{ContextState}
 use Rattle.sv_exchange.specs.Changing.{Change, SetHeader, SetStatus, answer, left_by}
 use Rattle.sv_exchange.specs.State as exchanges
 use Rattle.sv_exchange.specs.declared.exchange_fault.ExchangeFault.{ExchangeFault}
-use Rattle.sv_headline.proofs.Calling.{served_calls, then_of}
+use Rattle.sv_headline.proofs.Calling.{StartsWith, served_calls, served_passes, then_of}
 use Rattle.sv_headline.proofs.Leading.{some_is}
 use Rattle.sv_headline.proofs.Hearing.{notified_in_order}
-use Rattle.sv_headline.specs.Message.{IsBecause, IsDoneBy, IsLawfulMessage, exchange_for, findings_in, settled_for}
-use Rattle.sv_headline.specs.Unlawful.{EntriesCallTheirServlet, GoesToServlet, LoginsAreOfTheirSession, MessagesAreHandledByTheirContext, OutcomesAreOfTheirContext, NotificationsAreInOrder, calls_with, first_exchange, site}
+use Rattle.sv_headline.specs.Message.{IsBecause, IsDoneBy, IsLawfulMessage, MayEnter, exchange_for, findings_in, settled_for}
+use Rattle.sv_headline.specs.Unlawful.{EntriesCallTheirServlet, EntriesPassTheirFirstFilter, GoesToFilter, GoesToServlet, LoginsAreOfTheirSession, MessagesAreHandledByTheirContext, OutcomesAreOfTheirContext, NotificationsAreInOrder, calls_from, calls_with, first_exchange, site}
 use Rattle.sv_journal.specs.declared.entry.Entry.{Entry}
-use Rattle.sv_journal.specs.declared.entry.Entry.TheVariants as entries
 use Rattle.sv_listeners.specs.Telling.{told}
 use Rattle.sv_login.specs.OutcomeLaws.{JustOneCaseHolds}
+use Rattle.sv_login.specs.declared.outcome.Outcome.{Outcome}
 use Rattle.sv_login.specs.declared.outcome.Outcome.TheVariants as outcomes
 use Rattle.sv_mapping.specs.declared.kind.Kind.TheVariants as kinds
 use Rattle.sv_run.specs.Contexts.{Handling}
@@ -32,6 +33,7 @@ use Rattle.sv_session.specs.declared.event.Event.{Event}
 use Rattle.sv_session.specs.declared.event.Event.TheVariants.{RequestDestroyed, RequestInitialized}
 use Rattle.sv_tree.proofs.Doing.{absurd_result}
 use Rattle.sv_tree.specs.Does.{◌>>◌, gives, makes}
+use Rattle.sv_tree.specs.Filters.{before_of}
 use Rattle.sv_tree.specs.Served.{Served}
 use Rattle.sv_tree.specs.Site.{Site}
 use Rattle.sv_tree.specs.SiteOfDescriptor.{site_of}
@@ -49,14 +51,21 @@ same_exchange : (place : ℕ) (one other : exchanges.State) (step its_step : Ste
     → OfServlet place (Serviced one 0 step left) ∷ behind ≡ OfServlet place (Serviced other 0 its_step its_left) ∷ others → one ≡ other
 same_exchange place one other step its_step left its_left behind others same = cc
 
+same_first : (one other : Record) (behind others : List Record) → one ∷ behind ≡ other ∷ others → one ≡ other
+same_first one other behind others same = cc
+
 module _ {S F L : Type 0} (moving : ComponentSteps S F L) where
-  -- the calls of a request that enters
-  entered_calls : (handling : Handling (ContextState S F L)) (made : List Record) (place : ℕ) → GoesToServlet moving handling made place
-      → IsLawfulMessage moving handling made
-      → (step : Step) × (left : exchanges.State) × (behind : List Record)
-      × (made ≡ calls_with moving handling made place (first_exchange moving handling made) step left behind)
-  entered_calls handling made place goes (inr out) = absurd (out.0 goes.may)
-  entered_calls handling made place goes (inl enters) =
+  -- the dispatch of a request that enters begins with a call, and so do its calls after the listeners are notified
+  entered_starts : {A : Type 0} (call : A → exchanges.State → Record) (handling : Handling (ContextState S F L)) (made : List Record)
+      → MayEnter handling.context handling.request → IsLawfulMessage moving handling made
+      → ((y : State) (r : List Record) (given : Unit {0})
+      → Served (site_of handling.context.content) kinds.Request (asked_of handling.context handling.request).canon
+      (state_in handling.context (exchange_for handling.context handling.request outcomes.Entered)) r y (Some given)
+      → StartsWith call r)
+      → (answer : A) × (left : exchanges.State) × (behind : List Record)
+      × (made ≡ told RequestInitialized (site moving handling made).listeners ++ call answer left ∷ behind)
+  entered_starts call handling made may (inr out) starts = absurd (out.0 may)
+  entered_starts call handling made may (inl enters) starts =
       let context = handling.context in
       let its_site = site_of context.content in
       let canon = (asked_of context handling.request).canon in
@@ -68,9 +77,9 @@ module _ {S F L : Type 0} (moving : ComponentSteps S F L) where
       let hearing = then_of (hears its_site.listeners RequestInitialized) (λ _. dispatch >> hears its_site.listeners RequestDestroyed) tells.between last tells.back tt tells.goes_on in
       let serving = then_of dispatch ends hearing.between last hearing.back tt hearing.goes_on in
       let same : hearing.between ≡ first = hearing.begins.1 ∙ tells.begins.1 in
-      let calls = served_calls its_site place canon first serving.between serving.front serving.given goes.chosen_is goes.no_filters goes.serving refl
+      let calls = starts serving.between serving.front serving.given
       (subst (λ (state : State). dispatch state serving.front serving.between (Some serving.given)) same serving.begins) in (
-        calls.step,
+        calls.answer,
         calls.left,
         calls.behind ++ serving.back,
         tells.is_joined
@@ -79,6 +88,28 @@ module _ {S F L : Type 0} (moving : ComponentSteps S F L) where
             ∙ ap (λ front. front ++ hearing.back) hearing.begins.0
             ∙ ap (λ back. told RequestInitialized its_site.listeners ++ back) (serving.is_joined ∙ ap (λ front. front ++ serving.back) calls.are),
       )
+
+  -- the calls of a request that enters and goes to a servlet
+  entered_calls : (handling : Handling (ContextState S F L)) (made : List Record) (place : ℕ) → GoesToServlet moving handling made place
+      → IsLawfulMessage moving handling made
+      → (step : Step) × (left : exchanges.State) × (behind : List Record)
+      × (made ≡ calls_with moving handling made place (first_exchange moving handling made) step left behind)
+  entered_calls handling made place goes lawful =
+      let context = handling.context in
+      entered_starts (λ (step : Step) left. OfServlet place (Serviced (first_exchange moving handling made) 0 step left)) handling made goes.may lawful
+      (λ y r given. served_calls (site_of context.content) place (asked_of context handling.request).canon
+      (state_in context (exchange_for context handling.request outcomes.Entered)) y r given goes.chosen_is goes.no_filters goes.serving refl)
+
+  -- the calls of a request that enters and goes to a filter
+  entered_passes : (handling : Handling (ContextState S F L)) (made : List Record) (filter : ℕ) → GoesToFilter moving handling made filter
+      → IsLawfulMessage moving handling made
+      → (gate : Gate) × (left : exchanges.State) × (behind : List Record)
+      × (made ≡ calls_from moving handling made (before_of filter (first_exchange moving handling made) gate left) behind)
+  entered_passes handling made filter goes lawful =
+      let context = handling.context in
+      entered_starts (before_of filter (first_exchange moving handling made)) handling made goes.may lawful
+      (λ y r given. served_passes (site_of context.content) filter goes.others (asked_of context handling.request).canon
+      (state_in context (exchange_for context handling.request outcomes.Entered)) y r given goes.chain_is refl)
 
   pub entries_call_their_servlet : EntriesCallTheirServlet moving
   entries_call_their_servlet handling made place goes lawful =
@@ -101,6 +132,26 @@ module _ {S F L : Type 0} (moving : ComponentSteps S F L) where
             (append_cancel_left (told RequestInitialized (site moving handling made).listeners) _ _ same.3));
       }
 
+  pub entries_pass_their_first_filter : EntriesPassTheirFirstFilter moving
+  entries_pass_their_first_filter handling made filter goes lawful =
+      let calls = entered_passes handling made filter goes lawful in
+      record {
+        gate = calls.0;
+        left = calls.1;
+        behind = calls.2;
+        calls = calls.3;
+        nothing_called = λ entries its.
+            let none = entered_passes (record handling { entries = entries }) [] filter
+            (record { may = goes.may; others = goes.others; chain_is = goes.chain_is }) its in
+            no_end (told RequestInitialized (site moving handling made).listeners) (before_of filter (first_exchange moving handling made) none.0 none.1) none.2 none.3;
+        another_call = λ entries call others apart its.
+            let same = entered_passes (record handling { entries = entries }) (calls_from moving handling made call others) filter
+            (record { may = goes.may; others = goes.others; chain_is = goes.chain_is }) its in
+            apart same.0 same.1
+            (same_first call (before_of filter (first_exchange moving handling made) same.0 same.1) others same.2
+            (append_cancel_left (told RequestInitialized (site moving handling made).listeners) _ _ same.3));
+      }
+
   -- ---- notifications
 
   pub notifications_are_in_order : JustOneCaseHolds → NotificationsAreInOrder moving
@@ -111,20 +162,28 @@ module _ {S F L : Type 0} (moving : ComponentSteps S F L) where
 
   -- ---- the outcome
 
-  pub outcomes_are_of_their_context : OutcomesAreOfTheirContext moving
-  outcomes_are_of_their_context handling made may (inr out) = absurd (out.0 may)
-  outcomes_are_of_their_context handling made may (inl enters) = record {
-    entry = enters.1.noted;
-    another_context = λ other path behind others apart its. refused other path behind others apart its;
-  }
-    where
-      same_context : (one other path its_path : List ℕ) (behind others : List Entry) → entries.Entered one path ∷ behind ≡ entries.Entered other its_path ∷ others → one ≡ other
-      same_context one other path its_path behind others same = cc
+  module _ (one_case : JustOneCaseHolds) where
+    -- the outcome of a message is that of its case
+    done_by : (handling : Handling (ContextState S F L)) (made : List Record) (cause : Outcome) → IsBecause handling.context handling.request cause
+        → IsLawfulMessage moving handling made → IsDoneBy moving handling made cause
+    done_by handling made cause because (inl enters) =
+        let found = findings_in handling.context handling.request in
+        subst (IsDoneBy moving handling made)
+        (sym ((one_case found outcomes.Entered).0 ((enters.0.shown, enters.0.no_login), (enters.0.why, enters.0.allowed))) ∙ (one_case found cause).0 because)
+        enters.1
+    done_by handling made cause because (inr out) =
+        let found = findings_in handling.context handling.request in
+        subst (IsDoneBy moving handling made) (sym ((one_case found out.1.cause).0 out.1.because) ∙ (one_case found cause).0 because) out.1.done
 
-      refused : (other path : List ℕ) (behind : List Entry) (others : List Record) → other ≢ handling.context.content.context_path
-          → IsLawfulMessage moving (record handling { entries = entries.Entered other path ∷ behind }) others → ⊥
-      refused other path behind others apart (inl its) = apart (same_context other handling.context.content.context_path path _ behind _ its.1.noted)
-      refused other path behind others apart (inr out) = out.0 may
+    pub outcomes_are_of_their_context : OutcomesAreOfTheirContext moving
+    outcomes_are_of_their_context handling made cause because lawful = record {
+      entry = (done_by handling made cause because lawful).noted;
+      another_entry = λ other behind others apart its.
+          apart (same_entry other _ behind _ (done_by (record handling { entries = other ∷ behind }) others cause because its).noted);
+    }
+      where
+        same_entry : (one other : Entry) (behind others : List Entry) → one ∷ behind ≡ other ∷ others → one ≡ other
+        same_entry one other behind others same = cc
 
   -- ---- logins
 
@@ -166,24 +225,12 @@ module _ {S F L : Type 0} (moving : ComponentSteps S F L) where
     login_store : (handling : Handling (ContextState S F L)) (made : List Record) (number : ℕ) (target : Option (List ℕ))
         → IsBecause handling.context handling.request (outcomes.LoggedIn number target) → IsLawfulMessage moving handling made
         → handling.after.store ≡ (settled_for handling.context handling.request (outcomes.LoggedIn number target)).store
-    login_store handling made number target because (inl enters) =
-        let found = findings_in handling.context handling.request in
-        let one = (one_case found (outcomes.LoggedIn number target)).0 because in
-        let other = (one_case found outcomes.Entered).0 ((enters.0.shown, enters.0.no_login), (enters.0.why, enters.0.allowed)) in
-        absurd (apart (sym one ∙ other))
-      where
-        apart : outcomes.LoggedIn number target ≡ outcomes.Entered → ⊥
-        apart same = absurd (cc)
-    login_store handling made number target because (inr out) =
+    login_store handling made number target because lawful =
         let context = handling.context in
-        let found = findings_in context handling.request in
-        let same : out.1.cause ≡ outcomes.LoggedIn number target =
-        sym ((one_case found out.1.cause).0 out.1.because) ∙ (one_case found (outcomes.LoggedIn number target)).0 because in
-        let done = subst (IsDoneBy moving handling made) same out.1.done in
-        let its_site = site_of context.content in
         let cause = outcomes.LoggedIn number target in
+        let done = done_by one_case handling made cause because lawful in
         done.sessions
-        ∙ redirect_keeps its_site (asked_of context handling.request).canon (settled_for context handling.request cause).event
+        ∙ redirect_keeps (site_of context.content) (asked_of context handling.request).canon (settled_for context handling.request cause).event
         (unwrap_or target (root_of context.content.context_path)) (state_in context (exchange_for context handling.request cause)) (state_in handling.after done.exchange)
         made done.answers
 

@@ -14,7 +14,7 @@ use Rattle.sv_context.specs.Theory.{theory}
 use Rattle.sv_headline.proofs.Leading.{some_is}
 use Rattle.sv_headline.specs.Events.{Answers, AreOf, IsLawfulEvent, IsOf}
 use Rattle.sv_headline.specs.Transitions.{Expiries, Expiry, IsExpiry, LeadsThrough, Transition, effect_of, effect_of_all, entries_of}
-use Rattle.sv_headline.specs.Unlawful.{AnswersTheMessage, BeginsWith, IsDeedOf, MessagesAreAnswered, ResponsesAreOfTheirRequest, SendsItsResponse, TicksNotifyOnlyOfExpiries}
+use Rattle.sv_headline.specs.Unlawful.{AnswersTheMessage, BeginsWith, EventsNotifyOfExpiriesFirst, IsDeedOf, MessagesAreAnswered, ResponsesAreOfTheirRequest, SendsItsResponse, TicksNotifyOnlyOfExpiries}
 use Rattle.sv_journal.specs.declared.entry.Entry.{Entry}
 use Rattle.sv_journal.specs.declared.entry.Entry.TheVariants as entries
 use Rattle.sv_journal.specs.declared.refusal_cause.RefusalCause.TheVariants as causes
@@ -25,7 +25,7 @@ use Rattle.sv_message.specs.declared.message.Target.TheVariants.{Star, Path}
 use Rattle.sv_message.specs.declared.response.Response.{Response}
 use Rattle.sv_run.specs.Contexts.{Handling, Request}
 use Rattle.sv_run.specs.Effect.{Answered, Deed, Effect, Handled}
-use Rattle.sv_run.specs.Events.{Piece, Tick, moment_after}
+use Rattle.sv_run.specs.Events.{Happening, Piece, Tick, moment_after}
 use Rattle.sv_run.specs.Feeding.{Feeds, FeedsWhere}
 use Rattle.sv_run.specs.Items.{IsAnswerTo}
 use Rattle.sv_run.specs.Laws.{FeedingsMayBeCut}
@@ -173,6 +173,47 @@ module _ {S F L : Type 0} (moving : ComponentSteps S F L) where
               apart (other.are ∙ entries_once now other.expiries own.expiries (sym other.contexts ∙ own.contexts) other.each own.each ∙ sym own.are);
         }
 
+    -- the ends of sessions that an event brings are what it notes first
+    record ExpiresFirst (before : Whole) (now : ℕ) (journal : List Entry) : Type 0 where
+      pub expiries : List (Expiry S F L)
+      pub contexts : before.world.contexts ≡ map (λ (expiry : Expiry S F L). expiry.context) expiries
+      pub each : AllByRecursion (IsExpiry moving now) expiries
+      pub behind : List Entry
+      pub are : journal ≡ flat_map entries_of expiries ++ behind
+
+    expires_first : (before after : Whole) (happening : Happening) (effect : Effect (ContextState S F L)) (transitions : List (Transition S F L))
+        → IsLawfulEvent moving draws before happening effect transitions after
+        → ExpiresFirst before (moment_after before.moment happening) effect.journal
+    expires_first before after happening effect transitions lawful =
+        let leads = subst (λ its. LeadsThrough moving before.world.contexts its after.world.contexts) lawful.are lawful.leads in
+        record {
+          expiries = lawful.expiries;
+          contexts = leads.1.before_are;
+          each = subst (λ when. AllByRecursion (IsExpiry moving when) lawful.expiries) lawful.time leads.1.each;
+          behind = (effect_of_all lawful.brought).journal;
+          are = ap (λ (effect : Effect (ContextState S F L)). effect.journal) (lawful.effect_is ∙ ap effect_of_all lawful.are);
+        }
+
+    pub events_notify_of_expiries_first : EventsNotifyOfExpiriesFirst moving draws
+    events_notify_of_expiries_first before after happening effect transitions lawful =
+        let own = expires_first before after happening effect transitions lawful in
+        let now = moment_after before.moment happening in
+        record {
+          told = flat_map entries_of own.expiries;
+          some = λ expired silent.
+              none_or_some (expiring now expired.context.store) expired.session
+              (silent_at now expired.place own.expiries expired.context own.each silent
+              (ap (λ contexts. slice_get contexts expired.place) (sym own.contexts) ∙ expired.there) expired.listens)
+              expired.ends;
+          behind = own.behind;
+          begins = own.are;
+          another_beginning = λ journal apart others its_after its.
+              let other = expires_first before its_after happening (record effect { journal = journal }) others its in
+              apart other.behind
+              (other.are
+              ∙ ap (λ front. front ++ other.behind) (entries_once now other.expiries own.expiries (sym other.contexts ∙ own.contexts) other.each own.each));
+        }
+
     -- ---- messages
 
     module _ (cuts : FeedingsMayBeCut) (unique : ReadingsAreUnique) where
@@ -188,33 +229,33 @@ module _ {S F L : Type 0} (moving : ComponentSteps S F L) where
               (unique held.owed (held.rest ++ bytes) items others left.owed left.rest its_left.owed its_left.rest one.0 other.0).0
 
       -- what is read of a piece up to a closing begins as what is read of all of it
-      record ReadsAlike (closes : Bool) (item : Item) (items others : List Item) : Type 0 where
+      pub record ReadsAlike (closes : Bool) (items others : List Item) : Type 0 where
         pub front : List Item
         pub more : List Item
-        pub are : item ∷ items ≡ front ++ more
+        pub are : items ≡ front ++ more
         pub others_are : others ≡ front
-        pub all : closes ≡ false → more ≡ []
+        pub all_read : closes ≡ false → more ≡ []
 
-      read_alike : (closes : Bool) (held left its_left : Held) (piece : List ℕ) (item : Item) (items others : List Item) → Feeds held piece (item ∷ items) left
-          → FeedsWhere closes held piece others its_left → ReadsAlike closes item items others
-      read_alike true held left its_left piece item items others feeds where_to =
-          let parts = (cuts held left where_to.part where_to.unread (item ∷ items)).0 (subst (λ bytes. Feeds held bytes (item ∷ items) left) where_to.is_piece feeds) in
+      pub read_alike : (closes : Bool) (held left its_left : Held) (piece : List ℕ) (items others : List Item) → Feeds held piece items left
+          → FeedsWhere closes held piece others its_left → ReadsAlike closes items others
+      read_alike true held left its_left piece items others feeds where_to =
+          let parts = (cuts held left where_to.part where_to.unread items).0 (subst (λ bytes. Feeds held bytes items left) where_to.is_piece feeds) in
           record {
             front = parts.0;
             more = parts.1;
             are = parts.5;
             others_are = fed_once held where_to.left parts.2 where_to.part others parts.0 where_to.feeds parts.3;
-            all = λ same. absurd (cc);
+            all_read = λ same. absurd (cc);
           }
-      read_alike false held left its_left piece item items others feeds where_to =
+      read_alike false held left its_left piece items others feeds where_to =
           let whole : piece ≡ where_to.part = where_to.is_piece ∙ ap (λ rest. where_to.part ++ rest) (where_to.is_all refl) ∙ append-nil where_to.part in
           record {
-            front = item ∷ items;
+            front = items;
             more = [];
-            are = sym (append-nil (item ∷ items));
+            are = sym (append-nil items);
             others_are =
-                fed_once held where_to.left left piece others (item ∷ items) (subst (λ bytes. Feeds held bytes others where_to.left) (sym whole) where_to.feeds) feeds;
-            all = λ same. refl;
+                fed_once held where_to.left left piece others items (subst (λ bytes. Feeds held bytes others where_to.left) (sym whole) where_to.feeds) feeds;
+            all_read = λ same. refl;
           }
 
       module _ (before : Whole) where
@@ -265,9 +306,9 @@ module _ {S F L : Type 0} (moving : ComponentSteps S F L) where
         answered_first after number piece moment message items effect transitions begins lawful =
             let brings = lawful.brings in
             let same : brings.held ≡ begins.held = some_is (sym brings.holds ∙ begins.holds) in
-            let alike = read_alike (effect_of_all lawful.brought).closes begins.held begins.left brings.left piece (Message message) items brings.items begins.feeds
+            let alike = read_alike (effect_of_all lawful.brought).closes begins.held begins.left brings.left piece (Message message ∷ items) brings.items begins.feeds
             (subst (λ held. FeedsWhere (effect_of_all lawful.brought).closes held piece brings.items brings.left) same brings.feeds) in
-            by_items after.moment message items brings.items alike.front alike.more before.world.words after.world.words lawful.brought alike.are alike.others_are alike.all
+            by_items after.moment message items brings.items alike.front alike.more before.world.words after.world.words lawful.brought alike.are alike.others_are alike.all_read
             brings.are
 
         -- ---- the deed of a message

@@ -1,5 +1,5 @@
 -- The output of a script whose start is refused, and of one whose output fails (Jakarta Servlet 6.0, section 13.8).
-use Rattle.std.specs.Prelude.{◌≡◌, ◌⊎◌, ℕ, true, List, ◌++◌, Result, Ok, Err}
+use Rattle.std.specs.Prelude.{◌≡◌, ◌⊎◌, ℕ, true, List, Result, Ok, Err}
 use Rattle.sv_component.specs.Steps.{ComponentSteps}
 use Rattle.sv_container.specs.Running.{StepsOf, StopsOf}
 use Rattle.sv_container.specs.Script.{AreFresh, RunsScript, draws}

@@ -1,3 +1,4 @@
+pub mod AnswersInOrder
 pub mod Callers
 pub mod Connection
 pub mod Cut
@@ -17,4 +18,5 @@ pub mod Refused
 pub mod Start
 pub mod Transitions
 pub mod Unlawful
+pub mod UnlawfulRuns
 pub mod Until

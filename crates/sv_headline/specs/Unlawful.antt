@@ -4,6 +4,7 @@ use Rattle.std.specs.Prelude.{◌≡◌, ◌≢◌, ℕ, List, [], ◌∷◌, �
 use Rattle.sv_component.specs.Call.{Serviced}
 use Rattle.sv_component.specs.Runs.{OfServlet, Record, record_entry}
 use Rattle.sv_component.specs.Steps.{ComponentSteps}
+use Rattle.sv_component.specs.declared.answers.Gate.{Gate}
 use Rattle.sv_component.specs.declared.answers.Step.{Step}
 use Rattle.sv_context.specs.Conduct.{asked_of, unnoted}
 use Rattle.sv_context.specs.State.{ContextState, world_of}
@@ -18,6 +19,7 @@ use Rattle.sv_journal.specs.declared.entry.Entry.{Entry}
 use Rattle.sv_journal.specs.declared.entry.Entry.TheVariants as entries
 use Rattle.sv_journal.specs.declared.refusal_cause.RefusalCause.TheVariants as causes
 use Rattle.sv_listeners.specs.Telling.{told}
+use Rattle.sv_login.specs.OutcomeEntry.{outcome_entry}
 use Rattle.sv_login.specs.declared.outcome.Outcome.{Outcome}
 use Rattle.sv_login.specs.declared.outcome.Outcome.TheVariants as outcomes
 use Rattle.sv_mapping.specs.declared.kind.Kind.TheVariants as kinds
@@ -34,6 +36,7 @@ use Rattle.sv_session.specs.Calls.{expiring}
 use Rattle.sv_session.specs.Store.{Store}
 use Rattle.sv_session.specs.declared.ended_sessions.EndedSession.{EndedSession}
 use Rattle.sv_session.specs.declared.event.Event.TheVariants.{RequestInitialized}
+use Rattle.sv_tree.specs.Filters.{before_of}
 use Rattle.sv_tree.specs.Site.{Site, begun, chosen, name_of}
 use Rattle.sv_tree.specs.SiteOfDescriptor.{site_of}
 use Rattle.sv_component.specs.declared.standing.Standing.TheVariants.{Serving}
@@ -76,6 +79,30 @@ module _ {S F L : Type 0} (moving : ComponentSteps S F L) (handling : Handling (
         → exchange ≢ first_exchange
         → ¬ (IsLawfulMessage moving (record handling { entries = entries }) (calls_with place exchange its_step its_left others))
 
+  -- the message may enter, and a filter is the first of those for its path
+  pub record GoesToFilter (filter : ℕ) : Type 0 where
+    pub may : MayEnter handling.context handling.request
+    pub others : List ℕ
+    pub chain_is : site.chain (path_in handling.context handling.request)
+        (name_of site (chosen site (path_in handling.context handling.request)).resource) kinds.Request
+        ≡ filter ∷ others
+
+  -- the calls of a request that enters, of which this is the first
+  abbrev pub calls_from : Record → List Record → List Record
+  calls_from call behind = told RequestInitialized site.listeners ++ call ∷ behind
+
+  -- this filter is called first, with the exchange of the request; a handling that calls nothing is not lawful, nor is one that
+  -- makes any other call first: of another component, or of this filter with another exchange
+  pub record CallsTheFilter (filter : ℕ) : Type 0 where
+    pub gate : Gate
+    pub left : exchanges.State
+    pub behind : List Record
+    pub calls : made ≡ calls_from (before_of filter first_exchange gate left) behind
+    pub nothing_called : (entries : List Entry) → ¬ (IsLawfulMessage moving (record handling { entries = entries }) [])
+    pub another_call : (entries : List Entry) (call : Record) (others : List Record)
+        → ((its_gate : Gate) (its_left : exchanges.State) → call ≢ before_of filter first_exchange its_gate its_left)
+        → ¬ (IsLawfulMessage moving (record handling { entries = entries }) (calls_from call others))
+
   -- listeners are notified of what the message and its calls did, each time in its place; with a notification more, with one fewer or
   -- elsewhere the handling is not lawful
   pub record NotifiesItsOwn : Type 0 where
@@ -83,13 +110,15 @@ module _ {S F L : Type 0} (moving : ComponentSteps S F L) (handling : Handling (
     pub other_order : (entries : List Entry) (others : List Record) → ¬ (NotifiesInOrder handling others)
         → ¬ (IsLawfulMessage moving (record handling { entries = entries }) others)
 
-  -- an outcome is noted for the context of the message; if another is noted, the handling is not lawful
-  pub record NotesItsOwnContext : Type 0 where
+  -- the outcome of the message is noted for its context, and then its calls; if anything else is noted for the outcome, as the same
+  -- for another context, the handling is not lawful
+  pub record NotesItsOutcome (cause : Outcome) : Type 0 where
     pub entry : handling.entries
-        ≡ entries.Entered handling.context.content.context_path (path_in handling.context handling.request)
+        ≡ outcome_entry handling.context.content.context_path (path_in handling.context handling.request) cause
         ∷ map (record_entry (world_of handling.context unnoted)) made
-    pub another_context : (other path : List ℕ) (behind : List Entry) (others : List Record) → other ≢ handling.context.content.context_path
-        → ¬ (IsLawfulMessage moving (record handling { entries = entries.Entered other path ∷ behind }) others)
+    pub another_entry : (other : Entry) (behind : List Entry) (others : List Record)
+        → other ≢ outcome_entry handling.context.content.context_path (path_in handling.context handling.request) cause
+        → ¬ (IsLawfulMessage moving (record handling { entries = other ∷ behind }) others)
 
   -- a login enters its caller in its own session; with any other sessions, as with the caller in another session, the handling
   -- is not lawful
@@ -129,6 +158,16 @@ module _ {S F L Words : Type 0} (moving : ComponentSteps S F L) (draws : Words �
     pub told : HasExpired (moment_after before.moment (Tick moment)) → effect.journal ≢ []
     pub other_notifications : (journal : List Entry) → journal ≢ effect.journal → IsLawfulNever (Tick moment) (record effect { journal = journal })
 
+  -- the journal of an event begins with the ends of the sessions that have expired at its time; with any other beginning, as without
+  -- them, the event is not lawful
+  pub record NotifiesOfExpiriesFirst (happening : Happening) : Type 0 where
+    pub told : List Entry
+    pub some : HasExpired (moment_after before.moment happening) → told ≢ []
+    pub behind : List Entry
+    pub begins : effect.journal ≡ told ++ behind
+    pub another_beginning : (journal : List Entry) → ((others : List Entry) → journal ≢ told ++ others)
+        → IsLawfulNever happening (record effect { journal = journal })
+
   -- the deed of a message: its context handled it, or the container answered it itself, by the target
   abbrev pub IsDeedOf : MessageRecord → Deed (ContextState S F L) → Type 0
   IsDeedOf message (Handled place handling) = handling.request.message ≡ message
@@ -166,14 +205,19 @@ module _ {S F L : Type 0} (moving : ComponentSteps S F L) where
       (handling : Handling (ContextState S F L)) (made : List Record) (place : ℕ)
       → GoesToServlet moving handling made place → IsLawfulMessage moving handling made → CallsTheServlet moving handling made place
 
+  abbrev pub EntriesPassTheirFirstFilter : Type 0
+  EntriesPassTheirFirstFilter =
+      (handling : Handling (ContextState S F L)) (made : List Record) (filter : ℕ)
+      → GoesToFilter moving handling made filter → IsLawfulMessage moving handling made → CallsTheFilter moving handling made filter
+
   abbrev pub NotificationsAreInOrder : Type 0
   NotificationsAreInOrder =
       (handling : Handling (ContextState S F L)) (made : List Record) → IsLawfulMessage moving handling made → NotifiesItsOwn moving handling made
 
   abbrev pub OutcomesAreOfTheirContext : Type 0
   OutcomesAreOfTheirContext =
-      (handling : Handling (ContextState S F L)) (made : List Record)
-      → MayEnter handling.context handling.request → IsLawfulMessage moving handling made → NotesItsOwnContext moving handling made
+      (handling : Handling (ContextState S F L)) (made : List Record) (cause : Outcome)
+      → IsBecause handling.context handling.request cause → IsLawfulMessage moving handling made → NotesItsOutcome moving handling made cause
 
   abbrev pub LoginsAreOfTheirSession : Type 0
   LoginsAreOfTheirSession =
@@ -191,6 +235,11 @@ module _ {S F L : Type 0} (moving : ComponentSteps S F L) where
     TicksNotifyOnlyOfExpiries =
         (before after : State (ContextState S F L) Words) (effect : Effect (ContextState S F L)) (transitions : List (Transition S F L)) (moment : ℕ)
         → IsLawfulEvent moving draws before (Tick moment) effect transitions after → NotifiesOfExpiries moving draws before effect moment
+
+    abbrev pub EventsNotifyOfExpiriesFirst : Type 0
+    EventsNotifyOfExpiriesFirst =
+        (before after : State (ContextState S F L) Words) (happening : Happening) (effect : Effect (ContextState S F L)) (transitions : List (Transition S F L))
+        → IsLawfulEvent moving draws before happening effect transitions after → NotifiesOfExpiriesFirst moving draws before effect happening
 
     abbrev pub MessagesAreAnswered : Type 0
     MessagesAreAnswered =

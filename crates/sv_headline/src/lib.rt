@@ -12,6 +12,7 @@ mod lives;
 mod record;
 mod runs;
 mod unlawful;
+mod unlawful_runs;
 
 pub use contexts::{
     callers_come_by_login, contexts_end_expired_sessions, contexts_tell_outcomes,
@@ -35,7 +36,11 @@ pub use runs::{
     pieces_may_come_in_parts, requests_enter_exactly_where_allowed,
 };
 pub use unlawful::{
-    access_is_decided_once, entries_call_their_servlet, logins_are_of_their_session,
+    access_is_decided_once, entries_call_their_servlet, entries_pass_their_first_filter,
+    events_notify_of_expiries_first, items_are_answered_in_order, logins_are_of_their_session,
     messages_are_answered, messages_are_handled_by_their_context, notifications_are_in_order,
     outcomes_are_of_their_context, responses_are_of_their_request, ticks_notify_only_of_expiries,
+};
+pub use unlawful_runs::{
+    altered_events_are_in_no_run, altered_messages_are_in_no_run, runs_are_lawful_in_parts,
 };

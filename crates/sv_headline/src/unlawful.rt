@@ -2,8 +2,9 @@
 //! altered. Each is the contract of a function that only calls other laws.
 
 ghost use Rattle.sv_component.specs.Steps.{steps_of};
+ghost use Rattle.sv_headline.specs.AnswersInOrder.{ItemsAreAnsweredInOrder};
 ghost use Rattle.sv_headline.specs.DecidedOnce.{AccessIsDecidedOnce};
-ghost use Rattle.sv_headline.specs.Unlawful.{EntriesCallTheirServlet, LoginsAreOfTheirSession, MessagesAreAnswered, MessagesAreHandledByTheirContext, OutcomesAreOfTheirContext, ResponsesAreOfTheirRequest, NotificationsAreInOrder, TicksNotifyOnlyOfExpiries};
+ghost use Rattle.sv_headline.specs.Unlawful.{EntriesCallTheirServlet, EntriesPassTheirFirstFilter, EventsNotifyOfExpiriesFirst, LoginsAreOfTheirSession, MessagesAreAnswered, MessagesAreHandledByTheirContext, OutcomesAreOfTheirContext, ResponsesAreOfTheirRequest, NotificationsAreInOrder, TicksNotifyOnlyOfExpiries};
 
 use sv_component::{Filter, Listener, Servlet};
 use sv_login::just_one_case_holds;
@@ -24,6 +25,12 @@ pub fn entries_call_their_servlet<S: Servlet, F: Filter, L: Listener>()
     ensures { EntriesCallTheirServlet (steps_of S.servlet_step F.filter_step L.listener_step) }
 {}
 
+/// A request that enters and goes to a filter calls this filter first, with the exchange of the request. It is not lawful to
+/// call nothing, or to make any other call first (Jakarta Servlet 6.0, section 6.2).
+pub fn entries_pass_their_first_filter<S: Servlet, F: Filter, L: Listener>()
+    ensures { EntriesPassTheirFirstFilter (steps_of S.servlet_step F.filter_step L.listener_step) }
+{}
+
 /// Listeners are notified of what a message and its calls did, each time in its place. It is not lawful to notify them of anything
 /// else, to notify them of less, or to do so elsewhere (Jakarta Servlet 6.0, section 11.3.3).
 pub fn notifications_are_in_order<S: Servlet, F: Filter, L: Listener>()
@@ -32,10 +39,13 @@ pub fn notifications_are_in_order<S: Servlet, F: Filter, L: Listener>()
     just_one_case_holds();
 }
 
-/// A message that enters is noted for its own context. It is not lawful to note it for another one.
+/// The outcome of a message is noted for its own context. It is not lawful to note it for another one, or to note another
+/// outcome.
 pub fn outcomes_are_of_their_context<S: Servlet, F: Filter, L: Listener>()
     ensures { OutcomesAreOfTheirContext (steps_of S.servlet_step F.filter_step L.listener_step) }
-{}
+{
+    just_one_case_holds();
+}
 
 /// A login changes its own session alone. It is not lawful to leave any other sessions, such as those with the caller in
 /// another session (Jakarta Servlet 6.0, section 13.6.3).
@@ -57,10 +67,26 @@ pub fn ticks_notify_only_of_expiries<S: Servlet, F: Filter, L: Listener, W: Word
     ensures { TicksNotifyOnlyOfExpiries (steps_of S.servlet_step F.filter_step L.listener_step) W.draws }
 {}
 
+/// The journal of every event begins with the ends of the sessions that have expired at its time. It is not lawful to let them
+/// expire in silence, or to note anything before them (Jakarta Servlet 6.0, sections 7.5 and 11.3.4).
+pub fn events_notify_of_expiries_first<S: Servlet, F: Filter, L: Listener, W: Words>()
+    ensures { EventsNotifyOfExpiriesFirst (steps_of S.servlet_step F.filter_step L.listener_step) W.draws }
+{}
+
 /// A piece that completes a message brings the deed of that message. It is not lawful to swallow the message, or to refuse
 /// its bytes (RFC 9112, section 2.2).
 pub fn messages_are_answered<S: Servlet, F: Filter, L: Listener, W: Words>()
     ensures { MessagesAreAnswered (steps_of S.servlet_step F.filter_step L.listener_step) W.draws }
+{
+    feedings_may_be_cut();
+    readings_are_unique();
+}
+
+/// The items that a piece completes are answered in their order, each by its own deed and bytes, up to the first that closes
+/// the connection. It is not lawful to leave out the answer to a message, to refuse it, to answer it by another context, or
+/// to exchange the responses of two messages (RFC 9112, sections 9.2, 9.3 and 9.6).
+pub fn items_are_answered_in_order<S: Servlet, F: Filter, L: Listener, W: Words>()
+    ensures { ItemsAreAnsweredInOrder (steps_of S.servlet_step F.filter_step L.listener_step) W.draws }
 {
     feedings_may_be_cut();
     readings_are_unique();

@@ -1,0 +1,44 @@
+//! Runs that are not lawful. Each law takes a lawful run over any events, and says that no lawful run has one of its messages
+//! or events altered. Each is the contract of a function that only calls other laws.
+
+ghost use Rattle.sv_component.specs.Steps.{steps_of};
+ghost use Rattle.sv_headline.specs.UnlawfulRuns.{AlteredEventsAreInNoRun, AlteredMessagesAreInNoRun, RunsAreLawfulInParts};
+
+use sv_component::{Filter, Listener, Servlet, runs_are_journalled, runs_move_components};
+use sv_login::just_one_case_holds;
+use sv_run::{Words, feedings_may_be_cut};
+use sv_wire::readings_are_unique;
+
+/// Each message that a context handles in a lawful run is lawful, and its context is the one to which the run has led. No
+/// lawful run has this message without the call of its servlet or of its first filter, or with another exchange. None has it
+/// with its login in another session, with the constraints or callers of another context, with another outcome, or with
+/// other notifications (Jakarta Servlet 6.0, sections 6.2, 11.3.3, 13.6.3 and 13.8).
+pub fn altered_messages_are_in_no_run<S: Servlet, F: Filter, L: Listener, W: Words>()
+    ensures { AlteredMessagesAreInNoRun (steps_of S.servlet_step F.filter_step L.listener_step) W.draws }
+{
+    just_one_case_holds();
+}
+
+/// A run is lawful exactly if its first events are a lawful run up to some state, and the other ones are a lawful run from
+/// that state on.
+pub fn runs_are_lawful_in_parts<S: Servlet, F: Filter, L: Listener, W: Words>()
+    ensures { RunsAreLawfulInParts (steps_of S.servlet_step F.filter_step L.listener_step) W.draws }
+{
+    runs_are_journalled::<S, F, L>();
+    runs_move_components::<S, F, L>();
+    just_one_case_holds();
+}
+
+/// Each event of a lawful run is lawful in the state to which the run has come. No lawful run that comes to this state
+/// answers the event with a session that expires in silence, with other notifications of a tick, or with the response of
+/// another request. None swallows the first message of the event, or refuses it as bytes that are no message (Jakarta
+/// Servlet 6.0, sections 7.5 and 11.3.4; RFC 9112, sections 2.2 and 9.2).
+pub fn altered_events_are_in_no_run<S: Servlet, F: Filter, L: Listener, W: Words>()
+    ensures { AlteredEventsAreInNoRun (steps_of S.servlet_step F.filter_step L.listener_step) W.draws }
+{
+    runs_are_journalled::<S, F, L>();
+    runs_move_components::<S, F, L>();
+    just_one_case_holds();
+    feedings_may_be_cut();
+    readings_are_unique();
+}
