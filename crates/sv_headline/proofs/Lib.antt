@@ -24,6 +24,7 @@ mod Refuting
 mod RefutingEvents
 mod RefutingRuns
 mod Remembering
+mod Repeating
 mod Sending
 mod SinceTheStart
 mod Starting

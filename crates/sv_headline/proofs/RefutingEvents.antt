@@ -372,6 +372,22 @@ module _ {S F L : Type 0} (moving : ComponentSteps S F L) where
             let entry_is : entry ≡ entries.Refused (causes.Wire fault) = cc in
             own_entry _ message.target fault is.0 (is.1 ∙ ap (λ its. Itself its is.0) entry_is)
 
+        pub swallows_none : (after : Whole) (effect : Effect (ContextState S F L)) (transitions : List (Transition S F L)) (number : ℕ) (piece : List ℕ) (moment : ℕ)
+            (message : MessageRecord) (items : List Item) → BeginsWith moving draws before (record effect { deeds = [] }) number piece message items
+            → ¬ (IsLawfulEvent moving draws before (Piece number piece moment) (record effect { deeds = [] }) transitions after)
+        swallows_none after effect transitions number piece moment message items begins lawful =
+            not_empty (deed_first after number piece moment message items (record effect { deeds = [] }) transitions begins lawful).deeds
+
+        pub refuses_none : (after : Whole) (effect : Effect (ContextState S F L)) (transitions : List (Transition S F L)) (number : ℕ) (piece : List ℕ) (moment : ℕ)
+            (message : MessageRecord) (items : List Item) (fault : WireFault) (deeds : List (Deed (ContextState S F L)))
+            → BeginsWith moving draws before (record effect { deeds = Answered (entries.Refused (causes.Wire fault)) ∷ deeds }) number piece message items
+            → ¬ (IsLawfulEvent moving draws before (Piece number piece moment) (record effect { deeds = Answered (entries.Refused (causes.Wire fault)) ∷ deeds })
+            transitions after)
+        refuses_none after effect transitions number piece moment message items fault deeds begins lawful =
+            let its_effect = record effect { deeds = Answered (entries.Refused (causes.Wire fault)) ∷ deeds } in
+            let first = deed_first after number piece moment message items its_effect transitions begins lawful in
+            no_refusal effect message fault first.deed (same_head first.deeds) (first.is_deed effect)
+
         answers_it : (after : Whole) (effect : Effect (ContextState S F L)) (transitions : List (Transition S F L)) (number : ℕ) (piece : List ℕ) (moment : ℕ)
             (message : MessageRecord) (items : List Item) → BeginsWith moving draws before effect number piece message items
             → IsLawfulEvent moving draws before (Piece number piece moment) effect transitions after
@@ -384,14 +400,11 @@ module _ {S F L : Type 0} (moving : ComponentSteps S F L) where
               deeds = own.deeds;
               is_deed = own.is_deed effect;
               swallowed = λ others its_after its.
-                  let other = deed_first its_after number piece moment message items (record effect { deeds = [] }) others
-                  (record { held = begins.held; holds = begins.holds; left = begins.left; feeds = begins.feeds }) its in
-                  not_empty other.deeds;
+                  swallows_none its_after effect others number piece moment message items
+                  (record { held = begins.held; holds = begins.holds; left = begins.left; feeds = begins.feeds }) its;
               refused = λ fault deeds others its_after its.
-                  let its_effect = record effect { deeds = Answered (entries.Refused (causes.Wire fault)) ∷ deeds } in
-                  let other = deed_first its_after number piece moment message items its_effect others
-                  (record { held = begins.held; holds = begins.holds; left = begins.left; feeds = begins.feeds }) its in
-                  no_refusal effect message fault other.deed (same_head other.deeds) (other.is_deed effect);
+                  refuses_none its_after effect others number piece moment message items fault deeds
+                  (record { held = begins.held; holds = begins.holds; left = begins.left; feeds = begins.feeds }) its;
             }
 
         -- ---- the response to a message
@@ -412,7 +425,7 @@ module _ {S F L : Type 0} (moving : ComponentSteps S F L) where
             handled_is : {one other : Handling (ContextState S F L)} → Handled at one ≡ Handled place other → one ≡ other
             handled_is same = cc
 
-        sent : (after : Whole) (number : ℕ) (piece : List ℕ) (moment : ℕ) (message : MessageRecord) (place : ℕ) (handling : Handling (ContextState S F L))
+        pub sent : (after : Whole) (number : ℕ) (piece : List ℕ) (moment : ℕ) (message : MessageRecord) (place : ℕ) (handling : Handling (ContextState S F L))
             (effect : Effect (ContextState S F L)) (transitions : List (Transition S F L))
             → BeginsWith moving draws before effect number piece message [] → effect.deeds ≡ Handled place handling ∷ []
             → IsLawfulEvent moving draws before (Piece number piece moment) effect transitions after
