@@ -25,6 +25,7 @@ mod RefutingEvents
 mod RefutingRuns
 mod Remembering
 mod Repeating
+mod RepeatingExpiries
 mod Sending
 mod SinceTheStart
 mod Starting

@@ -138,7 +138,7 @@ module _ {S F L Words : Type 0} (moving : ComponentSteps S F L) (draws : Words �
     brought_once one other after its_after (Edited path edit) transitions others same closes first later =
         first.1.1 ∙ same ∙ sym later.1.1
 
-    event_once : (one other after its_after : Whole) (happening : Happening) (answer : Answer (ContextState S F L)) (transitions others : List (Transition S F L))
+    pub event_once : (one other after its_after : Whole) (happening : Happening) (answer : Answer (ContextState S F L)) (transitions others : List (Transition S F L))
         → AgreesWith one other → IsAnsweredBy moving draws one happening answer transitions after
         → IsAnsweredBy moving draws other happening answer others its_after → AgreesWith after its_after
     event_once one other after its_after happening (Ok effect) transitions others same first later =

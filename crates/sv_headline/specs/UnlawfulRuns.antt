@@ -100,20 +100,15 @@ module _ {S F L Words : Type 0} (moving : ComponentSteps S F L) (draws : Words �
       → (IsLawfulRun moving draws before (earlier ++ later) (answered ++ answers) after
       ↔ ((at : State (ContextState S F L) Words) × IsLawfulRun moving draws before earlier answered at × IsLawfulRun moving draws at later answers after))
 
-  -- no lawful run that has come to this state answers the event with this effect, whatever came before and comes after
-  abbrev pub IsAnsweredInNoRun : State (ContextState S F L) Words → Happening → Effect (ContextState S F L) → Type 0
-  IsAnsweredInNoRun at happening effect =
-      (before after : State (ContextState S F L) Words) (earlier later : List Happening) (answered answers : List (Answer (ContextState S F L)))
-      → IsLawfulRun moving draws before earlier answered at → ¬ (IsLawfulRun moving draws at (happening ∷ later) (Ok effect ∷ answers) after)
-
-  -- no lawful run from this state that answers the earlier events so answers the next one with this effect
+  -- no lawful run from this state with these answers to the earlier events answers the next one with this effect
   abbrev pub ContinuesInNoRun : State (ContextState S F L) Words → List Happening → List (Answer (ContextState S F L)) → Happening
       → Effect (ContextState S F L) → Type 0
   ContinuesInNoRun before earlier answered happening effect =
       (after : State (ContextState S F L) Words) (later : List Happening) (answers : List (Answer (ContextState S F L)))
       → ¬ (IsLawfulRun moving draws before (earlier ++ happening ∷ later) (answered ++ Ok effect ∷ answers) after)
 
-  -- an event of a lawful run is lawful in the state to which the run has come; no lawful run has it with one thing altered
+  -- an event of a lawful run is lawful in the state to which the run has come; with one thing altered in its answer the run is not
+  -- lawful, whatever comes after the event
   pub record IsEventOfRun (before : State (ContextState S F L) Words) (earlier : List Happening) (answered : List (Answer (ContextState S F L)))
       (happening : Happening) (effect : Effect (ContextState S F L)) : Type 0 where
     pub at : State (ContextState S F L) Words
@@ -124,10 +119,10 @@ module _ {S F L Words : Type 0} (moving : ComponentSteps S F L) (draws : Words �
     -- a session that has expired ends in silence, or something is noted before it
     pub expires : NotifiesOfExpiriesFirst moving draws at effect happening
     pub silent : (journal : List Entry) → ((others : List Entry) → journal ≢ expires.told ++ others)
-        → IsAnsweredInNoRun at happening (record effect { journal = journal })
+        → ContinuesInNoRun before earlier answered happening (record effect { journal = journal })
     -- a tick of the clock notes anything else
     pub other_notifications : (moment : ℕ) (journal : List Entry) → happening ≡ Tick moment → journal ≢ effect.journal
-        → IsAnsweredInNoRun at happening (record effect { journal = journal })
+        → ContinuesInNoRun before earlier answered happening (record effect { journal = journal })
     -- a message is swallowed, or refused as bytes that are no message
     pub swallowed : (number : ℕ) (piece : List ℕ) (moment : ℕ) (message : MessageRecord) (items : List Item)
         → happening ≡ Piece number piece moment → BeginsWith moving draws at effect number piece message items
