@@ -117,7 +117,7 @@ module _ {S F L Words : Type 0} (moving : ComponentSteps S F L) (draws : Words �
         (subst (Reads more) are.3 reads))
 
   module _ (cuts : FeedingsMayBeCut) (unique : ReadingsAreUnique) where
-    in_order : (before after : Whole) (effect : Effect (ContextState S F L)) (transitions : List (Transition S F L)) (number : ℕ) (piece : List ℕ) (moment : ℕ)
+    pub in_order : (before after : Whole) (effect : Effect (ContextState S F L)) (transitions : List (Transition S F L)) (number : ℕ) (piece : List ℕ) (moment : ℕ)
         (items : List Item) → CompletesAll moving draws before number piece items
         → IsLawfulEvent moving draws before (Piece number piece moment) effect transitions after
         → AreAnswersTo moving draws before (moment_after before.moment (Piece number piece moment)) items effect.deeds effect.sends

@@ -33,7 +33,7 @@ pub some_is : {X : Type 0} {one other : X} → ◌≡◌ {A = Option X} (Some on
 some_is same = cc
 
 -- if one item of a list changes but its image does not, the images of the list stay the same
-seen_same : {X Y : Type 0} (f : X → Y) (xs : List X) (place : ℕ) (old new : X) → slice_get xs place ≡ Some old → f new ≡ f old
+pub seen_same : {X Y : Type 0} (f : X → Y) (xs : List X) (place : ℕ) (old new : X) → slice_get xs place ≡ Some old → f new ≡ f old
     → map f (slice_set xs place new) ≡ map f xs
 seen_same f [] place old new there same = absurd (cc)
 seen_same f (x ∷ xs) zero old new there same = ap (λ first. first ∷ map f xs) (same ∙ ap f (sym (some_is there)))

@@ -24,6 +24,8 @@ mod Refuting
 mod RefutingEvents
 mod RefutingRuns
 mod Remembering
+mod Repeating
+mod RepeatingExpiries
 mod Sending
 mod SinceTheStart
 mod Starting

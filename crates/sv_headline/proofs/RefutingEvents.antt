@@ -50,16 +50,16 @@ use Rattle.sv_wire.specs.declared.wire_fault.WireFault.{WireFault}
 none_not_some : {X : Type 0} (value : X) → ◌≡◌ {A = Option X} None (Some value) → ⊥
 none_not_some value same = absurd (cc)
 
-none_or_some : {X : Type 0} (option : Option X) (value : X) → option ≡ None → option ≡ Some value → ⊥
+pub none_or_some : {X : Type 0} (option : Option X) (value : X) → option ≡ None → option ≡ Some value → ⊥
 none_or_some option value none some = none_not_some value (sym none ∙ some)
 
-same_head : {X : Type 0} {one other : X} {behind others : List X} → one ∷ behind ≡ other ∷ others → one ≡ other
+pub same_head : {X : Type 0} {one other : X} {behind others : List X} → one ∷ behind ≡ other ∷ others → one ≡ other
 same_head same = cc
 
-same_rest : {X : Type 0} {one other : X} {behind others : List X} → one ∷ behind ≡ other ∷ others → behind ≡ others
+pub same_rest : {X : Type 0} {one other : X} {behind others : List X} → one ∷ behind ≡ other ∷ others → behind ≡ others
 same_rest same = cc
 
-not_empty : {X : Type 0} {one : X} {behind : List X} → ◌≡◌ {A = List X} [] (one ∷ behind) → ⊥
+pub not_empty : {X : Type 0} {one : X} {behind : List X} → ◌≡◌ {A = List X} [] (one ∷ behind) → ⊥
 not_empty same = absurd (cc)
 
 -- ---- expiries
@@ -137,13 +137,13 @@ module _ {S F L : Type 0} (moving : ComponentSteps S F L) where
     Whole = State (ContextState S F L) Words
 
     -- the ends of sessions that a tick brings are all that it notes
-    record Ticked (before : Whole) (moment : ℕ) (journal : List Entry) : Type 0 where
+    pub record Ticked (before : Whole) (moment : ℕ) (journal : List Entry) : Type 0 where
       pub expiries : List (Expiry S F L)
       pub contexts : before.world.contexts ≡ map (λ (expiry : Expiry S F L). expiry.context) expiries
       pub each : AllByRecursion (IsExpiry moving (moment_after before.moment (Tick moment))) expiries
       pub are : journal ≡ flat_map entries_of expiries
 
-    ticked : (before after : Whole) (moment : ℕ) (effect : Effect (ContextState S F L)) (transitions : List (Transition S F L))
+    pub ticked : (before after : Whole) (moment : ℕ) (effect : Effect (ContextState S F L)) (transitions : List (Transition S F L))
         → IsLawfulEvent moving draws before (Tick moment) effect transitions after → Ticked before moment effect.journal
     ticked before after moment effect transitions lawful =
         let are : transitions ≡ Expiries after.moment lawful.expiries ∷ [] =
@@ -174,14 +174,14 @@ module _ {S F L : Type 0} (moving : ComponentSteps S F L) where
         }
 
     -- the ends of sessions that an event brings are what it notes first
-    record ExpiresFirst (before : Whole) (now : ℕ) (journal : List Entry) : Type 0 where
+    pub record ExpiresFirst (before : Whole) (now : ℕ) (journal : List Entry) : Type 0 where
       pub expiries : List (Expiry S F L)
       pub contexts : before.world.contexts ≡ map (λ (expiry : Expiry S F L). expiry.context) expiries
       pub each : AllByRecursion (IsExpiry moving now) expiries
       pub behind : List Entry
       pub are : journal ≡ flat_map entries_of expiries ++ behind
 
-    expires_first : (before after : Whole) (happening : Happening) (effect : Effect (ContextState S F L)) (transitions : List (Transition S F L))
+    pub expires_first : (before after : Whole) (happening : Happening) (effect : Effect (ContextState S F L)) (transitions : List (Transition S F L))
         → IsLawfulEvent moving draws before happening effect transitions after
         → ExpiresFirst before (moment_after before.moment happening) effect.journal
     expires_first before after happening effect transitions lawful =
@@ -213,6 +213,13 @@ module _ {S F L : Type 0} (moving : ComponentSteps S F L) where
               (other.are
               ∙ ap (λ front. front ++ other.behind) (entries_once now other.expiries own.expiries (sym other.contexts ∙ own.contexts) other.each own.each));
         }
+
+    pub told_is : (before after : Whole) (happening : Happening) (effect : Effect (ContextState S F L)) (transitions : List (Transition S F L))
+        (lawful : IsLawfulEvent moving draws before happening effect transitions after)
+        → (events_notify_of_expiries_first before after happening effect transitions lawful).told
+        ≡ flat_map entries_of (expires_first before after happening effect transitions lawful).expiries
+    unfolding events_notify_of_expiries_first
+    told_is before after happening effect transitions lawful = refl
 
     -- ---- messages
 
@@ -372,6 +379,22 @@ module _ {S F L : Type 0} (moving : ComponentSteps S F L) where
             let entry_is : entry ≡ entries.Refused (causes.Wire fault) = cc in
             own_entry _ message.target fault is.0 (is.1 ∙ ap (λ its. Itself its is.0) entry_is)
 
+        pub swallows_none : (after : Whole) (effect : Effect (ContextState S F L)) (transitions : List (Transition S F L)) (number : ℕ) (piece : List ℕ) (moment : ℕ)
+            (message : MessageRecord) (items : List Item) → BeginsWith moving draws before (record effect { deeds = [] }) number piece message items
+            → ¬ (IsLawfulEvent moving draws before (Piece number piece moment) (record effect { deeds = [] }) transitions after)
+        swallows_none after effect transitions number piece moment message items begins lawful =
+            not_empty (deed_first after number piece moment message items (record effect { deeds = [] }) transitions begins lawful).deeds
+
+        pub refuses_none : (after : Whole) (effect : Effect (ContextState S F L)) (transitions : List (Transition S F L)) (number : ℕ) (piece : List ℕ) (moment : ℕ)
+            (message : MessageRecord) (items : List Item) (fault : WireFault) (deeds : List (Deed (ContextState S F L)))
+            → BeginsWith moving draws before (record effect { deeds = Answered (entries.Refused (causes.Wire fault)) ∷ deeds }) number piece message items
+            → ¬ (IsLawfulEvent moving draws before (Piece number piece moment) (record effect { deeds = Answered (entries.Refused (causes.Wire fault)) ∷ deeds })
+            transitions after)
+        refuses_none after effect transitions number piece moment message items fault deeds begins lawful =
+            let its_effect = record effect { deeds = Answered (entries.Refused (causes.Wire fault)) ∷ deeds } in
+            let first = deed_first after number piece moment message items its_effect transitions begins lawful in
+            no_refusal effect message fault first.deed (same_head first.deeds) (first.is_deed effect)
+
         answers_it : (after : Whole) (effect : Effect (ContextState S F L)) (transitions : List (Transition S F L)) (number : ℕ) (piece : List ℕ) (moment : ℕ)
             (message : MessageRecord) (items : List Item) → BeginsWith moving draws before effect number piece message items
             → IsLawfulEvent moving draws before (Piece number piece moment) effect transitions after
@@ -384,14 +407,11 @@ module _ {S F L : Type 0} (moving : ComponentSteps S F L) where
               deeds = own.deeds;
               is_deed = own.is_deed effect;
               swallowed = λ others its_after its.
-                  let other = deed_first its_after number piece moment message items (record effect { deeds = [] }) others
-                  (record { held = begins.held; holds = begins.holds; left = begins.left; feeds = begins.feeds }) its in
-                  not_empty other.deeds;
+                  swallows_none its_after effect others number piece moment message items
+                  (record { held = begins.held; holds = begins.holds; left = begins.left; feeds = begins.feeds }) its;
               refused = λ fault deeds others its_after its.
-                  let its_effect = record effect { deeds = Answered (entries.Refused (causes.Wire fault)) ∷ deeds } in
-                  let other = deed_first its_after number piece moment message items its_effect others
-                  (record { held = begins.held; holds = begins.holds; left = begins.left; feeds = begins.feeds }) its in
-                  no_refusal effect message fault other.deed (same_head other.deeds) (other.is_deed effect);
+                  refuses_none its_after effect others number piece moment message items fault deeds
+                  (record { held = begins.held; holds = begins.holds; left = begins.left; feeds = begins.feeds }) its;
             }
 
         -- ---- the response to a message
@@ -412,7 +432,7 @@ module _ {S F L : Type 0} (moving : ComponentSteps S F L) where
             handled_is : {one other : Handling (ContextState S F L)} → Handled at one ≡ Handled place other → one ≡ other
             handled_is same = cc
 
-        sent : (after : Whole) (number : ℕ) (piece : List ℕ) (moment : ℕ) (message : MessageRecord) (place : ℕ) (handling : Handling (ContextState S F L))
+        pub sent : (after : Whole) (number : ℕ) (piece : List ℕ) (moment : ℕ) (message : MessageRecord) (place : ℕ) (handling : Handling (ContextState S F L))
             (effect : Effect (ContextState S F L)) (transitions : List (Transition S F L))
             → BeginsWith moving draws before effect number piece message [] → effect.deeds ≡ Handled place handling ∷ []
             → IsLawfulEvent moving draws before (Piece number piece moment) effect transitions after

@@ -1,30 +1,38 @@
 -- Runs in which a message or an event is altered are not lawful.
-use Rattle.std.proofs.Common.{◌≡◌, ℕ, List, [], ◌∷◌, ◌++◌, length, Option, None, Some, Result, Ok, Err, refl, sym, ap, ◌∙◌, subst, arith, slice_get, slice_set, append_assoc}
+use Rattle.std.proofs.Common.{◌≡◌, ℕ, List, [], ◌∷◌, ◌++◌, length, map, Option, None, Some, Result, Ok, Err, refl, sym, ap, ◌∙◌, subst, arith, slice_get, slice_set, append_assoc}
+use Rattle.std.specs.List.{AllByRecursion, flat_map}
 use Rattle.sv_component.specs.Laws.{RunsAreJournalled, RunsMoveComponents}
 use Rattle.sv_component.specs.Runs.{Record}
 use Rattle.sv_component.specs.Steps.{ComponentSteps}
 use Rattle.sv_context.specs.State.{ContextState}
-use Rattle.sv_headline.proofs.AnsweringInOrder.{items_are_answered_in_order}
-use Rattle.sv_headline.proofs.Leading.{some_is, stands_after, through_all, through_parts}
+use Rattle.sv_context.specs.Theory.{theory}
+use Rattle.sv_headline.proofs.AnsweringInOrder.{in_order}
+use Rattle.sv_headline.proofs.Leading.{same_destination, some_is, stands_after, through_all, through_parts}
 use Rattle.sv_headline.proofs.Recording.{lawful_by}
 use Rattle.sv_headline.proofs.Refuting as messages
 use Rattle.sv_headline.proofs.RefutingEvents as events
+use Rattle.sv_headline.proofs.Repeating.{AgreesWith, answers_there, begins_there, completes_there, events_once, through_paths}
+use Rattle.sv_headline.proofs.RepeatingExpiries.{events_seen, expired_alike, seen}
+use Rattle.sv_headline.specs.AnswersInOrder.{AreAnswersTo}
 use Rattle.sv_headline.specs.Events.{AreTransitionsOf, IsAnsweredBy, IsLawfulEvent}
 use Rattle.sv_headline.specs.Message.{IsLawfulMessage}
 use Rattle.sv_headline.specs.Record.{IsLawfulRun}
-use Rattle.sv_headline.specs.Transitions.{Closing, ContextAnswer, Continuation, EditAnswer, Expiries, Leads, LeadsThrough, OwnAnswer, Refusal, Transition, under}
+use Rattle.sv_headline.specs.Transitions.{Closing, ContextAnswer, Continuation, EditAnswer, Expiries, Expiry, IsExpiry, Leads, LeadsThrough, OwnAnswer, Refusal, Transition, entries_of, under}
 use Rattle.sv_headline.specs.Unlawful.{calls_from, calls_with}
-use Rattle.sv_headline.specs.UnlawfulRuns.{AlteredEventsAreInNoRun, AlteredMessagesAreInNoRun, IsAnsweredInNoRun, IsInNoRun, RunsAreLawfulInParts}
+use Rattle.sv_headline.specs.UnlawfulRuns.{AlteredEventsAreInNoRun, AlteredMessagesAreInNoRun, ContinuesInNoRun, IsInNoRun, RunsAreLawfulInParts}
 use Rattle.sv_journal.specs.declared.entry.Entry.TheVariants as entries
 use Rattle.sv_journal.specs.declared.refusal_cause.RefusalCause.TheVariants as causes
 use Rattle.sv_login.specs.OutcomeLaws.{JustOneCaseHolds}
+use Rattle.sv_message.specs.declared.message.Target.{Target}
 use Rattle.sv_policy.specs.Edits.{edit_outcome, standing_after}
 use Rattle.sv_policy.specs.declared.edit.Edit.{Edit}
 use Rattle.sv_policy.specs.declared.edit_fault.EditFault.{EditFault}
 use Rattle.sv_run.specs.Contexts.{Handling}
 use Rattle.sv_run.specs.Effect.{Answered, Effect}
-use Rattle.sv_run.specs.Events.{Happening, Piece, Tick}
+use Rattle.sv_run.specs.Events.{Happening, Piece, Tick, moment_after}
+use Rattle.sv_run.specs.Items.{IsAnswerTo}
 use Rattle.sv_run.specs.Laws.{FeedingsMayBeCut}
+use Rattle.sv_run.specs.Messages.{destination}
 use Rattle.sv_run.specs.Runs.{Answer}
 use Rattle.sv_run.specs.State.{State}
 use Rattle.sv_wire.specs.Laws.{ReadingsAreUnique}
@@ -176,11 +184,6 @@ module _ {S F L : Type 0} (moving : ComponentSteps S F L) where
       ap (λ its. its ++ rest) one.5 ∙ append_assoc one.0 one.1 rest,
     )
 
-    in_no_event : (at : Whole) (happening : Happening) (effect : Effect (ContextState S F L))
-        → ((others : List (Transition S F L)) (its_after : Whole) → ¬ (IsLawfulEvent moving draws at happening effect others its_after))
-        → IsAnsweredInNoRun moving draws at happening effect
-    in_no_event at happening effect unlawful before after earlier later answered answers first lawful = unlawful lawful.are.0 lawful.are.2 lawful.are.3
-
     module _ (journalled : RunsAreJournalled moving) (one_case : JustOneCaseHolds) (moves : RunsMoveComponents moving) where
       lawful_of : (before after : Whole) (happenings : List Happening) (answers : Answers) (transitions : List (Transition S F L))
           → AreOf before happenings answers transitions after → IsLawfulRun moving draws before happenings answers after
@@ -201,6 +204,35 @@ module _ {S F L : Type 0} (moving : ComponentSteps S F L) where
       )
 
       module _ (cuts : FeedingsMayBeCut) (unique : ReadingsAreUnique) where
+        -- the ends of expired sessions are noted alike
+        notes_alike : (one other : Whole) (happening : Happening) (expiries others : List (Expiry S F L)) → AgreesWith moving draws one other
+            → map seen one.world.contexts ≡ map seen other.world.contexts
+            → one.world.contexts ≡ map (λ (expiry : Expiry S F L). expiry.context) expiries
+            → other.world.contexts ≡ map (λ (expiry : Expiry S F L). expiry.context) others
+            → AllByRecursion (IsExpiry moving (moment_after one.moment happening)) expiries
+            → AllByRecursion (IsExpiry moving (moment_after other.moment happening)) others → flat_map entries_of expiries ≡ flat_map entries_of others
+        notes_alike one other happening expiries others agrees alike contexts its_contexts each its_each =
+            (expired_alike moving (moment_after one.moment happening) expiries others (ap (map seen) (sym contexts) ∙ alike ∙ ap (map seen) its_contexts) each
+            (subst (λ time. AllByRecursion (IsExpiry moving (moment_after time happening)) others) (sym agrees.same_time) its_each)).0
+
+        -- an event that is lawful in no state with the same connections, time and paths, and with contexts alike, continues no run
+        continues_none : (before at : Whole) (earlier : List Happening) (answered : Answers) (first : List (Transition S F L)) (happening : Happening)
+            (effect : Effect (ContextState S F L)) → length answered ≡ length earlier → AreOf before earlier answered first at
+            → ((other : Whole) (others : List (Transition S F L)) (its_after : Whole) → AgreesWith moving draws at other
+            → ((target : Target) → destination (theory moving draws) other.world.contexts target ≡ destination (theory moving draws) at.world.contexts target)
+            → map seen at.world.contexts ≡ map seen other.world.contexts → ¬ (IsLawfulEvent moving draws other happening effect others its_after))
+            → ContinuesInNoRun moving draws before earlier answered happening effect
+        continues_none before at earlier answered first happening effect same are unlawful after later answers lawful =
+            let parts = parts_of before after earlier (happening ∷ later) answered (Ok effect ∷ answers) lawful.transitions same lawful.are in
+            let other = parts.0 in
+            let paths =
+            through_paths moving draws before.world.contexts other.world.contexts parts.1 (leads_of before other earlier answered parts.1 parts.3)
+            ∙ sym (through_paths moving draws before.world.contexts at.world.contexts first (leads_of before at earlier answered first are)) in
+            let start : AgreesWith moving draws before before = record { same_connections = refl; same_time = refl } in
+            unlawful other parts.4.0 parts.4.2 (events_once moving draws unique before before at other earlier answered first parts.1 start are parts.3)
+            (same_destination (theory moving draws) at.world.contexts other.world.contexts paths)
+            (events_seen moving draws unique before before at other earlier answered first parts.1 start refl are parts.3) parts.4.3
+
         pub altered_events_are_in_no_run : AlteredEventsAreInNoRun moving draws
         altered_events_are_in_no_run before after earlier later happening answered answers effect same lawful =
             let parts = parts_of before after earlier (happening ∷ later) answered (Ok effect ∷ answers) lawful.transitions same lawful.are in
@@ -216,30 +248,54 @@ module _ {S F L : Type 0} (moving : ComponentSteps S F L) where
               reached = lawful_of before at earlier answered parts.1 parts.3;
               lawful = event;
               expires = expires;
-              silent = λ journal apart. in_no_event at happening (record effect { journal = journal }) (expires.another_beginning journal apart);
+              silent = λ journal apart.
+                  continues_none before at earlier answered parts.1 happening (record effect { journal = journal }) same parts.3
+                  (λ other others its_after agrees goes alike its.
+                  let one = events.expires_first moving draws at next happening effect own event in
+                  let its_own = events.expires_first moving draws other its_after happening (record effect { journal = journal }) others its in
+                  apart its_own.behind
+                  (its_own.are
+                  ∙ ap (λ front. front ++ its_own.behind)
+                  (sym (events.told_is moving draws at next happening effect own event
+                  ∙ notes_alike at other happening one.expiries its_own.expiries agrees alike one.contexts its_own.contexts one.each its_own.each))));
               other_notifications = λ moment journal is apart.
-                  subst (λ its. IsAnsweredInNoRun moving draws at its (record effect { journal = journal })) (sym is)
-                  (in_no_event at (Tick moment) (record effect { journal = journal })
-                  ((events.ticks_notify_only_of_expiries moving draws at next effect own moment
-                  (subst (λ its. IsLawfulEvent moving draws at its effect own next) is event)).other_notifications journal apart));
+                  subst (λ its. ContinuesInNoRun moving draws before earlier answered its (record effect { journal = journal })) (sym is)
+                  (continues_none before at earlier answered parts.1 (Tick moment) (record effect { journal = journal }) same parts.3
+                  (λ other others its_after agrees goes alike its.
+                  let one = events.ticked moving draws at next moment effect own (subst (λ its. IsLawfulEvent moving draws at its effect own next) is event) in
+                  let its_own = events.ticked moving draws other its_after moment (record effect { journal = journal }) others its in
+                  apart
+                  (its_own.are
+                  ∙ sym (one.are ∙ notes_alike at other (Tick moment) one.expiries its_own.expiries agrees alike one.contexts its_own.contexts one.each its_own.each))));
               swallowed = λ number piece moment message items is begins.
-                  subst (λ its. IsAnsweredInNoRun moving draws at its (record effect { deeds = [] })) (sym is)
-                  (in_no_event at (Piece number piece moment) (record effect { deeds = [] })
-                  (events.messages_are_answered moving draws cuts unique at next effect own number piece moment message items begins
-                  (subst (λ its. IsLawfulEvent moving draws at its effect own next) is event)).swallowed);
-              refused = λ number piece moment message items fault others is begins.
-                  subst (λ its. IsAnsweredInNoRun moving draws at its (record effect { deeds = Answered (entries.Refused (causes.Wire fault)) ∷ others })) (sym is)
-                  (in_no_event at (Piece number piece moment) (record effect { deeds = Answered (entries.Refused (causes.Wire fault)) ∷ others })
-                  ((events.messages_are_answered moving draws cuts unique at next effect own number piece moment message items begins
-                  (subst (λ its. IsLawfulEvent moving draws at its effect own next) is event)).refused fault others));
+                  subst (λ its. ContinuesInNoRun moving draws before earlier answered its (record effect { deeds = [] })) (sym is)
+                  (continues_none before at earlier answered parts.1 (Piece number piece moment) (record effect { deeds = [] }) same parts.3
+                  (λ other others its_after agrees goes alike.
+                  events.swallows_none moving draws cuts unique other its_after effect others number piece moment message items
+                  (begins_there moving draws at other effect (record effect { deeds = [] }) number piece message items agrees begins)));
+              refused = λ number piece moment message items fault deeds is begins.
+                  let its_effect = record effect { deeds = Answered (entries.Refused (causes.Wire fault)) ∷ deeds } in
+                  subst (λ its. ContinuesInNoRun moving draws before earlier answered its its_effect) (sym is)
+                  (continues_none before at earlier answered parts.1 (Piece number piece moment) its_effect same parts.3
+                  (λ other others its_after agrees goes alike.
+                  events.refuses_none moving draws cuts unique other its_after effect others number piece moment message items fault deeds
+                  (begins_there moving draws at other effect its_effect number piece message items agrees begins)));
               another_response = λ number piece moment message place handling sends is begins deeds apart.
-                  subst (λ its. IsAnsweredInNoRun moving draws at its (record effect { sends = sends })) (sym is)
-                  (in_no_event at (Piece number piece moment) (record effect { sends = sends })
-                  ((events.responses_are_of_their_request moving draws cuts unique at next effect own number piece moment message place handling begins deeds
-                  (subst (λ its. IsLawfulEvent moving draws at its effect own next) is event)).another_response sends apart));
+                  subst (λ its. ContinuesInNoRun moving draws before earlier answered its (record effect { sends = sends })) (sym is)
+                  (continues_none before at earlier answered parts.1 (Piece number piece moment) (record effect { sends = sends }) same parts.3
+                  (λ other others its_after agrees goes alike its.
+                  apart
+                  (subst (λ time. IsAnswerTo message (moment_after time (Piece number piece moment)) handling.response sends) (sym agrees.same_time)
+                  (events.sent moving draws cuts unique other its_after number piece moment message place handling (record effect { sends = sends }) others
+                  (begins_there moving draws at other effect (record effect { sends = sends }) number piece message [] agrees begins) deeds its))));
               other_answers = λ number piece moment items deeds sends is completes apart.
-                  subst (λ its. IsAnsweredInNoRun moving draws at its (record effect { deeds = deeds; sends = sends })) (sym is)
-                  (in_no_event at (Piece number piece moment) (record effect { deeds = deeds; sends = sends })
-                  ((items_are_answered_in_order moving draws cuts unique at next effect own number piece moment items completes
-                  (subst (λ its. IsLawfulEvent moving draws at its effect own next) is event)).other_answers deeds sends apart));
+                  let its_effect = record effect { deeds = deeds; sends = sends } in
+                  subst (λ its. ContinuesInNoRun moving draws before earlier answered its its_effect) (sym is)
+                  (continues_none before at earlier answered parts.1 (Piece number piece moment) its_effect same parts.3
+                  (λ other others its_after agrees goes alike its.
+                  apart
+                  (subst (λ time. AreAnswersTo moving draws at (moment_after time (Piece number piece moment)) items deeds sends) (sym agrees.same_time)
+                  (answers_there moving draws at other (moment_after other.moment (Piece number piece moment)) goes items deeds sends
+                  (in_order moving draws cuts unique other its_after its_effect others number piece moment items
+                  (completes_there moving draws at other number piece items agrees completes) its)))));
             }

@@ -100,13 +100,15 @@ module _ {S F L Words : Type 0} (moving : ComponentSteps S F L) (draws : Words �
       → (IsLawfulRun moving draws before (earlier ++ later) (answered ++ answers) after
       ↔ ((at : State (ContextState S F L) Words) × IsLawfulRun moving draws before earlier answered at × IsLawfulRun moving draws at later answers after))
 
-  -- no lawful run that has come to this state answers the event with this effect, whatever came before and comes after
-  abbrev pub IsAnsweredInNoRun : State (ContextState S F L) Words → Happening → Effect (ContextState S F L) → Type 0
-  IsAnsweredInNoRun at happening effect =
-      (before after : State (ContextState S F L) Words) (earlier later : List Happening) (answered answers : List (Answer (ContextState S F L)))
-      → IsLawfulRun moving draws before earlier answered at → ¬ (IsLawfulRun moving draws at (happening ∷ later) (Ok effect ∷ answers) after)
+  -- no lawful run from this state with these answers to the earlier events answers the next one with this effect
+  abbrev pub ContinuesInNoRun : State (ContextState S F L) Words → List Happening → List (Answer (ContextState S F L)) → Happening
+      → Effect (ContextState S F L) → Type 0
+  ContinuesInNoRun before earlier answered happening effect =
+      (after : State (ContextState S F L) Words) (later : List Happening) (answers : List (Answer (ContextState S F L)))
+      → ¬ (IsLawfulRun moving draws before (earlier ++ happening ∷ later) (answered ++ Ok effect ∷ answers) after)
 
-  -- an event of a lawful run is lawful in the state to which the run has come; no lawful run has it with one thing altered
+  -- an event of a lawful run is lawful in the state to which the run has come; with one thing altered in its answer the run is not
+  -- lawful, whatever comes after the event
   pub record IsEventOfRun (before : State (ContextState S F L) Words) (earlier : List Happening) (answered : List (Answer (ContextState S F L)))
       (happening : Happening) (effect : Effect (ContextState S F L)) : Type 0 where
     pub at : State (ContextState S F L) Words
@@ -117,30 +119,30 @@ module _ {S F L Words : Type 0} (moving : ComponentSteps S F L) (draws : Words �
     -- a session that has expired ends in silence, or something is noted before it
     pub expires : NotifiesOfExpiriesFirst moving draws at effect happening
     pub silent : (journal : List Entry) → ((others : List Entry) → journal ≢ expires.told ++ others)
-        → IsAnsweredInNoRun at happening (record effect { journal = journal })
+        → ContinuesInNoRun before earlier answered happening (record effect { journal = journal })
     -- a tick of the clock notes anything else
     pub other_notifications : (moment : ℕ) (journal : List Entry) → happening ≡ Tick moment → journal ≢ effect.journal
-        → IsAnsweredInNoRun at happening (record effect { journal = journal })
+        → ContinuesInNoRun before earlier answered happening (record effect { journal = journal })
     -- a message is swallowed, or refused as bytes that are no message
     pub swallowed : (number : ℕ) (piece : List ℕ) (moment : ℕ) (message : MessageRecord) (items : List Item)
         → happening ≡ Piece number piece moment → BeginsWith moving draws at effect number piece message items
-        → IsAnsweredInNoRun at happening (record effect { deeds = [] })
+        → ContinuesInNoRun before earlier answered happening (record effect { deeds = [] })
     pub refused : (number : ℕ) (piece : List ℕ) (moment : ℕ) (message : MessageRecord) (items : List Item) (fault : WireFault)
         (others : List (Deed (ContextState S F L)))
         → happening ≡ Piece number piece moment → BeginsWith moving draws at effect number piece message items
-        → IsAnsweredInNoRun at happening (record effect { deeds = Answered (entries.Refused (causes.Wire fault)) ∷ others })
+        → ContinuesInNoRun before earlier answered happening (record effect { deeds = Answered (entries.Refused (causes.Wire fault)) ∷ others })
     -- the response of another request is sent
     pub another_response : (number : ℕ) (piece : List ℕ) (moment : ℕ) (message : MessageRecord) (place : ℕ) (handling : Handling (ContextState S F L))
         (sends : List ℕ)
         → happening ≡ Piece number piece moment → BeginsWith moving draws at effect number piece message []
         → effect.deeds ≡ Handled place handling ∷ []
         → ¬ (IsAnswerTo message (moment_after at.moment (Piece number piece moment)) handling.response sends)
-        → IsAnsweredInNoRun at happening (record effect { sends = sends })
+        → ContinuesInNoRun before earlier answered happening (record effect { sends = sends })
     -- the items of a piece have any other answers, as the responses of two messages exchanged
     pub other_answers : (number : ℕ) (piece : List ℕ) (moment : ℕ) (items : List Item) (deeds : List (Deed (ContextState S F L))) (sends : List ℕ)
         → happening ≡ Piece number piece moment → CompletesAll moving draws at number piece items
         → ¬ (AreAnswersTo moving draws at (moment_after at.moment (Piece number piece moment)) items deeds sends)
-        → IsAnsweredInNoRun at happening (record effect { deeds = deeds; sends = sends })
+        → ContinuesInNoRun before earlier answered happening (record effect { deeds = deeds; sends = sends })
 
   abbrev pub AlteredEventsAreInNoRun : Type 0
   AlteredEventsAreInNoRun =

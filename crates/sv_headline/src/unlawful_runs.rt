@@ -1,5 +1,5 @@
-//! Runs that are not lawful. Each law takes a lawful run over any events, and says that no lawful run has one of its messages
-//! or events altered. Each is the contract of a function that only calls other laws.
+//! Runs that are not lawful: a lawful run with one thing altered in a message, or in the answer to an event. Each law is the
+//! contract of a function that only calls other laws.
 
 ghost use Rattle.sv_component.specs.Steps.{steps_of};
 ghost use Rattle.sv_headline.specs.UnlawfulRuns.{AlteredEventsAreInNoRun, AlteredMessagesAreInNoRun, RunsAreLawfulInParts};
@@ -29,10 +29,11 @@ pub fn runs_are_lawful_in_parts<S: Servlet, F: Filter, L: Listener, W: Words>()
     just_one_case_holds();
 }
 
-/// Each event of a lawful run is lawful in the state to which the run has come. No lawful run that comes to this state
-/// answers the event with a session that expires in silence, with other notifications of a tick, or with the response of
-/// another request. None swallows the first message of the event, or refuses it as bytes that are no message (Jakarta
-/// Servlet 6.0, sections 7.5 and 11.3.4; RFC 9112, sections 2.2 and 9.2).
+/// Each event of a lawful run is lawful in the state to which the run has come. The run is lawful no more if a session
+/// expires in silence, if other notifications are made at a tick, if the first message of the event is swallowed, or
+/// refused as bytes that are no message, if the response of another request is sent, or if the items of its piece have other
+/// answers. It is not lawful whatever comes after that event (Jakarta Servlet 6.0, sections 7.5 and 11.3.4; RFC 9112,
+/// sections 2.2 and 9.2).
 pub fn altered_events_are_in_no_run<S: Servlet, F: Filter, L: Listener, W: Words>()
     ensures { AlteredEventsAreInNoRun (steps_of S.servlet_step F.filter_step L.listener_step) W.draws }
 {
