@@ -1,17 +1,17 @@
 -- The run of the command `audit`, from the files that a store gives.
-use Rattle.std.proofs.Common.{◌≡◌, ℕ, List, [], ◌∷◌, ◌++◌, map, flat_map, refl, subst, Option, Some, None, MatchOption, Result, Ok, Err, IsErrAnd}
+use Rattle.std.proofs.Common.{◌≡◌, ℕ, List, [], ◌∷◌, ◌++◌, flat_map, refl, subst, Option, Some, None, MatchOption, Result, Ok, Err, IsErrAnd}
 use Rattle.std.specs.Prelude.{IfErr, option_copied}
 use Rattle.sv_descriptor.specs.declared.server.Server.{Server}
 use Rattle.sv_program.specs.CommandFault.{UnlessNoMemory, command_fault}
 use Rattle.sv_program.specs.Configuration.{Step, server_in}
-use Rattle.sv_program.specs.ConfigurationFiles.{ReadsContexts, ReadsServer, context_readings, readings}
+use Rattle.sv_program.specs.ConfigurationFiles.{ReadsContexts, ReadsServer, context_readings}
 use Rattle.sv_program.specs.FileStore.{AreRead, FileText, Giving, Reading}
 use Rattle.sv_program.specs.declared.command_fault.CommandFault.{CommandFault}
 use Rattle.sv_program.specs.declared.command_fault.CommandFault.TheVariants.{Input, Output, File, Server as ServerFault, Descriptor, Users, Class, Files, Start, Socket, Script, User, Method, NoMemory, Findings}
 use Rattle.sv_program.specs.declared.configuration.ContextTexts.{ContextTexts}
 use Rattle.sv_program.specs.declared.unavailable.Unavailable.TheVariants.{Missing}
 use Rattle.sv_text.specs.Gives.{Gives}
-use Rattle.sv_audit_command.specs.AuditCommand.{Auditing, Audits, EndsBy, FindsReport, IsAudited, IsBeforeOutput, IsWritten, report_for}
+use Rattle.sv_audit_command.specs.AuditCommand.{Audits, EndsBy, FindsReport, IsAudited, IsBeforeOutput, IsWritten}
 use Rattle.sv_audit_command.specs.Report.{ReadsFurther, asked_readings, further_readings, report_on}
 use Rattle.sv_audit_command.specs.declared.further_files.FurtherFiles.{FurtherFiles}
 use Rattle.sv_audit_command.specs.declared.access_options.AccessOptions.{AccessOptions}

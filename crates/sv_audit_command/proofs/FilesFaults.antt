@@ -18,7 +18,7 @@ use Rattle.sv_program.specs.declared.configuration.ContextTexts.{ContextTexts}
 use Rattle.sv_audit_command.specs.AuditCommand.{report_for}
 use Rattle.sv_audit_command.specs.Audited.{audited_context}
 use Rattle.sv_audit_command.specs.Report.{asked_text, report_on}
-use Rattle.sv_audit_command.specs.Viewer.{check_user, check_viewer}
+use Rattle.sv_audit_command.specs.Viewer.{check_viewer}
 use Rattle.sv_audit_command.specs.declared.audited_context.AuditedContext.{AuditedContext}
 use Rattle.sv_audit_command.specs.declared.further_files.FurtherFiles.{FurtherFiles}
 use Rattle.sv_audit_command.specs.declared.access_options.AccessOptions.{AccessOptions}

@@ -1,4 +1,7 @@
 mod LineLemmas
+mod HeldLemmas
+mod NumberLemmas
+mod MappingLemmas
 mod LineLaw
 mod Steps
 mod FilesFaults

@@ -6,10 +6,10 @@ use Rattle.std.proofs.lemmas.Bool.{false≢true}
 use Rattle.toml.specs.Data.{Data, Members, get_member}
 use Rattle.sv_descriptor.specs.declared.fault.ValueStep.{ValueStep}
 use Rattle.sv_descriptor.specs.declared.fault.ValueStep.TheVariants.{Key, Item}
-use Rattle.sv_program.specs.FileLine.{BeginsAfter, IsFileLine, ends_from, line_count, line_ends, presence, presence_in, presence_to, table_of}
+use Rattle.sv_program.specs.FileLine.{IsFileLine, ends_from, line_ends, presence_in, table_of}
 use Rattle.sv_program.specs.Offending.{items, value_after, value_in}
 use Rattle.sv_program.specs.declared.limits.TheConstants.{MAX_LOCATED_BYTES}
-use Rattle.sv_audit_command.specs.ConstraintLines.{LinesAreRight, constraint_count, constraint_lines, count_of, has, headers_from, is_header, lacks, line_of, lines_of, located_lines}
+use Rattle.sv_audit_command.specs.ConstraintLines.{LinesAreRight, constraint_count, count_of, has, headers_from, is_header, lacks, line_of, lines_of, located_lines}
 use Rattle.sv_audit_command.specs.declared.descriptor_lines.Header.{Header}
 
 -- ---- Whether a file has a constraint at a place.

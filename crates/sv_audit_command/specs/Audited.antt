@@ -1,5 +1,5 @@
 -- A context of a server, from the texts of its descriptor and its users file.
-use Rattle.std.specs.Prelude.{ℕ, Bool, List, [], Option, Result, Ok, Err, is_some, if◌then◌else◌}
+use Rattle.std.specs.Prelude.{ℕ, Bool, List, [], Option, Ok, Err, is_some, if◌then◌else◌}
 use Rattle.sv_text.specs.Steps.{◌>>=◌}
 use Rattle.sv_audit.specs.Secure.{secure}
 use Rattle.sv_constraints.specs.declared.constraint.Constraint.{Constraint}
@@ -9,7 +9,9 @@ use Rattle.sv_program.specs.FileStore.{FileText}
 use Rattle.sv_program.specs.declared.configuration.ContextTexts.{ContextTexts}
 use Rattle.sv_realm.specs.declared.account.User.{User}
 use Rattle.sv_audit_command.specs.ConstraintLines.{constraint_lines}
+use Rattle.sv_audit_command.specs.Held.{held_in}
 use Rattle.sv_audit_command.specs.declared.audited_context.AuditedContext.{AuditedContext}
+use Rattle.sv_audit_command.specs.declared.audited_context.ContextUsers.{ContextUsers}
 use Rattle.sv_audit_command.specs.declared.audited_context.Source.{Source}
 
 -- The constraints for a connection whose transport is guaranteed, or for a plain one (section 13.8).
@@ -24,14 +26,18 @@ lines_in (Err why) = []
 abbrev pub source_of : ContextTexts → Source
 source_of texts = record { path = texts.context.path; file = texts.context.descriptor; lines = lines_in texts.descriptor }
 
-abbrev pub context_of : Bool → Source → WebApp → List User → AuditedContext
+abbrev pub context_users : ContextTexts → List User → ContextUsers
+context_users texts users = record { realm = users; held = held_in texts.context.users users }
+
+abbrev pub context_of : Bool → Source → WebApp → ContextUsers → AuditedContext
 context_of is_secure its_source app users = record {
   source = its_source;
   has_login = is_some app.login;
   constraints = constraints_over is_secure app.constraints;
   rules = app.rules;
   mappings = app.servlet_mappings;
-  realm = users;
+  realm = users.realm;
+  held = users.held;
 }
 
 -- The context, or the first fault of its descriptor and then of its users.
@@ -39,4 +45,4 @@ abbrev pub audited_context : Bool → ContextTexts → Step AuditedContext
 audited_context is_secure texts = do
   app ← descriptor_in texts
   users ← users_in texts
-  Ok (context_of is_secure (source_of texts) app users)
+  Ok (context_of is_secure (source_of texts) app (context_users texts users))

@@ -1,22 +1,18 @@
 -- What is reported of a context (Jakarta Servlet 6.0, section 13.8).
-use Rattle.std.specs.Prelude.{ℕ, false, List, [], map, Option, None}
+use Rattle.std.specs.Prelude.{ℕ, List, map, Option}
 use Rattle.sv_audit.specs.Findings.{findings_of}
 use Rattle.sv_audit.specs.Rows.{table_of}
 use Rattle.sv_audit.specs.declared.finding.Finding.{Finding}
-use Rattle.sv_audit.specs.declared.rows.Row.{Row}
 use Rattle.sv_audit.specs.declared.rows.Table.{Table}
 use Rattle.sv_report.specs.declared.report.ContextReport.{ContextReport}
 use Rattle.sv_report.specs.declared.report.ReportedFinding.{ReportedFinding}
-use Rattle.sv_report.specs.declared.report.ReportedRow.{ReportedRow}
 use Rattle.sv_audit_command.specs.Accepted as accepting
 use Rattle.sv_audit_command.specs.Key as finding_key
+use Rattle.sv_audit_command.specs.RowPaths.{reported_rows}
 use Rattle.sv_audit_command.specs.Viewer.{viewer_in}
 use Rattle.sv_audit_command.specs.declared.audited_context.AuditedContext.{AuditedContext}
 use Rattle.sv_audit_command.specs.declared.context_reports.Audit.{Audit}
 use Rattle.sv_audit_command.specs.declared.access_options.Asked.{Asked}
-
-abbrev pub reported_row : Row → ReportedRow
-reported_row its_row = record { row = its_row; example = None; servlet = None; narrower = record { patterns = []; are_all = false } }
 
 -- A finding of a context, given the text of the accepting file.
 abbrev pub reported_finding : AuditedContext → List ℕ → Finding → ReportedFinding
@@ -30,13 +26,13 @@ table_in context = table_of context.constraints context.rules
 
 -- The findings of a context, given the text of the accepting file.
 abbrev pub findings_in : AuditedContext → List ℕ → Table → List ReportedFinding
-findings_in context accepted table = map (reported_finding context accepted) (findings_of context.constraints context.rules table None)
+findings_in context accepted table = map (reported_finding context accepted) (findings_of context.constraints context.rules table context.held)
 
 -- What follows from its constraints.
 abbrev pub audit_of : Option Asked → List ℕ → AuditedContext → Audit
 audit_of asked accepted context = record {
   viewer = viewer_in asked context.realm;
-  rows = map reported_row (table_in context).rows;
+  rows = reported_rows context.constraints context.mappings (table_in context).rows;
   findings = findings_in context accepted (table_in context);
 }
 

@@ -1,9 +1,12 @@
 pub mod ConstraintLines
+pub mod Held
 pub mod Audited
 pub mod Viewer
 pub mod Kinds
 pub mod Accepted
+pub mod LineFile
 pub mod Key
+pub mod RowPaths
 pub mod ContextReports
 pub mod Report
 pub mod AuditCommand

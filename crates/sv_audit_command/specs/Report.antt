@@ -1,7 +1,7 @@
 -- The report of the command `audit`, from the texts of the files.
 use Rattle.std.specs.Prelude.{ℕ, Bool, not, ◌&&◌, List, [], ◌∷◌, ◌++◌, filter, length, map, Option, None, Some, Ok, option_copied}
 use Rattle.std.specs.List.{flat_map}
-use Rattle.sv_text.specs.Steps.{◌>>=◌, ◌>>◌}
+use Rattle.sv_text.specs.Steps.{◌>>=◌}
 use Rattle.sv_program.specs.Configuration.{Step, each, text_of}
 use Rattle.sv_program.specs.FileStore.{AreRead, FileText, Giving, Reading}
 use Rattle.sv_program.specs.declared.configuration.ContextTexts.{ContextTexts}
@@ -15,6 +15,7 @@ use Rattle.sv_report.specs.declared.report.ReportedFinding.{ReportedFinding}
 use Rattle.sv_audit_command.specs.Audited.{audited_context}
 use Rattle.sv_audit_command.specs.ContextReports.{context_report}
 use Rattle.sv_audit_command.specs.Kinds.{lists_kind}
+use Rattle.sv_audit_command.specs.LineFile.{located}
 use Rattle.sv_audit_command.specs.Viewer.{check_viewer}
 use Rattle.sv_audit_command.specs.declared.audited_context.AuditedContext.{AuditedContext}
 use Rattle.sv_audit_command.specs.declared.further_files.FurtherFiles.{FurtherFiles}
@@ -79,4 +80,4 @@ report_on options texts files = do
   accepted ← asked_text (option_copied options.accept) files.accept
   lines ← asked_text (option_copied options.lines) files.lines
   known ← check_viewer options.viewer contexts
-  Ok (report_of options accepted contexts)
+  Ok (report_of options accepted (located (option_copied options.lines) lines contexts))

@@ -11,6 +11,7 @@ use crate::audited_context::{AuditedContext, audited_contexts};
 use crate::context_reports::{Asking, context_reports};
 use crate::further_files::{FurtherFiles, asked_text};
 use crate::kinds::lists_kind;
+use crate::line_file::located;
 use crate::viewer::check_viewer;
 use std::alloc::Global;
 use sv_program::{CommandFault, ContextTexts};
@@ -43,8 +44,9 @@ pub(crate) fn report_on(
 {
     let contexts = audited_contexts(alloc, texts, options.is_secure)?;
     let accepted = asked_text(alloc, options.accept, &files.accept)?;
-    let _lines = asked_text(alloc, options.lines, &files.lines)?;
+    let lines = asked_text(alloc, options.lines, &files.lines)?;
     check_viewer(alloc, options.viewer, contexts.as_slice())?;
+    let contexts = located(alloc, options.lines, lines.as_str(), contexts)?;
     Ok(report_of(alloc, contexts, accepted.as_str(), options)?)
 }
 

@@ -6,6 +6,7 @@ ghost use Rattle.sv_program.specs.Configuration.{each};
 ghost use Rattle.sv_audit_command.specs.Audited as spec;
 
 use crate::descriptor_lines::constraint_lines;
+use crate::held::held_in;
 use std::alloc::Global;
 use sv_audit::without_transport;
 use sv_constraints::{Constraint, Rules};
@@ -29,6 +30,8 @@ pub(crate) struct AuditedContext {
     pub(crate) mappings: Listed<ServletMapping>,
     /// The users.
     pub(crate) realm: Realm,
+    /// The roles of the users, if the context names a users file.
+    pub(crate) held: Option<Listed<Text>>,
 }
 
 /// A descriptor, and the context that it describes.
@@ -73,7 +76,16 @@ fn audited_context(
     let web_app = descriptor_in(alloc, texts)?.into_web_app();
     let realm = realm_in(alloc, texts)?;
     let source = source_of(alloc, texts)?;
-    Ok(context_of(alloc, source, web_app, realm, is_secure)?)
+    let held = held_in(alloc, &texts.context.users, &realm)?;
+    let users = ContextUsers { realm, held };
+    Ok(context_of(alloc, source, web_app, users, is_secure)?)
+}
+
+/// The users of a context, and their roles.
+#[derive(Drop)]
+pub(crate) struct ContextUsers {
+    realm: Realm,
+    held: Option<Listed<Text>>,
 }
 
 /// Returns the context with this descriptor and these users.
@@ -81,10 +93,10 @@ fn context_of(
     alloc: Global,
     source: Source,
     web_app: WebApp,
-    realm: Realm,
+    users: ContextUsers,
     is_secure: bool,
 ) -> Result<AuditedContext, NoMemory>
-    ensures { GivesAnswer result (spec.context_of is_secure source web_app realm) }
+    ensures { GivesAnswer result (spec.context_of is_secure source web_app users) }
 {
     let has_login = web_app.login.is_some();
     let constraints = constraints_over(alloc, is_secure, web_app.constraints)?;
@@ -94,7 +106,8 @@ fn context_of(
         constraints,
         rules: web_app.rules,
         mappings: web_app.servlet_mappings,
-        realm,
+        realm: users.realm,
+        held: users.held,
     })
 }
 

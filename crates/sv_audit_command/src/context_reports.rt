@@ -1,6 +1,6 @@
 //! What is reported of contexts.
 
-ghost use Rattle.std.specs.Prelude.{◌≡◌, map};
+ghost use Rattle.std.specs.Prelude.{◌≡◌, map, option_copied};
 ghost use Rattle.sv_text.specs.Gives.{GivesAnswer};
 ghost use Rattle.sv_audit_command.specs.ContextReports as spec;
 
@@ -8,11 +8,12 @@ use crate::accepted::is_accepted;
 use crate::access_options::Asked;
 use crate::audited_context::AuditedContext;
 use crate::key::{constraint_of, key_of};
+use crate::row_paths::reported_rows;
 use crate::viewer::viewer_in;
 use std::alloc::Global;
-use sv_audit::{Finding, Narrower, Row, Table, findings_of, table_of};
+use sv_audit::{Finding, Table, findings_of, table_of};
 use sv_report::{ContextReport, ReportedFinding, ReportedRow, Viewer};
-use sv_text::{Listed, NoMemory};
+use sv_text::{Listed, NoMemory, Text};
 
 /// What is asked of contexts: the caller whose access is shown, and the text of the accepting file.
 #[derive(Clone, Copy)]
@@ -74,7 +75,7 @@ fn audit_of(alloc: Global, context: &AuditedContext, asking: Asking<'_>) -> Resu
     Ok(Audit {
         viewer: viewer_in(alloc, asking.viewer, &context.realm)?,
         findings: findings_in(alloc, context, asking.accepted, &table)?,
-        rows: reported_rows(alloc, table.rows)?,
+        rows: reported_rows(alloc, constraints, context.mappings.as_slice(), table.rows)?,
     })
 }
 
@@ -87,26 +88,18 @@ fn findings_in(
     ensures { GivesAnswer result (spec.findings_in context.now accepted.now table.now) }
 {
     let constraints = context.constraints.as_slice();
-    let findings = findings_of(alloc, constraints, &context.rules, table, None)?;
+    let held = held_texts(&context.held);
+    let findings = findings_of(alloc, constraints, &context.rules, table, held)?;
     reported_findings(alloc, context, accepted, findings)
 }
 
-fn reported_rows(alloc: Global, rows: Listed<Row>) -> Result<Listed<ReportedRow>, NoMemory>
-    ensures { GivesAnswer result (map spec.reported_row rows) }
+fn held_texts(held: &Option<Listed<Text>>) -> Option<&[Text]>
+    ensures { option_copied result ≡ held.now }
 {
-    let mut reported = Vec::new(alloc);
-    for row in rows.into_vec() {
-        reported.push(ReportedRow {
-            row,
-            example: None,
-            servlet: None,
-            narrower: Narrower {
-                patterns: Listed::from_vec(Vec::new(alloc)),
-                are_all: false,
-            },
-        })?;
+    match held {
+        Some(held) => Some(held.as_slice()),
+        None => None,
     }
-    Ok(Listed::from_vec(reported))
 }
 
 fn reported_findings(

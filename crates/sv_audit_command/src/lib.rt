@@ -9,8 +9,11 @@ mod audited_context;
 mod context_reports;
 mod descriptor_lines;
 mod further_files;
+mod held;
 mod key;
 mod kinds;
+mod line_file;
+mod row_paths;
 mod viewer;
 
 pub use access_options::{AccessOptions, Asked, Format};

@@ -1,0 +1,31 @@
+-- The servlets of mappings, and the rows of patterns.
+use Rattle.std.proofs.Common.{◌≡◌, ◌∙◌, ℕ, ◌+◌, ◌<◌, List, [], ◌∷◌, ◌++◌, length, map, get_or, take, ap, subst, sym}
+use Rattle.std.proofs.lemmas.List.{append-nil, take_more}
+use Rattle.std.proofs.lemmas.List.Concat.{flat_map-append}
+use Rattle.sv_descriptor.specs.declared.servlet.ServletMapping.{ServletMapping}
+use Rattle.sv_audit.specs.declared.rows.Row.{Row}
+use Rattle.sv_report.specs.declared.report.ReportedRow.{ReportedRow}
+use Rattle.sv_audit_command.specs.RowPaths.{names_of, reported_row, servlet_names}
+use Rattle.sv_audit_command.specs.declared.row_paths.ContextPatterns.{ContextPatterns}
+
+-- The names of one more mapping.
+pub names_more : (mappings : List ServletMapping) (i : ℕ) (mapping : ServletMapping) (before after : List (List ℕ)) (name : List ℕ) (patterns : List (List ℕ))
+    → i < length mappings → mapping ≡ get_or mappings i mapping → before ≡ servlet_names (take i mappings) → name ≡ mapping.servlet_name → patterns ≡ mapping.url_patterns
+    → after ≡ before ++ map (λ pattern. name) patterns → after ≡ servlet_names (take (i + 1) mappings)
+names_more mappings i mapping before after name patterns within is so_far its listed more =
+    more
+    ∙ (ap (λ front. front ++ map (λ pattern. name) patterns) so_far
+    ∙ (ap (λ n. servlet_names (take i mappings) ++ map (λ pattern. n) patterns) its
+    ∙ (ap (λ ps. servlet_names (take i mappings) ++ map (λ pattern. mapping.servlet_name) ps) listed
+    ∙ (ap (λ m. servlet_names (take i mappings) ++ names_of m) is
+    ∙ sym (ap servlet_names (take_more mappings i mapping within)
+    ∙ (flat_map-append names_of (take i mappings) (get_or mappings i mapping ∷ [])
+    ∙ ap (λ tail. servlet_names (take i mappings) ++ tail) (append-nil (names_of (get_or mappings i mapping)))))))))
+
+-- The same rows of the same patterns.
+pub same_rows : (Is : List ReportedRow → Type 0) (found made : ContextPatterns) (others texts : List (List ℕ)) (rows : List Row) → found ≡ made → others ≡ texts
+    → Is (map (reported_row found others) rows) → Is (map (reported_row made texts) rows)
+same_rows Is found made others texts rows patterns_are others_are is =
+    let of_made : ContextPatterns → Type 0 = λ patterns. Is (map (reported_row patterns texts) rows) in
+    let of_texts : List (List ℕ) → Type 0 = λ listed. Is (map (reported_row found listed) rows) in
+    subst of_made patterns_are (subst of_texts others_are is)

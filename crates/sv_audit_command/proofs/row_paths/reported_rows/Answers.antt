@@ -1,0 +1,12 @@
+use Rattle.std.proofs.Common.{◌∙◌, ap, map}
+use Rattle.sv_text.specs.Gives.{GivesAnswer}
+use Rattle.sv_audit_command.specs.RowPaths.{context_patterns, row_patterns}
+use Rattle.sv_audit_command.proofs.MappingLemmas.{same_rows}
+use Rattle.sv_audit_command.proofs.row_paths.reported_rows.Goals as goal
+
+pub returns : goal.returns
+returns c =
+    same_rows (λ rows. GivesAnswer c.rows_with.result rows) c.in_ok-patterns.patterns (context_patterns c.args.constraints.now c.args.mappings.now)
+    (map (λ other. other.now) c.as_slice-3.result.now) (row_patterns c.args.rows) c.args.rows c.in_ok-patterns.ensures
+    (ap (map (λ other. other.now)) c.as_slice-3.ensures.value ∙ c.in_ok-others.ensures ∙ c.as_slice-2.ensures ∙ c.in_ok-texts.ensures ∙ ap row_patterns c.as_slice.ensures)
+    c.rows_with.ensures

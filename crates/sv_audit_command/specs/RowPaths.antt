@@ -1,0 +1,69 @@
+-- What is reported with the rows of an access table (Jakarta Servlet 6.0, sections 12.1 and 13.8).
+use Rattle.std.specs.Prelude.{ℕ, false, nat_lt, List, [], length, map, slice_get, Option, None, Some, option_and_then, if◌then◌else◌}
+use Rattle.std.specs.List.{flat_map}
+use Rattle.std.specs.Option.{option_to_list}
+use Rattle.sv_audit.specs.Examples as examples
+use Rattle.sv_audit.specs.Narrower.{narrower}
+use Rattle.sv_audit.specs.declared.narrower_patterns.Narrower.{Narrower}
+use Rattle.sv_audit.specs.declared.rows.Row.{Row}
+use Rattle.sv_constraints.specs.Covering.{all_patterns}
+use Rattle.sv_constraints.specs.declared.constraint.Constraint.{Constraint}
+use Rattle.sv_descriptor.specs.declared.servlet.ServletMapping.{ServletMapping}
+use Rattle.sv_mapping.specs.BestMatch.{best}
+use Rattle.sv_report.specs.declared.report.ReportedRow.{ReportedRow}
+use Rattle.sv_audit_command.specs.declared.row_paths.ContextPatterns.{ContextPatterns}
+use Rattle.sv_audit_command.specs.declared.row_paths.TheConstants.{MAX_COMPARED_PATTERNS, MAX_NARROWER}
+
+-- The patterns of servlet mappings, in order.
+abbrev pub mapped_patterns : List ServletMapping → List (List ℕ)
+mapped_patterns mappings = flat_map (λ mapping. mapping.url_patterns) mappings
+
+-- The name of the servlet, once for each pattern.
+abbrev pub names_of : ServletMapping → List (List ℕ)
+names_of mapping = map (λ pattern. mapping.servlet_name) mapping.url_patterns
+
+abbrev pub servlet_names : List ServletMapping → List (List ℕ)
+servlet_names mappings = flat_map names_of mappings
+
+abbrev pub context_patterns : List Constraint → List ServletMapping → ContextPatterns
+context_patterns its_constraints mappings = record {
+  constraints = all_patterns its_constraints;
+  servlets = mapped_patterns mappings;
+  names = servlet_names mappings;
+}
+
+abbrev pub name_at : List (List ℕ) → ℕ → Option (List ℕ)
+name_at names place = slice_get names place
+
+-- The name of the servlet whose pattern is the best match of the path; none if none matches.
+abbrev pub servlet_at : ContextPatterns → List ℕ → Option (List ℕ)
+servlet_at patterns path = option_and_then (name_at patterns.names) (best patterns.servlets path)
+
+abbrev pub servlet_of : ContextPatterns → Option (List ℕ) → Option (List ℕ)
+servlet_of patterns path = option_and_then (servlet_at patterns) path
+
+abbrev pub none_listed : Narrower
+none_listed = record { patterns = []; are_all = false }
+
+-- The first patterns that are chosen before this one, unless the table is large.
+abbrev pub narrower_in : List (List ℕ) → List ℕ → Narrower
+narrower_in others pattern = if nat_lt MAX_COMPARED_PATTERNS (length others) then none_listed else narrower others pattern MAX_NARROWER
+
+abbrev pub narrower_of : List (List ℕ) → Option (List ℕ) → Narrower
+narrower_of others None = none_listed
+narrower_of others (Some pattern) = narrower_in others pattern
+
+-- A row with an example, the servlet that answers it, and the patterns that are chosen before that of the row.
+abbrev pub reported_row : ContextPatterns → List (List ℕ) → Row → ReportedRow
+reported_row patterns others its_row = record {
+  row = its_row;
+  example = examples.example patterns.constraints its_row.pattern;
+  servlet = servlet_of patterns (examples.example patterns.constraints its_row.pattern);
+  narrower = narrower_of others its_row.pattern;
+}
+
+abbrev pub row_patterns : List Row → List (List ℕ)
+row_patterns rows = flat_map (λ row. option_to_list row.pattern) rows
+
+abbrev pub reported_rows : List Constraint → List ServletMapping → List Row → List ReportedRow
+reported_rows constraints mappings rows = map (reported_row (context_patterns constraints mappings) (row_patterns rows)) rows
