@@ -33,7 +33,7 @@ abbrev pub audit_of : Option Asked → List ℕ → AuditedContext → Audit
 audit_of asked accepted context = record {
   viewer = viewer_in asked context.realm;
   rows = map reported_row (table_in context).rows;
-  findings = map (reported_finding context accepted) (findings_of context.constraints context.rules (table_in context));
+  findings = map (reported_finding context accepted) (findings_of context.constraints context.rules (table_in context) None);
 }
 
 abbrev pub context_report : Option Asked → List ℕ → AuditedContext → ContextReport

@@ -3,7 +3,7 @@ use Rattle.std.specs.Prelude.{ℕ, Bool, List, [], ◌∷◌, ◌++◌, codes, f
 use Rattle.std.specs.List.{flat_map, list_any}
 use Rattle.std.specs.Option.{option_map, option_map_or}
 use Rattle.sv_audit.specs.declared.finding.Finding.{Finding}
-use Rattle.sv_audit.specs.declared.finding.Finding.TheVariants.{Uncovered, Dead, UnknownRole, HeadDiffers}
+use Rattle.sv_audit.specs.declared.finding.Finding.TheVariants.{Opened, Uncovered, HeadDiffers, Dead, DeadPattern, Escaped, UnknownRole, UnheldRole, UnusedRole}
 use Rattle.sv_constraints.specs.Covering.{lists}
 use Rattle.sv_constraints.specs.declared.constraint.Constraint.{Constraint}
 use Rattle.sv_constraints.specs.declared.constraint.Methods.{Methods}
@@ -35,10 +35,15 @@ uncovered_subject pattern methods = pattern_word pattern ++ codes " " ++ methods
 
 -- What the finding is about: a pattern with methods, a pattern, the patterns of a constraint, or a role.
 abbrev pub subject : List Constraint → Finding → List ℕ
+subject constraints (Opened pattern number other) = pattern_word pattern
 subject constraints (Uncovered pattern methods) = uncovered_subject pattern methods
 subject constraints (HeadDiffers pattern) = pattern_word pattern
 subject constraints (Dead number) = patterns_text constraints number
+subject constraints (DeadPattern number pattern) = pattern_word pattern
+subject constraints (Escaped number pattern) = pattern_word pattern
 subject constraints (UnknownRole number role) = role
+subject constraints (UnheldRole role) = role
+subject constraints (UnusedRole role) = role
 
 -- `CONTEXT KIND SUBJECT`, on one line.
 abbrev pub key_of : List ℕ → List Constraint → Finding → List ℕ
@@ -53,7 +58,12 @@ first_with constraints pattern = option_map (λ constraint. constraint.number) (
 
 -- The constraint to change: that of the finding, or the first one that has its pattern.
 abbrev pub constraint_of : List Constraint → Finding → Option ℕ
+constraint_of constraints (Opened pattern number other) = Some number
 constraint_of constraints (Uncovered pattern methods) = first_with constraints pattern
 constraint_of constraints (HeadDiffers pattern) = first_with constraints pattern
 constraint_of constraints (Dead number) = Some number
+constraint_of constraints (DeadPattern number pattern) = Some number
+constraint_of constraints (Escaped number pattern) = Some number
 constraint_of constraints (UnknownRole number role) = Some number
+constraint_of constraints (UnheldRole role) = None
+constraint_of constraints (UnusedRole role) = None

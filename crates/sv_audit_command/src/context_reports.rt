@@ -71,7 +71,7 @@ fn audit_of(alloc: Global, context: &AuditedContext, asking: Asking<'_>) -> Resu
 {
     let constraints = context.constraints.as_slice();
     let table = table_of(alloc, constraints, &context.rules)?;
-    let findings = findings_of(alloc, constraints, &context.rules, &table)?;
+    let findings = findings_of(alloc, constraints, &context.rules, &table, None)?;
     let rows = reported_rows(alloc, table.rows)?;
     let findings = reported_findings(alloc, context, asking.accepted, findings)?;
     let viewer = viewer_in(alloc, asking.viewer, &context.realm)?;

@@ -44,11 +44,28 @@ fn push_subject(
     ensures { OnOk result (string_bytes key.new ≡ string_bytes key.old ++ spec.subject constraints.now finding.now) }
 {
     match finding {
+        Finding::Opened(pattern, _, _) => push_pattern(key, pattern.as_str()),
         Finding::Uncovered(pattern, methods) => push_uncovered(key, pattern.as_str(), methods),
-        Finding::HeadDiffers(pattern) => Ok(key.push_str(pattern_word(pattern.as_str()))?),
+        Finding::HeadDiffers(pattern) => push_pattern(key, pattern.as_str()),
         Finding::Dead(number) => push_patterns_of(key, alloc, constraints, *number),
-        Finding::UnknownRole(_, role) => Ok(key.push_str(role.as_str())?),
+        Finding::DeadPattern(_, pattern) => push_pattern(key, pattern.as_str()),
+        Finding::Escaped(_, pattern) => push_pattern(key, pattern.as_str()),
+        Finding::UnknownRole(_, role) => push_role(key, role.as_str()),
+        Finding::UnheldRole(role) => push_role(key, role.as_str()),
+        Finding::UnusedRole(role) => push_role(key, role.as_str()),
     }
+}
+
+fn push_pattern(key: &mut String, pattern: &str) -> Result<(), NoMemory>
+    ensures { OnOk result (string_bytes key.new ≡ string_bytes key.old ++ spec.pattern_word pattern.now) }
+{
+    Ok(key.push_str(pattern_word(pattern))?)
+}
+
+fn push_role(key: &mut String, role: &str) -> Result<(), NoMemory>
+    ensures { OnOk result (string_bytes key.new ≡ string_bytes key.old ++ role.now) }
+{
+    Ok(key.push_str(role)?)
 }
 
 /// Returns the pattern, or two quotation marks for the empty one.
@@ -61,7 +78,7 @@ fn pattern_word(pattern: &str) -> &str
 fn push_uncovered(key: &mut String, pattern: &str, methods: &Methods) -> Result<(), NoMemory>
     ensures { OnOk result (string_bytes key.new ≡ string_bytes key.old ++ spec.uncovered_subject pattern.now methods.now) }
 {
-    key.push_str(pattern_word(pattern))?;
+    push_pattern(key, pattern)?;
     key.push_str(" ")?;
     push_methods(key, methods)
 }
@@ -155,15 +172,21 @@ fn push_pattern_words(
     Ok(())
 }
 
-/// Returns the number of the constraint to change: that of the finding, or the first one that has its pattern.
+/// Returns the number of the constraint to change: that of the finding, or the first one that has its pattern. A
+/// role that is not held or not used has none.
 pub(crate) fn constraint_of(constraints: &[Constraint], finding: &Finding) -> Option<u64>
     ensures { result ≡ spec.constraint_of constraints.now finding.now }
 {
     match finding {
+        Finding::Opened(_, number, _) => Some(*number),
         Finding::Uncovered(pattern, _) => first_with(constraints, pattern.as_str()),
         Finding::HeadDiffers(pattern) => first_with(constraints, pattern.as_str()),
         Finding::Dead(number) => Some(*number),
+        Finding::DeadPattern(number, _) => Some(*number),
+        Finding::Escaped(number, _) => Some(*number),
         Finding::UnknownRole(number, _) => Some(*number),
+        Finding::UnheldRole(_) => None,
+        Finding::UnusedRole(_) => None,
     }
 }
 
