@@ -28,12 +28,16 @@ reported_finding context accepted its_finding =
 abbrev pub table_in : AuditedContext → Table
 table_in context = table_of context.constraints context.rules
 
+-- The findings of a context, given the text of the accepting file.
+abbrev pub findings_in : AuditedContext → List ℕ → Table → List ReportedFinding
+findings_in context accepted table = map (reported_finding context accepted) (findings_of context.constraints context.rules table None)
+
 -- What follows from its constraints.
 abbrev pub audit_of : Option Asked → List ℕ → AuditedContext → Audit
 audit_of asked accepted context = record {
   viewer = viewer_in asked context.realm;
   rows = map reported_row (table_in context).rows;
-  findings = map (reported_finding context accepted) (findings_of context.constraints context.rules (table_in context) None);
+  findings = findings_in context accepted (table_in context);
 }
 
 abbrev pub context_report : Option Asked → List ℕ → AuditedContext → ContextReport

@@ -10,8 +10,8 @@ use crate::audited_context::AuditedContext;
 use crate::key::{constraint_of, key_of};
 use crate::viewer::viewer_in;
 use std::alloc::Global;
-use sv_audit::{Finding, Row, findings_of, table_of};
-use sv_report::{ContextReport, Narrower, ReportedFinding, ReportedRow, Viewer};
+use sv_audit::{Finding, Narrower, Row, Table, findings_of, table_of};
+use sv_report::{ContextReport, ReportedFinding, ReportedRow, Viewer};
 use sv_text::{Listed, NoMemory};
 
 /// What is asked of contexts: the caller whose access is shown, and the text of the accepting file.
@@ -71,15 +71,24 @@ fn audit_of(alloc: Global, context: &AuditedContext, asking: Asking<'_>) -> Resu
 {
     let constraints = context.constraints.as_slice();
     let table = table_of(alloc, constraints, &context.rules)?;
-    let findings = findings_of(alloc, constraints, &context.rules, &table, None)?;
-    let rows = reported_rows(alloc, table.rows)?;
-    let findings = reported_findings(alloc, context, asking.accepted, findings)?;
-    let viewer = viewer_in(alloc, asking.viewer, &context.realm)?;
     Ok(Audit {
-        viewer,
-        rows,
-        findings,
+        viewer: viewer_in(alloc, asking.viewer, &context.realm)?,
+        findings: findings_in(alloc, context, asking.accepted, &table)?,
+        rows: reported_rows(alloc, table.rows)?,
     })
+}
+
+fn findings_in(
+    alloc: Global,
+    context: &AuditedContext,
+    accepted: &str,
+    table: &Table,
+) -> Result<Listed<ReportedFinding>, NoMemory>
+    ensures { GivesAnswer result (spec.findings_in context.now accepted.now table.now) }
+{
+    let constraints = context.constraints.as_slice();
+    let findings = findings_of(alloc, constraints, &context.rules, table, None)?;
+    reported_findings(alloc, context, accepted, findings)
 }
 
 fn reported_rows(alloc: Global, rows: Listed<Row>) -> Result<Listed<ReportedRow>, NoMemory>
