@@ -12,7 +12,8 @@ use sv_program::{CommandFault, FileStore, print_text, read_contexts, read_server
 
 /// Reads the server file of this name, then the descriptor and the users file of each of its contexts, then the
 /// accepting file and the file of lines, and writes who may reach what (Jakarta Servlet 6.0, section 13.8). Names in the
-/// server file are relative to its folder. No other file is read.
+/// server file are relative to its folder. No other file is read. A file of lines locates the constraints of the first
+/// context: its first line names their file, and the next ones are the lines on which they begin in it.
 ///
 /// # Errors
 /// The first fault: [`CommandFault::File`] or [`CommandFault::Server`] for the server file, then
