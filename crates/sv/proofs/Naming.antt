@@ -1,5 +1,7 @@
 -- Arguments that name a command.
-use Rattle.std.proofs.Common.{◌≡◌, ℕ, List, ◌∷◌, Option, Some, None, codes, inl, inr, refl, sym, ap, subst, drop, ◌∙◌}
+use Rattle.std.proofs.Common.{◌≡◌, ℕ, Bool, false, List, ◌∷◌, Option, Some, None, codes, inl, inr, refl, sym, ap, subst, drop, ◌∙◌}
+use Rattle.std.proofs.lemmas.Bool.{false≢true}
+use Rattle.std.specs.Str.{bytes_eq}
 use Rattle.sv.proofs.Decoding.{same_heads}
 use Rattle.sv.specs.Command.{AreWordsOf, AskForHelp, IsNamed}
 use Rattle.sv.specs.declared.command.Command.{Command}
@@ -29,19 +31,24 @@ module _ (words : List (List ℕ)) where
   only_run none Version (word, same, inl is) = cc
   only_run none Version (word, same, inr is) = cc
 
+  other_name : (name : List ℕ) (others : List (List ℕ)) → codes "audit" ∷ words ≡ name ∷ others → bytes_eq name (codes "audit") ≡ false → ⊥
+  other_name name others same other =
+      let Same : List ℕ → Bool = λ word. bytes_eq word (codes "audit") in
+      false≢true (sym other ∙ ap Same (sym (same_heads (codes "audit") name words others same).0))
+
   pub only_audit : ((any : AuditOptions) → IsAudit words any → ⊥) → (command : Command) → AreWordsOf (codes "audit" ∷ words) command → ⊥
-  only_audit none (First deny) is = cc
-  only_audit none (Policy question) is = cc
-  only_audit none (Uncovered config) is = cc
+  only_audit none (First deny) is = other_name (codes "first") _ is refl
+  only_audit none (Policy question) is = other_name (codes "policy") _ is refl
+  only_audit none (Uncovered config) is = other_name (codes "uncovered") _ is refl
   only_audit none (Audit options) (rest, same, asked) =
       none options (subst (λ w. IsAudit w options) (sym (ap (drop 1) same)) asked)
-  only_audit none (Replay config) is = cc
-  only_audit none (Serve service) is = cc
-  only_audit none (Run options) (rest, same, asked) = cc
-  only_audit none (SelfTest config) is = cc
+  only_audit none (Replay config) is = other_name (codes "replay") _ is refl
+  only_audit none (Serve service) is = other_name (codes "serve") _ is refl
+  only_audit none (Run options) (rest, same, asked) = other_name (codes "run") rest same refl
+  only_audit none (SelfTest config) is = other_name (codes "selftest") _ is refl
   only_audit none (Help about) is = is
-  only_audit none Version (word, same, inl is) = cc
-  only_audit none Version (word, same, inr is) = cc
+  only_audit none Version (word, same, inl is) = other_name word _ same (ap (λ (name : List ℕ). bytes_eq name (codes "audit")) is)
+  only_audit none Version (word, same, inr is) = other_name word _ same (ap (λ (name : List ℕ). bytes_eq name (codes "audit")) is)
 
 module _ (word : List ℕ) (rest words : List (List ℕ)) (same : words ≡ word ∷ rest) (none : (topic : Topic) → IsCalled word topic → ⊥) where
   begins : (name : List ℕ) (others : List (List ℕ)) → words ≡ name ∷ others → word ≡ name

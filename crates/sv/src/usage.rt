@@ -154,9 +154,21 @@ fn near_option(alloc: Global, set: OptionSet, word: &str) -> Result<Option<&'sta
     ensures { IfOk result (λ found. option_copied found ≡ near (option_words set) word.now) }
 {
     match set {
-        OptionSet::Run => nearest(alloc, &RUN_OPTIONS, word),
-        OptionSet::Audit => nearest(alloc, &AUDIT_OPTIONS, word),
+        OptionSet::Run => near_run_option(alloc, word),
+        OptionSet::Audit => near_audit_option(alloc, word),
     }
+}
+
+fn near_run_option(alloc: Global, word: &str) -> Result<Option<&'static str>, NoMemory>
+    ensures { IfOk result (λ found. option_copied found ≡ near (option_words OptionSet.Run) word.now) }
+{
+    nearest(alloc, &RUN_OPTIONS, word)
+}
+
+fn near_audit_option(alloc: Global, word: &str) -> Result<Option<&'static str>, NoMemory>
+    ensures { IfOk result (λ found. option_copied found ≡ near (option_words OptionSet.Audit) word.now) }
+{
+    nearest(alloc, &AUDIT_OPTIONS, word)
 }
 
 /// Returns the question whether the near name is meant, or else where the names are listed.

@@ -14,4 +14,4 @@ returns c =
     (hint (near (option_words c.args.set) c.args.word.now) (options_listing c.args.set)) c.in_ok-word.word c.in_ok-hint.hint
     c.in_ok-word.ensures
     (c.in_ok-hint.ensures ∙ ap (λ (name : Option (List ℕ)). hint name c.listing.result.now) c.in_ok-name.ensures
-      ∙ ap (λ (listing : List ℕ). hint (near (option_words c.args.set) c.args.word.now) listing) c.listing.ensures)
+    ∙ ap (λ (listing : List ℕ). hint (near (option_words c.args.set) c.args.word.now) listing) c.listing.ensures)
