@@ -9,7 +9,7 @@ use Rattle.sv_program.specs.Shown.{quoted}
 pub returns : goal.returns
 returns c =
     c.from_string.ensures ∙ c.in_ok-format.ensures.ok
-    ∙ ap (λ (front : List ℕ). front ++ (c.in_ok-word.word ++ (codes "; " ++ c.in_ok-hint.hint))) c.no_option.ensures
+    ∙ ap (λ (front : List ℕ). front ++ (c.in_ok-word.word ++ (codes "; " ++ c.in_ok-hint.hint))) c.no_option-front.ensures
     ∙ joined (no_option c.args.set) (quoted c.args.word.now) (codes "; ")
     (hint (near (option_words c.args.set) c.args.word.now) (options_listing c.args.set)) c.in_ok-word.word c.in_ok-hint.hint
     c.in_ok-word.ensures
