@@ -46,7 +46,7 @@ pub enum Key {
     FailOn,
     /// `--accept FILE`: the name of the file of accepted findings.
     Accept,
-    /// `--lines FILE`: the name of the file that gives each pattern its line.
+    /// `--lines FILE`: the name of the file of the lines on which the constraints of an imported descriptor begin.
     Lines,
 }
 
