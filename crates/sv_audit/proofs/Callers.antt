@@ -12,7 +12,7 @@ use Rattle.sv_constraints.specs.declared.cause.Cause.TheVariants as cause
 use Rattle.sv_policy.proofs.Best.{or_right}
 use Rattle.sv_policy.proofs.Grouping.{or_none, turned}
 use Rattle.sv_policy.proofs.Steps.{any_same}
-use Rattle.sv_audit.specs.Findings.{is_closed, is_open, same_callers, same_logins}
+use Rattle.sv_audit.specs.Callers.{is_closed, is_open, same_callers, same_logins}
 use Rattle.sv_audit.specs.Reading.{Kind, Passes, NeedsLogin, IsDenied, said_to}
 use Rattle.sv_audit.specs.declared.access.Access.{Access}
 use Rattle.sv_audit.specs.declared.access.Access.TheVariants.{Unconstrained, Uncovered, UncoveredDenied, Precluded, NeedsTls, Everyone, AnyLogin, Roles}

@@ -19,8 +19,8 @@ use Rattle.sv_mapping.specs.Within.{path_within}
 use Rattle.sv_uri.specs.Canonical.{begins_with_slash}
 use Rattle.sv_uri.specs.Segment.{is_empty}
 use Rattle.sv_uri.specs.Shape.{CanonicalHasShape, IsCanonicalPath, folders_of, is_dot_segment, may_stand_in_a_path}
-use Rattle.sv_audit.specs.Dead.{form_matches_nothing, has_dot_segment, has_empty_folder, is_misshapen, is_no_extension, matches_nothing}
-use Rattle.sv_audit.specs.FindingLaws.{IsServed}
+use Rattle.sv_audit.specs.Shapes.{form_matches_nothing, has_dot_segment, has_empty_folder, is_misshapen, is_no_extension, matches_nothing}
+use Rattle.sv_audit.specs.Shapes.{IsServed}
 
 -- What a canonical path and a path within a context have in common.
 pub record IsShaped (path : List ℕ) : Type 0 where

@@ -1,12 +1,12 @@
+pub mod Shapes
 pub mod Same
 pub mod Access
 pub mod Rows
 pub mod Reading
 pub mod Secure
-pub mod Dead
-pub mod Opened
-pub mod RoleFindings
-pub mod Findings
-pub mod FindingLaws
 pub mod Examples
 pub mod Narrower
+pub mod Callers
+pub mod Representatives
+pub mod Differences
+pub mod DifferenceLaws

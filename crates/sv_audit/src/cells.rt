@@ -15,7 +15,7 @@ use sv_text::{NoMemory, copied_texts};
 pub fn cell_at(alloc: Global, rules: &Rules, members: &[&Constraint]) -> Result<Cell, NoMemory>
     ensures { (pattern : List ℕ) → GivesAnswer result (cell_at rules.now (Some pattern) (map (λ member. member.now) members.now)) }
 {
-    let found = findings_of(rules, members);
+    let found = covering_findings(rules, members);
     match found_cell(rules, found) {
         Some(cell) => Ok(cell),
         None => Ok(Cell {
@@ -26,7 +26,7 @@ pub fn cell_at(alloc: Global, rules: &Rules, members: &[&Constraint]) -> Result<
 }
 
 /// Returns the findings for constraints without a caller.
-pub fn findings_of(rules: &Rules, members: &[&Constraint]) -> Findings
+pub fn covering_findings(rules: &Rules, members: &[&Constraint]) -> Findings
     ensures { result ≡ findings_of rules.now None (map (λ member. member.now) members.now) }
 {
     one_more_is_found();

@@ -1,9 +1,10 @@
-//! Theorems about access tables, each the contract of a function that only calls other theorems.
+//! Theorems about access tables and their differences, each the contract of a function that only calls other theorems.
 
+ghost use Rattle.sv_audit.specs.DifferenceLaws.{DifferencesAreComplete, DifferencesAreRight};
 ghost use Rattle.sv_audit.specs.Examples.{ExamplesAreRight};
-ghost use Rattle.sv_audit.specs.FindingLaws.{DeadIsFound, FindingsAreRight, HeadIsFound, OpenedIsFound, UncoveredIsFound};
 ghost use Rattle.sv_audit.specs.Narrower.{NarrowerAreComplete, NarrowerAreSound};
 ghost use Rattle.sv_audit.specs.Reading.{NumbersAreRight, ServedPathsAreRooted, TablesAreRight};
+ghost use Rattle.sv_audit.specs.Representatives.{EachPathIsRepresented};
 ghost use Rattle.sv_audit.specs.Secure.{OnlyTransportChanges};
 
 use sv_mapping::laws::{best_exists, best_is_a_match};
@@ -20,30 +21,6 @@ pub fn tables_are_right()
     best_exists();
     best_is_a_match();
     best_is_of_texts();
-}
-
-/// Each finding of constraints and their table is right. With some method at an opened pattern everyone passes, although
-/// a constraint with an authorization constraint covers it. The methods of an uncovered finding pass at each path of its
-/// pattern, since they are uncovered. Where GET and HEAD differ, there is a caller, or a request without one, that passes
-/// with one of them and not with the other, or is asked to log in only for one. A dead constraint covers no request, and a
-/// dead pattern is the best match of no canonical path. An unknown role is named and not declared, an unheld one is named
-/// and no user has it, and an unused one is declared and not named.
-pub fn findings_are_right()
-    ensures { FindingsAreRight }
-{
-    canonical_has_shape();
-}
-
-/// No pattern is missed at which a constraint opens methods to everyone that another one restricts. Unless uncovered
-/// methods are denied, none is missed at a pattern of the constraints at which another method is covered. No difference
-/// between GET and HEAD is missed, and no pattern that decides nothing.
-pub fn findings_are_complete()
-    ensures opened { OpenedIsFound }
-    ensures uncovered { UncoveredIsFound }
-    ensures heads { HeadIsFound }
-    ensures dead { DeadIsFound }
-{
-    best_is_a_match();
 }
 
 /// Dropping the transport requirements changes only decisions about the transport, and no decision is about it
@@ -71,4 +48,28 @@ pub fn narrower_patterns_are_exact()
     ensures sound { NarrowerAreSound }
 {
     best_is_a_match();
+}
+
+/// Each path that is empty or begins with a slash has a representative with the same best match.
+pub fn each_path_is_represented()
+    ensures { EachPathIsRepresented }
+{}
+
+/// Each difference of the tables of two configurations is right: its path is in both of its rows, it has methods, and its
+/// accesses say what the constraints decide on all requests with a path of both rows and one of the methods. There is a
+/// caller, or a request without one, for whom all of these decisions differ.
+pub fn differences_are_right()
+    ensures { DifferencesAreRight }
+{
+    tables_are_right();
+    best_is_of_texts();
+}
+
+/// No difference is missed: a request that passes, needs a login or is denied before, and does not so after, has the rows
+/// and the method of a difference.
+pub fn differences_are_complete()
+    ensures { DifferencesAreComplete }
+{
+    tables_are_right();
+    best_is_of_texts();
 }

@@ -1,41 +1,49 @@
 //! Access tables: which methods the security constraints of a context open to whom, by URL pattern (Jakarta Servlet
-//! 6.0, section 13.8). A table says of every path, method and caller what the constraints decide. Its findings say what
-//! was probably left open by mistake, or has no effect. Each of its rows has an example, and the patterns that are
-//! chosen before it.
+//! 6.0, section 13.8). A table says of every path, method and caller what the constraints decide. Each of its rows has an
+//! example, and the patterns that are chosen before it. Two tables have differences: the requests that they decide
+//! differently.
 #![tactic(auto)]
 
 mod access;
+mod caller_comparison;
 mod cells;
 mod coverage;
-mod dead;
+mod difference;
 mod examples;
-mod finding;
-mod findings;
 mod forms;
 mod groups;
 mod laws;
+mod meetings;
+mod method_sets;
 mod narrower_patterns;
 mod narrowing;
-mod opened;
+mod order;
+mod path_shapes;
 mod patterns;
-mod role_findings;
+mod representatives;
 mod roles;
+mod row_differences;
 mod rows;
-mod same_callers;
 mod secure;
-mod sorted;
 mod tables;
 
 pub use access::{Access, Cell};
+pub use caller_comparison::same_callers;
+pub use cells::covering_findings;
+pub use coverage::covering;
+pub use difference::Difference;
 pub use examples::example_of;
-pub use finding::Finding;
-pub use findings::findings_of;
 pub use laws::{
-    examples_are_right, findings_are_complete, findings_are_right, narrower_patterns_are_exact,
-    only_transport_changes, served_paths_are_rooted, tables_are_right,
+    differences_are_complete, differences_are_right, each_path_is_represented, examples_are_right,
+    narrower_patterns_are_exact, only_transport_changes, served_paths_are_rooted, tables_are_right,
 };
 pub use narrower_patterns::Narrower;
 pub use narrowing::narrower;
+pub use order::sorted;
+pub use path_shapes::matches_nothing;
+pub use patterns::{all_patterns, is_among, is_extension_pattern, patterns_in};
+pub use roles::push_meant;
+pub use row_differences::differences;
 pub use rows::{Group, Row, Table};
 pub use secure::without_transport;
 pub use tables::table_of;

@@ -7,10 +7,10 @@ ghost use Rattle.sv_mapping.specs.Pattern.{has_extension};
 ghost use Rattle.sv_text.specs.Gives.{GivesAnswer};
 ghost use Rattle.sv_audit.specs.Narrower as spec;
 
-use crate::dead::has_dot;
 use crate::forms::form_of;
 use crate::narrower_patterns::Narrower;
-use crate::sorted::copied_texts;
+use crate::order::copied_texts;
+use crate::path_shapes::has_dot;
 use std::alloc::Global;
 use sv_mapping::{Form, extension, is_at_or_below};
 use sv_text::NoMemory;

@@ -8,7 +8,7 @@ ghost use Rattle.sv_text.specs.Gives.{GivesAnswer};
 ghost use Rattle.sv_audit.specs.Access.{login_access, roles_meant, roles_of};
 
 use crate::access::Access;
-use crate::sorted::{copied_texts, sorted};
+use crate::order::{copied_texts, sorted};
 use std::alloc::Global;
 use sv_constraints::{Auth, Constraint, EVERY_CALLER, EVERY_ROLE, Rules};
 use sv_policy::{names_everyone, push_texts};

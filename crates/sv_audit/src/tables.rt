@@ -10,9 +10,9 @@ ghost use Rattle.sv_audit.specs.Rows.{in_row_order, match_every_path, other_path
 
 use crate::access::{Access, Cell};
 use crate::groups::row_at;
+use crate::order::sorted;
 use crate::patterns::{all_patterns, is_among, is_extension_pattern};
 use crate::rows::{Group, Row, Table};
-use crate::sorted::sorted;
 use std::alloc::Global;
 use sv_constraints::{Constraint, Methods, Rules};
 use sv_policy::{Groups, grouped};

@@ -1,8 +1,8 @@
 -- What is reported of a context (Jakarta Servlet 6.0, section 13.8).
 use Rattle.std.specs.Prelude.{ℕ, List, map, Option}
-use Rattle.sv_audit.specs.Findings.{findings_of}
+use Rattle.sv_findings.specs.Findings.{findings_of}
 use Rattle.sv_audit.specs.Rows.{table_of}
-use Rattle.sv_audit.specs.declared.finding.Finding.{Finding}
+use Rattle.sv_findings.specs.declared.finding.Finding.{Finding}
 use Rattle.sv_audit.specs.declared.rows.Table.{Table}
 use Rattle.sv_report.specs.declared.report.ContextReport.{ContextReport}
 use Rattle.sv_report.specs.declared.report.ReportedFinding.{ReportedFinding}

@@ -2,8 +2,8 @@
 use Rattle.std.specs.Prelude.{ℕ, Bool, List, [], ◌∷◌, ◌++◌, codes, find, map, nat_eq, Option, None, Some}
 use Rattle.std.specs.List.{flat_map, list_any}
 use Rattle.std.specs.Option.{option_map, option_map_or}
-use Rattle.sv_audit.specs.declared.finding.Finding.{Finding}
-use Rattle.sv_audit.specs.declared.finding.Finding.TheVariants.{Opened, Uncovered, HeadDiffers, Dead, DeadPattern, Escaped, UnknownRole, UnheldRole, UnusedRole}
+use Rattle.sv_findings.specs.declared.finding.Finding.{Finding}
+use Rattle.sv_findings.specs.declared.finding.Finding.TheVariants.{Opened, Uncovered, HeadDiffers, Dead, DeadPattern, Escaped, UnknownRole, UnheldRole, UnusedRole}
 use Rattle.sv_constraints.specs.Covering.{lists}
 use Rattle.sv_constraints.specs.declared.constraint.Constraint.{Constraint}
 use Rattle.sv_constraints.specs.declared.constraint.Methods.{Methods}

@@ -11,7 +11,8 @@ use crate::key::{constraint_of, key_of};
 use crate::row_paths::reported_rows;
 use crate::viewer::viewer_in;
 use std::alloc::Global;
-use sv_audit::{Finding, Table, findings_of, table_of};
+use sv_audit::{Table, table_of};
+use sv_findings::{Finding, findings_of};
 use sv_report::{ContextReport, ReportedFinding, ReportedRow, Viewer};
 use sv_text::{Listed, NoMemory, Text};
 

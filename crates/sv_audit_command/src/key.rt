@@ -8,7 +8,7 @@ ghost use Rattle.sv_text.specs.Gives.{GivesAnswer};
 ghost use Rattle.sv_audit_command.specs.Key as spec;
 
 use std::alloc::Global;
-use sv_audit::Finding;
+use sv_findings::Finding;
 use sv_constraints::{Constraint, Methods};
 use sv_mapping::Pattern;
 use sv_report::escaped::escaped;

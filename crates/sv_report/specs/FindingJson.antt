@@ -3,8 +3,8 @@ use Rattle.std.specs.Prelude.{ℕ, List, codes, Option, Some}
 use Rattle.serde_json.specs.Data.{Data, Members, boolean, string, object, no_members, put as with_member}
 use Rattle.sv_constraints.specs.declared.constraint.Methods.{Methods}
 use Rattle.sv_policy.specs.Covering.{method_names}
-use Rattle.sv_audit.specs.declared.finding.Finding.{Finding}
-use Rattle.sv_audit.specs.declared.finding.Finding.TheVariants.{Opened, Uncovered, HeadDiffers, Dead, DeadPattern, Escaped, UnknownRole, UnheldRole, UnusedRole}
+use Rattle.sv_findings.specs.declared.finding.Finding.{Finding}
+use Rattle.sv_findings.specs.declared.finding.Finding.TheVariants.{Opened, Uncovered, HeadDiffers, Dead, DeadPattern, Escaped, UnknownRole, UnheldRole, UnusedRole}
 use Rattle.sv_report.specs.FindingWords.{kind_name}
 use Rattle.sv_report.specs.JsonParts.{are_excepted, number_value, strings}
 use Rattle.sv_report.specs.Places.{line_of}

@@ -12,7 +12,7 @@ use crate::places::line_of;
 use crate::report::ReportedFinding;
 use serde_json::{Map, Value};
 use std::alloc::Global;
-use sv_audit::Finding;
+use sv_findings::Finding;
 use sv_constraints::Methods;
 use sv_text::NoMemory;
 

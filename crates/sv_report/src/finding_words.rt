@@ -9,7 +9,7 @@ use crate::parts::joined;
 use crate::places::number_text;
 use crate::words::{methods_text, shown_pattern};
 use std::alloc::Global;
-use sv_audit::Finding;
+use sv_findings::Finding;
 use sv_constraints::Methods;
 use sv_text::{NoMemory, Text};
 

@@ -1,6 +1,7 @@
 //! What is reported of a context.
 
-use sv_audit::{Finding, Narrower, Row};
+use sv_audit::{Narrower, Row};
+use sv_findings::Finding;
 use sv_text::{Listed, Text};
 
 /// Who may reach what in a context, as it is reported.

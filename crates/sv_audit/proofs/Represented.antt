@@ -1,0 +1,371 @@
+-- Each path has a representative that matches the same patterns.
+use Rattle.std.proofs.Common.{◌≡◌, ℕ, ◌+◌, ◌≤◌, zero, suc, Bool, true, false, ◌&&◌, ◌||◌, ltb, List, [], ◌∷◌, ◌++◌, length, map, codes, refl, sym, ◌∙◌, ap, ap₂, arith, append_assoc, length-append, inl, inr, Option, None, Some}
+use Rattle.std.specs.Prelude.{filter, fold, max}
+use Rattle.std.specs.List.{flat_map, list_any, repeat}
+use Rattle.std.specs.Option.{option_map_or, option_to_list}
+use Rattle.std.specs.Str.{bytes_eq}
+use Rattle.std.proofs.lemmas.Bool.{and_parts, both_ways, cases_Bool, false_from_ne_true, and_from, eqb-true, ltb-false, not-true, or_cases, or_left, or_parts, or_right}
+use Rattle.std.proofs.lemmas.Bool.Decides.{Decides-eqb}
+use Rattle.std.proofs.lemmas.List.Folds.{list_any-append}
+use Rattle.std.proofs.lemmas.Slice.Eq.{bytes_eq-Decides, starts_is}
+use Rattle.sv_mapping.specs.BestMatch.{best_pattern}
+use Rattle.sv_mapping.specs.Chosen.{is_chosen}
+use Rattle.sv_mapping.specs.Pattern.{Form, Root, Default, Extension, Prefix, Exact, extension, form, form_matches, form_text, is_at_or_below, is_dot, is_slash, matches}
+use Rattle.sv_mapping.specs.Segments.{is_slashed}
+use Rattle.sv_mapping.proofs.Longest.{chosen_where_served}
+use Rattle.sv_mapping.proofs.Rooted.{rooted_cases}
+use Rattle.sv_mapping.proofs.Tried.{In, In-cases, In-left, In-map, In-right}
+use Rattle.sv_mapping.proofs.Uniqueness.{form_text-form}
+use Rattle.sv_constraints.specs.Covering.{lists}
+use Rattle.sv_audit.proofs.Alike.{same_best}
+use Rattle.sv_mapping.proofs.TriedTexts.{form-empty, heads}
+use Rattle.sv_audit.proofs.Names.{at_or_below, below_above, below_path, below_shorter, cut, extension_of, no_extension}
+use Rattle.sv_audit.specs.Representatives.{EachPathIsRepresented, directories, directory_of, ending_of, endings, file_path, free_path, free_paths, long_name, longest, named_by, named_paths, representatives}
+
+-- ---- Lists of texts.
+pub in_listed : (xs : List (List ℕ)) (x : List ℕ) → lists xs x ≡ true → In x xs
+in_listed [] x there = absurd (both_ways _ refl there)
+in_listed (y ∷ ys) x there = elim (or_cases _ _ there) [ inl here ↦ inl (sym ((bytes_eq-Decides y x).0 here)) | inr later ↦ inr (in_listed ys x later) ]
+
+pub listed_in : (xs : List (List ℕ)) (x : List ℕ) → In x xs → lists xs x ≡ true
+listed_in [] x there = absurd there
+listed_in (y ∷ ys) x (inl here) = or_left _ _ ((bytes_eq-Decides y x).1 (sym here))
+listed_in (y ∷ ys) x (inr later) = or_right _ _ (listed_in ys x later)
+
+pub in_joined : {X Y : Type 0} (f : X → List Y) (x : X) (y : Y) (xs : List X) → In x xs → In y (f x) → In y (flat_map f xs)
+in_joined f x y [] there here = absurd there
+in_joined f x y (z ∷ zs) (inl same) here = In-left y (f z) (flat_map f zs) (rw same at here)
+in_joined f x y (z ∷ zs) (inr later) here = In-right y (f z) (flat_map f zs) (in_joined f x y zs later here)
+
+in_kept : (test : List ℕ → Bool) (x : List ℕ) (xs : List (List ℕ)) → In x xs → test x ≡ true → In x (filter test xs)
+in_kept test x [] there passes = absurd there
+in_kept test x (y ∷ ys) (inl same) passes = rw (ap test (sym same) ∙ passes) (inl same)
+in_kept test x (y ∷ ys) (inr later) passes = elim (cases_Bool (test y)) [ inl e ↦ rw e (inr (in_kept test x ys later passes)) | inr e ↦ rw e (in_kept test x ys later passes) ]
+
+-- ---- The name of a new path.
+grows : (texts : List (List ℕ)) (most : ℕ) → most ≤ fold (λ most text. max most (length text)) most texts
+grows [] most = omega arith
+grows (text ∷ texts) most = omega (arith, grows texts (max most (length text)))
+
+within_longest : (texts : List (List ℕ)) (most : ℕ) (text : List ℕ) → In text texts → length text ≤ fold (λ most text. max most (length text)) most texts
+within_longest [] most text there = absurd there
+within_longest (x ∷ xs) most text (inl same) = omega (arith, ap length same, grows xs (max most (length x)))
+within_longest (x ∷ xs) most text (inr later) = within_longest xs (max most (length x)) text later
+
+length_long : (n : ℕ) → length {A = ℕ} (repeat n (120 ∷ [])) ≡ n
+length_long zero = refl
+length_long (suc n) = ap suc (length_long n)
+
+abbrev xs_of : ℕ → List ℕ
+xs_of n = repeat n (codes "x")
+
+pub repeat_more : (n : ℕ) → xs_of n ++ codes "x" ≡ xs_of (n + 1)
+repeat_more zero = refl
+repeat_more (suc n) = ap (λ xs. 120 ∷ xs) (repeat_more n) ∙ ap xs_of (next n)
+  where
+    next : (m : ℕ) → suc (m + 1) ≡ suc m + 1
+    next m = omega arith
+
+none_in_long : (test : ℕ → Bool) (n : ℕ) → test 120 ≡ false → list_any test (repeat n (120 ∷ [])) ≡ false
+none_in_long test zero other = refl
+none_in_long test (suc n) other = rw other (none_in_long test n other)
+
+-- A new path is in its directory, with a name without a dot, and is none of the named paths.
+record IsFree (named : List (List ℕ)) (directory ending path : List ℕ) : Type 0 where
+  name : List ℕ
+  is : path ≡ directory ++ 47 ∷ (name ++ ending)
+  no_slash : list_any is_slash name ≡ false
+  no_dot : list_any is_dot name ≡ false
+  new : lists named path ≡ false
+
+filed : (directory name ending : List ℕ) → file_path directory name ending ≡ directory ++ 47 ∷ (name ++ ending)
+filed directory name ending = append_assoc (directory ++ 47 ∷ []) name ending ∙ append_assoc directory (47 ∷ []) (name ++ ending)
+
+longer : (named : List (List ℕ)) (directory ending : List ℕ) → lists named (file_path directory (long_name named) ending) ≡ false
+longer named directory ending =
+    false_from_ne_true _ (λ there.
+    absurd (omega (arith, within_longest named 0 _ (in_listed named _ there), ap length (filed directory (long_name named) ending), length-append directory (47 ∷ (long_name named ++ ending)), length-append (long_name named) ending, length_long (longest named))))
+
+free_is : (named : List (List ℕ)) (directory ending : List ℕ) → IsFree named directory ending (free_path named directory ending)
+free_is named directory ending =
+    elim (cases_Bool (lists named (file_path directory (codes "page") ending))) [
+      | inl e ↦ rw e (record { name = long_name named; is = filed directory (long_name named) ending; no_slash = none_in_long is_slash (longest named) refl; no_dot = none_in_long is_dot (longest named) refl; new = longer named directory ending })
+      | inr e ↦ rw e (record { name = codes "page"; is = filed directory (codes "page") ending; no_slash = refl; no_dot = refl; new = e })
+    ]
+
+-- ---- The items of patterns.
+module _ (patterns : List (List ℕ)) (of : Form → Option (List ℕ)) where
+  found_in : (pattern item : List ℕ) → In pattern patterns → of (form pattern) ≡ Some item → In item (flat_map (λ pattern. option_to_list (of (form pattern))) patterns)
+  found_in pattern item there is = in_joined (λ pattern. option_to_list (of (form pattern))) pattern item patterns there (rw is (inl refl))
+
+-- ---- The same patterns match two paths.
+unlike : (xs : List (List ℕ)) (path x : List ℕ) → lists xs path ≡ false → In x xs → bytes_eq path x ≡ false
+unlike xs path x none there = false_from_ne_true _ (λ same. both_ways _ none (listed_in xs path (rw (sym ((bytes_eq-Decides path x).0 same)) at there)))
+
+abbrev has : Option (List ℕ) → List ℕ → Bool
+has found wanted = option_map_or (λ text. bytes_eq text wanted) found false
+
+exact_is_some : (pattern : List ℕ) → form pattern ≡ Exact [] → ⊥
+exact_is_some pattern is =
+    let empty : pattern ≡ [] = sym (form_text-form pattern) ∙ ap form_text is in
+    let root : form [] ≡ Exact [] = ap form (sym empty) ∙ is in
+    let first : form [] ≡ Root = form-empty in
+    cc
+
+module _ (patterns : List (List ℕ)) (path other : List ℕ)
+    (apart : (text : List ℕ) → In text (named_paths patterns) → ¬ (text ≡ []) → bytes_eq path text ≡ bytes_eq other text)
+    (below : (directory : List ℕ) → In directory (directories patterns) → is_at_or_below directory path ≡ is_at_or_below directory other)
+    (ends : (wanted : List ℕ) → In (46 ∷ wanted) (endings patterns) → has (extension path) wanted ≡ has (extension other) wanted) where
+  by_form : (pattern : List ℕ) (f : Form) → In pattern patterns → form pattern ≡ f → form_matches f path ≡ form_matches f other
+  by_form pattern Root there is = apart (47 ∷ []) (found_in patterns named_by pattern (47 ∷ []) there (ap named_by is)) (λ e. absurd (omega (arith, ap length e)))
+  by_form pattern Default there is = refl
+  by_form pattern (Extension wanted) there is = ends wanted (inr (found_in patterns ending_of pattern (46 ∷ wanted) there (ap ending_of is)))
+  by_form pattern (Prefix prefix) there is = below prefix (inr (found_in patterns directory_of pattern prefix there (ap directory_of is)))
+  by_form pattern (Exact text) there is =
+      apart text (found_in patterns named_by pattern text there (ap named_by is)) (λ empty. exact_is_some pattern (is ∙ ap Exact empty))
+
+  same_matches : (pattern : List ℕ) → lists patterns pattern ≡ true → matches pattern path ≡ matches pattern other
+  same_matches pattern there = by_form pattern (form pattern) (in_listed patterns pattern there) refl
+
+-- ---- Directories.
+of_both : (f : Form) (directory : List ℕ) → In directory (option_to_list (directory_of f)) → In directory (option_to_list (named_by f))
+of_both Root directory there = absurd there
+of_both Default directory there = absurd there
+of_both (Extension wanted) directory there = absurd there
+of_both (Prefix prefix) directory there = there
+of_both (Exact text) directory there = absurd there
+
+directory_named : (patterns : List (List ℕ)) (directory : List ℕ) → In directory (flat_map (λ pattern. option_to_list (directory_of (form pattern))) patterns) → In directory (named_paths patterns)
+directory_named [] directory there = absurd there
+directory_named (pattern ∷ patterns) directory there =
+    elim (In-cases directory (option_to_list (directory_of (form pattern))) _ there) [
+      | inl here ↦ In-left directory (option_to_list (named_by (form pattern))) _ (of_both (form pattern) directory here)
+      | inr later ↦ In-right directory (option_to_list (named_by (form pattern))) _ (directory_named patterns directory later)
+    ]
+
+-- A path that no pattern names is no directory.
+no_directory : (patterns : List (List ℕ)) (front back directory : List ℕ) → lists (named_paths patterns) (front ++ 47 ∷ back) ≡ false → In directory (directories patterns) → bytes_eq (front ++ 47 ∷ back) directory ≡ false
+no_directory patterns front back directory new (inl empty) =
+    false_from_ne_true _ (λ same. absurd (omega (arith, ap length ((bytes_eq-Decides (front ++ 47 ∷ back) directory).0 same), ap length empty, length-append front (47 ∷ back))))
+no_directory patterns front back directory new (inr there) = unlike (named_paths patterns) (front ++ 47 ∷ back) directory new (directory_named patterns directory there)
+
+witness : (test : List ℕ → Bool) (xs : List (List ℕ)) → list_any test xs ≡ true → (x : List ℕ) × In x xs × (test x ≡ true)
+witness test [] some = absurd (both_ways _ refl some)
+witness test (x ∷ xs) some =
+    elim (or_cases _ _ some) [ inl here ↦ (x, inl refl, here) | inr later ↦ let rest = witness test xs later in (rest.0, inr rest.1, rest.2) ]
+
+any_from : (test : List ℕ → Bool) (x : List ℕ) (xs : List (List ℕ)) → In x xs → test x ≡ true → list_any test xs ≡ true
+any_from test x [] there passes = absurd there
+any_from test x (y ∷ ys) (inl same) passes = or_left _ _ (ap test (sym same) ∙ passes)
+any_from test x (y ∷ ys) (inr later) passes = or_right _ _ (any_from test x ys later passes)
+
+-- The longest of the directories that the text is at or below.
+record IsLongest (patterns : List (List ℕ)) (text directory : List ℕ) : Type 0 where
+  is_one : In directory (directories patterns)
+  above : is_at_or_below directory text ≡ true
+  longest_of : (other : List ℕ) → In other (directories patterns) → is_at_or_below other text ≡ true → length other ≤ length directory
+
+longest_directory : (patterns : List (List ℕ)) (text : List ℕ) → is_at_or_below [] text ≡ true → (directory : List ℕ) × IsLongest patterns text directory
+longest_directory patterns text rooted =
+    let chosen = witness (is_chosen (directories patterns) text) (directories patterns) (chosen_where_served (directories patterns) text ∙ or_left _ _ rooted) in (
+      chosen.0,
+      record {
+        is_one = chosen.1;
+        above = (and_parts _ _ chosen.2).0;
+        longest_of = λ other there under.
+            le_from (length other) (length chosen.0)
+            (false_from_ne_true _ (λ longer.
+            both_ways _ (not-true _ (and_parts _ _ chosen.2).1) (any_from (λ one. is_at_or_below one text && ltb (length chosen.0) (length one)) other (directories patterns) there (and_from _ _ under longer))));
+      },
+    )
+  where
+    le_from : (m n : ℕ) → ltb n m ≡ false → m ≤ n
+    le_from m n h = ltb-false n m h
+
+same_truth : (a b : Bool) → (a ≡ true → b ≡ true) → (b ≡ true → a ≡ true) → a ≡ b
+same_truth true b to from = sym (to refl)
+same_truth false true to from = from refl
+same_truth false false to from = refl
+
+-- The longest directory of a text is at or below the same directories as the text.
+same_directories : (patterns : List (List ℕ)) (text directory : List ℕ) → IsLongest patterns text directory → (other : List ℕ) → In other (directories patterns) → is_at_or_below other text ≡ is_at_or_below other directory
+same_directories patterns text directory is other there =
+    same_truth _ _ (λ under. below_shorter other directory text under is.above (is.longest_of other there under)) (λ under. below_above other directory text under is.above)
+
+-- ---- Endings.
+-- A path with this ending matches the same extension patterns.
+record HasEnding (patterns : List (List ℕ)) (path ending : List ℕ) : Type 0 where
+  is_one : In ending (endings patterns)
+  plain : list_any is_slash ending ≡ false
+  same : (directory name wanted : List ℕ) → list_any is_slash name ≡ false → list_any is_dot name ≡ false → In (46 ∷ wanted) (endings patterns)
+      → has (extension path) wanted ≡ has (extension (directory ++ 47 ∷ (name ++ ending))) wanted
+
+none_after : (test : ℕ → Bool) (xs ys : List ℕ) → list_any test (xs ++ ys) ≡ false → list_any test ys ≡ false
+none_after test xs ys none = (or_parts (list_any test xs) (list_any test ys) (sym (list_any-append test xs ys) ∙ none)).1
+
+none_joined : (test : ℕ → Bool) (xs ys : List ℕ) → list_any test xs ≡ false → list_any test ys ≡ false → list_any test (xs ++ ys) ≡ false
+none_joined test xs ys first second = list_any-append test xs ys ∙ ap₂ (λ a b. a || b) first second
+
+plain_path : (directory name : List ℕ) → list_any is_slash name ≡ false → list_any is_dot name ≡ false → extension (directory ++ 47 ∷ (name ++ [])) ≡ None
+plain_path directory name no_slash no_dot = no_extension directory (name ++ []) (none_joined is_slash name [] no_slash refl) (none_joined is_dot name [] no_dot refl)
+
+no_ending : (patterns : List (List ℕ)) (path : List ℕ) → ((wanted : List ℕ) → In (46 ∷ wanted) (endings patterns) → has (extension path) wanted ≡ false) → HasEnding patterns path []
+no_ending patterns path none = record {
+  is_one = inl refl;
+  plain = refl;
+  same = λ directory name wanted no_slash no_dot there. none wanted there ∙ sym (ap (λ found. has found wanted) (plain_path directory name no_slash no_dot));
+}
+
+ending_at : (patterns : List (List ℕ)) (path found : List ℕ) → extension path ≡ Some found → list_any is_slash found ≡ false → list_any is_dot found ≡ false → (ending : List ℕ) × HasEnding patterns path ending
+ending_at patterns path found is no_slash no_dot =
+    elim (cases_Bool (lists (endings patterns) (46 ∷ found))) [
+      | inl listed ↦ (
+        46 ∷ found,
+        record {
+          is_one = in_listed (endings patterns) (46 ∷ found) listed;
+          plain = no_slash;
+          same = λ directory name wanted plain undotted there.
+              ap (λ one. has one wanted) (is ∙ sym (extension_of directory name found (none_joined is_slash name (46 ∷ found) plain no_slash) no_dot));
+        },
+      )
+      | inr none ↦ (
+        [],
+        no_ending patterns path (λ wanted there.
+            ap (λ one. has one wanted) is
+            ∙ false_from_ne_true _ (λ same. both_ways _ none (ap (λ text. lists (endings patterns) (46 ∷ text)) ((bytes_eq-Decides found wanted).0 same) ∙ listed_in (endings patterns) (46 ∷ wanted) there))),
+      )
+    ]
+
+ending_for : (patterns : List (List ℕ)) (front back : List ℕ) → list_any is_slash back ≡ false → (ending : List ℕ) × HasEnding patterns (front ++ 47 ∷ back) ending
+ending_for patterns front back plain =
+    elim (cases_Bool (list_any is_dot back)) [
+      | inr none ↦ ([], no_ending patterns (front ++ 47 ∷ back) (λ wanted there. ap (λ one. has one wanted) (no_extension front back plain none)))
+      | inl some ↦
+          let at = cut is_dot back some in
+          let dot : at.1 ≡ 46 = eqb-true at.1 46 at.4 in
+          let whole : back ≡ at.0 ++ 46 ∷ at.2 = at.3 ∙ ap (λ b. at.0 ++ b ∷ at.2) dot in
+          let clean : list_any is_slash (at.0 ++ 46 ∷ at.2) ≡ false = ap (list_any is_slash) (sym whole) ∙ plain in
+          ending_at patterns (front ++ 47 ∷ back) at.2 (ap (λ text. extension (front ++ 47 ∷ text)) whole ∙ extension_of front at.0 at.2 clean at.5)
+          (none_after is_slash at.0 (46 ∷ at.2) clean) at.5
+    ]
+
+-- ---- Representatives.
+first_slash : (directory back other rest : List ℕ) → directory ++ 47 ∷ back ≡ 47 ∷ rest → (more : List ℕ) × (directory ++ 47 ∷ other ≡ 47 ∷ more)
+first_slash [] back other rest is = (other, refl)
+first_slash (b ∷ bs) back other rest is = (bs ++ 47 ∷ other, ap (λ c. c ∷ (bs ++ 47 ∷ other)) (heads b 47 (bs ++ 47 ∷ back) rest is))
+
+slashed : (path rest : List ℕ) → path ≡ 47 ∷ rest → is_slashed path ≡ true
+slashed path rest is = (starts_is Decides-eqb path (47 ∷ []) _ refl).1 rest is
+
+new_path : (patterns : List (List ℕ)) (directory ending : List ℕ) → In directory (directories patterns) → In ending (endings patterns) → is_slashed (free_path (named_paths patterns) directory ending) ≡ true
+    → lists (representatives patterns) (free_path (named_paths patterns) directory ending) ≡ true
+new_path patterns directory ending there here rooted =
+    let named = named_paths patterns in
+    listed_in (representatives patterns) (free_path named directory ending)
+    (in_kept is_slashed (free_path named directory ending) (named ++ free_paths named (endings patterns) (directories patterns))
+    (In-right (free_path named directory ending) named _
+    (in_joined (λ one. map (free_path named one) (endings patterns)) directory (free_path named directory ending) (directories patterns) there (In-map (free_path named directory) ending (endings patterns) here)))
+    rooted)
+
+-- The representative stands for the path.
+stands : (patterns : List (List ℕ)) (path directory ending representative : List ℕ) → IsFree (named_paths patterns) directory ending representative → lists (representatives patterns) representative ≡ true
+    → ((name : List ℕ) → list_any is_slash name ≡ false → list_any is_dot name ≡ false → lists (named_paths patterns) (directory ++ 47 ∷ (name ++ ending)) ≡ false
+    → (pattern : List ℕ) → lists patterns pattern ≡ true → matches pattern path ≡ matches pattern (directory ++ 47 ∷ (name ++ ending)))
+    → (one : List ℕ) × (lists (representatives patterns) one ≡ true) × ((part : List (List ℕ)) → ((text : List ℕ) → lists part text ≡ true → lists patterns text ≡ true) → best_pattern part one ≡ best_pattern part path)
+stands patterns path directory ending representative free there same = (
+  representative,
+  there,
+  λ part within.
+      sym (same_best part path representative
+      (λ x here. same free.name free.no_slash free.no_dot (ap (lists (named_paths patterns)) (sym free.is) ∙ free.new) x (within x here) ∙ ap (matches x) (sym free.is))),
+)
+
+-- ---- The empty path.
+empty_same : (patterns : List (List ℕ)) (name : List ℕ) → list_any is_slash name ≡ false → list_any is_dot name ≡ false → lists (named_paths patterns) ([] ++ 47 ∷ (name ++ [])) ≡ false
+    → (pattern : List ℕ) → lists patterns pattern ≡ true → matches pattern [] ≡ matches pattern ([] ++ 47 ∷ (name ++ []))
+empty_same patterns name no_slash no_dot new =
+    same_matches patterns [] ([] ++ 47 ∷ (name ++ []))
+    (λ text there some. false_from_ne_true _ (λ same. some (sym ((bytes_eq-Decides [] text).0 same))) ∙ sym (unlike (named_paths patterns) ([] ++ 47 ∷ (name ++ [])) text new there))
+    (λ directory there. sym (below_path directory [] (name ++ []) (none_joined is_slash name [] no_slash refl) (no_directory patterns [] (name ++ []) directory new there)))
+    (λ wanted there. sym (ap (λ found. has found wanted) (plain_path [] name no_slash no_dot)))
+
+-- ---- A path that no pattern names.
+path_same : (patterns : List (List ℕ)) (front back directory ending : List ℕ) → list_any is_slash back ≡ false → lists (named_paths patterns) (front ++ 47 ∷ back) ≡ false → IsLongest patterns front directory → HasEnding patterns (front ++ 47 ∷ back) ending
+    → (name : List ℕ) → list_any is_slash name ≡ false → list_any is_dot name ≡ false → lists (named_paths patterns) (directory ++ 47 ∷ (name ++ ending)) ≡ false
+    → (pattern : List ℕ) → lists patterns pattern ≡ true → matches pattern (front ++ 47 ∷ back) ≡ matches pattern (directory ++ 47 ∷ (name ++ ending))
+path_same patterns front back directory ending plain new is its_ending name no_slash no_dot also =
+    same_matches patterns (front ++ 47 ∷ back) (directory ++ 47 ∷ (name ++ ending))
+    (λ text there some. unlike (named_paths patterns) (front ++ 47 ∷ back) text new there ∙ sym (unlike (named_paths patterns) (directory ++ 47 ∷ (name ++ ending)) text also there))
+    (λ one there.
+    below_path one front back plain (no_directory patterns front back one new there) ∙ same_directories patterns front directory is one there
+    ∙ sym (below_path one directory (name ++ ending) (none_joined is_slash name ending no_slash its_ending.plain) (no_directory patterns directory (name ++ ending) one also there)))
+    (λ wanted there. its_ending.same directory name wanted no_slash no_dot there)
+
+-- A path that begins with a slash, cut at its last slash.
+record IsCut (path front back : List ℕ) : Type 0 where
+  whole : path ≡ front ++ 47 ∷ back
+  plain : list_any is_slash back ≡ false
+
+cut_path : (path rest : List ℕ) → path ≡ 47 ∷ rest → (front : List ℕ) × (back : List ℕ) × IsCut path front back
+cut_path path rest is =
+    let at = cut is_slash path (ap (list_any is_slash) is) in
+    (at.0, at.2, record { whole = at.3 ∙ ap (λ b. at.0 ++ b ∷ at.2) (eqb-true at.1 47 at.4); plain = at.5 })
+
+begins_at_root : (front back rest : List ℕ) → front ++ 47 ∷ back ≡ 47 ∷ rest → is_at_or_below [] front ≡ true
+begins_at_root front back rest is =
+    let more = first_slash front back [] rest is in
+    at_or_below [] front ∙ slashed (front ++ 47 ∷ []) more.0 more.1
+
+above_slash : (directory front more : List ℕ) → is_at_or_below directory front ≡ true → front ++ 47 ∷ [] ≡ 47 ∷ more → (other : List ℕ) → (rest : List ℕ) × (directory ++ 47 ∷ other ≡ 47 ∷ rest)
+above_slash directory front more above is other =
+    let begins = (starts_is Decides-eqb (front ++ 47 ∷ []) (directory ++ 47 ∷ []) _ refl).0 (sym (at_or_below directory front) ∙ above) in
+    first_slash directory _ other more (sym (append_assoc directory (47 ∷ []) _) ∙ (sym begins ∙ is))
+
+abbrev IsRepresented : List (List ℕ) → List ℕ → Type 0
+IsRepresented patterns path = (one : List ℕ) × (lists (representatives patterns) one ≡ true)
+    × ((part : List (List ℕ)) → ((text : List ℕ) → lists part text ≡ true → lists patterns text ≡ true) → best_pattern part one ≡ best_pattern part path)
+
+slash_free : (patterns : List (List ℕ)) (directory ending : List ℕ) → ((other : List ℕ) → (rest : List ℕ) × (directory ++ 47 ∷ other ≡ 47 ∷ rest)) → is_slashed (free_path (named_paths patterns) directory ending) ≡ true
+slash_free patterns directory ending begins =
+    let free = free_is (named_paths patterns) directory ending in
+    let rest = begins (free.name ++ ending) in
+    slashed (free_path (named_paths patterns) directory ending) rest.0 (free.is ∙ rest.1)
+
+empty_represented : (patterns : List (List ℕ)) → IsRepresented patterns []
+empty_represented patterns =
+    stands patterns [] [] [] (free_path (named_paths patterns) [] []) (free_is (named_paths patterns) [] [])
+    (new_path patterns [] [] (inl refl) (inl refl) (slash_free patterns [] [] (λ other. (other, refl))))
+    (empty_same patterns)
+
+new_represented : (patterns : List (List ℕ)) (front back rest : List ℕ) → front ++ 47 ∷ back ≡ 47 ∷ rest → list_any is_slash back ≡ false → lists (named_paths patterns) (front ++ 47 ∷ back) ≡ false → IsRepresented patterns (front ++ 47 ∷ back)
+new_represented patterns front back rest is plain new =
+    let longest = longest_directory patterns front (begins_at_root front back rest is) in
+    let ending = ending_for patterns front back plain in
+    let more = first_slash front back [] rest is in
+    stands patterns (front ++ 47 ∷ back) longest.0 ending.0 (free_path (named_paths patterns) longest.0 ending.0) (free_is (named_paths patterns) longest.0 ending.0)
+    (new_path patterns longest.0 ending.0 longest.1.is_one ending.1.is_one (slash_free patterns longest.0 ending.0 (above_slash longest.0 front more.0 longest.1.above more.1)))
+    (path_same patterns front back longest.0 ending.0 plain new longest.1 ending.1)
+
+slash_represented : (patterns : List (List ℕ)) (path rest : List ℕ) → path ≡ 47 ∷ rest → IsRepresented patterns path
+slash_represented patterns path rest is =
+    elim (cases_Bool (lists (named_paths patterns) path)) [
+      | inl named ↦ (
+        path,
+        listed_in (representatives patterns) path
+            (in_kept is_slashed path (named_paths patterns ++ free_paths (named_paths patterns) (endings patterns) (directories patterns)) (In-left path (named_paths patterns) _ (in_listed (named_paths patterns) path named)) (slashed path rest is)),
+        λ part within. refl,
+      )
+      | inr new ↦
+          let at = cut_path path rest is in
+          moved path (at.0 ++ 47 ∷ at.1) at.2.whole (new_represented patterns at.0 at.1 rest (sym at.2.whole ∙ is) at.2.plain (ap (lists (named_paths patterns)) (sym at.2.whole) ∙ new))
+    ]
+  where
+    moved : (one other : List ℕ) → one ≡ other → IsRepresented patterns other → IsRepresented patterns one
+    moved one other same it = (it.0, it.1, λ part within. it.2 part within ∙ ap (best_pattern part) (sym same))
+
+pub represented : EachPathIsRepresented
+represented patterns path rooted =
+    elim (rooted_cases path rooted) [
+      | inl empty ↦ let it = empty_represented patterns in (it.0, it.1, λ part within. it.2 part within ∙ ap (best_pattern part) (sym empty))
+      | inr slash ↦ slash_represented patterns path slash.0 slash.1
+    ]

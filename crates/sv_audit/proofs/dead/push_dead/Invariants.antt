@@ -1,6 +1,0 @@
-use Rattle.std.proofs.Common.{◌≡◌, ◌++◌, take}
-use Rattle.sv_audit.specs.Dead.{dead_among}
-use Rattle.sv_audit.proofs.dead.push_dead.Given as goal
-
-abbrev pub invariant-loop-constraint : goal.invariant-loop-constraint
-invariant-loop-constraint l = l.findings.items ≡ l.initial.findings.items ++ dead_among l.has_prefix (take l.constraint-index l.constraints)

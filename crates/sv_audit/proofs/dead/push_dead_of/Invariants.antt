@@ -1,8 +1,0 @@
-use Rattle.std.proofs.Common.{◌≡◌, ◌++◌, map, take}
-use Rattle.std.specs.Prelude.{filter}
-use Rattle.sv_audit.specs.Dead.{decides_nothing}
-use Rattle.sv_audit.specs.declared.finding.Finding.TheVariants as finding
-use Rattle.sv_audit.proofs.dead.push_dead_of.Given as goal
-
-abbrev pub invariant-loop-pattern : goal.invariant-loop-pattern
-invariant-loop-pattern l = l.findings.items ≡ l.initial.findings.items ++ map (finding.DeadPattern l.number) (filter (decides_nothing l.has_prefix) (map (λ pattern. pattern.now) (take l.pattern-index l.patterns)))

@@ -1,6 +1,0 @@
-use Rattle.std.proofs.Common.{◌≡◌, ◌++◌, take}
-use Rattle.sv_audit.specs.Dead.{escaped}
-use Rattle.sv_audit.proofs.dead.push_escaped.Given as goal
-
-abbrev pub invariant-loop-constraint : goal.invariant-loop-constraint
-invariant-loop-constraint l = l.findings.items ≡ l.initial.findings.items ++ escaped (take l.constraint-index l.constraints)

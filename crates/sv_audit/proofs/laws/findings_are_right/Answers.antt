@@ -1,5 +1,0 @@
-use Rattle.sv_audit.proofs.FindingLemmas.{findings_right}
-use Rattle.sv_audit.proofs.laws.findings_are_right.Goals as goal
-
-pub returns : goal.returns
-returns c = findings_right c.canonical_has_shape.ensures

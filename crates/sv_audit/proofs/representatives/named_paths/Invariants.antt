@@ -1,0 +1,6 @@
+use Rattle.std.proofs.Common.{◌≡◌, take}
+use Rattle.sv_audit.specs.Representatives as spec
+use Rattle.sv_audit.proofs.representatives.named_paths.Given as goal
+
+abbrev pub invariant-loop-pattern : goal.invariant-loop-pattern
+invariant-loop-pattern l = l.paths.items ≡ spec.named_paths (take l.pattern-index l.patterns)

@@ -1,3 +1,0 @@
-pub mod Representatives
-pub mod Differences
-pub mod DifferenceLaws

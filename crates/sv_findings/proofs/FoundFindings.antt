@@ -1,0 +1,323 @@
+-- No opened pattern, nothing uncovered, no difference of HEAD and no dead pattern is missed.
+use Rattle.std.proofs.lemmas.List.Folds.{list_all_at, list_any-append, list_any_at}
+use Rattle.std.proofs.lemmas.List.Sums.{AllPass-from_list_all}
+use Rattle.std.proofs.lemmas.Slice.Eq.{bytes_eq-Decides}
+use Rattle.std.proofs.lemmas.Bool.{false≢true}
+use Rattle.std.proofs.Common.{arith, ◌≡◌, ℕ, Bool, true, false, not, ◌||◌, ◌&&◌, ◌==◌, List, [], ◌∷◌, ◌++◌, length, map, codes, refl, ap, sym, ◌∙◌, cond, Option, None, Some}
+use Rattle.std.specs.Prelude.{◌≢◌, Contains, filter, is_some, slice_index_or}
+use Rattle.std.specs.Option.{option_to_list}
+use Rattle.std.specs.Cmp.{both_ways}
+use Rattle.std.specs.List.{flat_map, list_all, list_any}
+use Rattle.std.specs.Str.{bytes_eq}
+use Rattle.sv_mapping.specs.BestMatch.{BestIsAMatch, best_pattern}
+use Rattle.sv_realm.specs.declared.caller.Caller.{Caller}
+use Rattle.sv_constraints.specs.Covering.{all_patterns, covering, lists, patterns_in}
+use Rattle.sv_constraints.specs.Verdict.{verdict, verdict_at}
+use Rattle.sv_constraints.specs.declared.cause.Cause.{Cause}
+use Rattle.sv_constraints.specs.declared.cause.Cause.TheVariants as cause
+use Rattle.sv_constraints.specs.declared.constraint.Constraint.{Constraint}
+use Rattle.sv_constraints.specs.declared.constraint.Rules.{Rules}
+use Rattle.sv_policy.proofs.Best.{any_in, any_listed, or_right}
+use Rattle.sv_policy.proofs.Listed.{any_seen, length_seen, some_filtered}
+use Rattle.sv_policy.proofs.Rising.{same_text}
+use Rattle.sv_policy.proofs.Steps.{any_of_joined, any_same}
+use Rattle.sv_policy.specs.Uncovered.{is_uncovered as is_uncovered_at}
+use Rattle.sv_audit.proofs.Equal.{and_left, and_right, both}
+use Rattle.sv_findings.proofs.FindingLemmas.{dead, heads, in_row, opened, partly_dead, says, uncovered, unheld, unknown, unused}
+use Rattle.sv_audit.proofs.Witness.{found}
+use Rattle.sv_audit.proofs.Found.{in_texts, ordered_lists}
+use Rattle.sv_audit.proofs.RowCells.{row_cell}
+use Rattle.sv_audit.specs.Access.{cell_at}
+use Rattle.sv_findings.proofs.OpenedLemmas.{contained, kept_any, pair_found}
+use Rattle.sv_findings.specs.Dead.{dead_patterns_in, decides_nothing, escaped, is_dead}
+use Rattle.sv_findings.specs.FindingLaws.{DeadIsFound, HeadIsFound, OpenedIsFound, UncoveredIsFound, says_dead, says_head, says_opened, says_uncovered}
+use Rattle.sv_audit.specs.Callers.{has_method, is_closed, is_open, same_callers, same_logins}
+use Rattle.sv_findings.specs.Findings.{findings_of, head_at, head_differs, head_strays, is_left_open, is_left_out, uncovered_at}
+use Rattle.sv_findings.specs.Opened.{opened_at, opened_pair}
+use Rattle.sv_audit.specs.Reading.{Kind, IsDenied, Passes, kind_and_cause, said_to}
+use Rattle.sv_audit.specs.Rows.{in_row_order, match_every_path, other_paths, row_at, table_of}
+use Rattle.sv_audit.specs.declared.access.Access.{Access}
+use Rattle.sv_audit.specs.declared.access.Access.TheVariants.{Unconstrained, Uncovered, UncoveredDenied, Precluded, NeedsTls, Everyone, AnyLogin, Roles}
+use Rattle.sv_audit.specs.declared.access.Cell.{Cell}
+use Rattle.sv_findings.specs.declared.finding.Finding.{Finding}
+use Rattle.sv_findings.specs.declared.finding.Finding.TheVariants as finding
+use Rattle.sv_audit.specs.declared.rows.Group.{Group}
+use Rattle.sv_audit.specs.declared.rows.Row.{Row}
+
+-- ---- Lists.
+any_first : {X : Type 0} (test : X → Bool) (xs ys : List X) → list_any test xs ≡ true → list_any test (xs ++ ys) ≡ true
+any_first test xs ys some = list_any-append test xs ys ∙ ap (λ b. b || list_any test ys) some
+
+any_last : {X : Type 0} (test : X → Bool) (xs ys : List X) → list_any test ys ≡ true → list_any test (xs ++ ys) ≡ true
+any_last test xs ys some = list_any-append test xs ys ∙ or_right (list_any test xs) (list_any test ys) some
+
+-- ---- The access of uncovered and of covered methods.
+uncovered_from : (none denied : Bool) (rest : Access) → none ≡ true → denied ≡ false → is_left_open (cond none (cond denied UncoveredDenied Uncovered) rest) ≡ true
+uncovered_from true true rest is open_to_all = absurd (false≢true (sym open_to_all))
+uncovered_from true false rest is open_to_all = refl
+uncovered_from false denied rest is open_to_all = absurd (false≢true is)
+
+covered_from : (none precluded transport lets_in any : Bool) (first : Access) (names : List (List ℕ)) → none ≡ false
+    → is_left_open (cond none first (cond precluded Precluded (cond transport NeedsTls (cond lets_in Everyone (cond any AnyLogin (Roles names)))))) ≡ false
+covered_from true precluded transport lets_in any first names is = absurd (false≢true (sym is))
+covered_from false true transport lets_in any first names is = refl
+covered_from false false true lets_in any first names is = refl
+covered_from false false false true any first names is = refl
+covered_from false false false false true first names is = refl
+covered_from false false false false false first names is = refl
+
+-- ---- The rows.
+module _ (constraints : List Constraint) (rules : Rules) (pattern : List ℕ) where
+  abbrev groups : List Group
+  groups = (row_at constraints rules pattern).groups
+
+  abbrev cell_for : List ℕ → Cell
+  cell_for method = cell_at rules (Some pattern) (covering constraints (Some pattern) method)
+
+  some_group : (method : List ℕ) → list_any (has_method method) groups ≡ true
+  some_group method =
+      sym (some_filtered (has_method method) groups)
+      ∙ ap (λ n. not (n == 0)) (sym (length_seen (λ (x : Group). x.cell) (filter (has_method method) groups)) ∙ ap length (row_cell constraints rules pattern method))
+
+  uncovered_cell : (method : List ℕ) → is_uncovered_at constraints pattern method ≡ true → rules.deny_uncovered ≡ false → is_left_open (cell_for method).access ≡ true
+  unfolding cell_at
+  uncovered_cell method none open_to_all = uncovered_from (length (covering constraints (Some pattern) method) == 0) rules.deny_uncovered _ none open_to_all
+
+  covered_cell : (method : List ℕ) → is_uncovered_at constraints pattern method ≡ false → is_left_open (cell_for method).access ≡ false
+  unfolding cell_at
+  covered_cell method some = covered_from (length (covering constraints (Some pattern) method) == 0) _ _ _ _ _ _ some
+
+  left_out : (method : List ℕ) → is_uncovered_at constraints pattern method ≡ true → rules.deny_uncovered ≡ false → list_any (λ (g : Group). is_left_out g && has_method method g) groups ≡ true
+  left_out method none open_to_all =
+      found (list_any (λ (g : Group). is_left_out g && has_method method g) groups ≡ true) (has_method method) groups (some_group method)
+      (λ k d within has.
+      list_any_at (λ (g : Group). is_left_out g && has_method method g) groups k d within
+      (both (is_left_out (slice_index_or groups k d)) (has_method method (slice_index_or groups k d)) (ap (λ (c : Cell). is_left_open c.access) (in_row constraints rules pattern method k d within has) ∙ uncovered_cell method none open_to_all) has))
+
+  not_all : (method : List ℕ) → is_uncovered_at constraints pattern method ≡ false → list_all is_left_out groups ≡ false
+  not_all method some =
+      found (list_all is_left_out groups ≡ false) (has_method method) groups (some_group method)
+      (λ k d within has. list_all_at is_left_out groups k d within (ap (λ (c : Cell). is_left_open c.access) (in_row constraints rules pattern method k d within has) ∙ covered_cell method some))
+
+  reported : (method other : List ℕ) → rules.deny_uncovered ≡ false → is_uncovered_at constraints pattern method ≡ true → is_uncovered_at constraints pattern other ≡ false → list_any (says_uncovered pattern method) (uncovered_at (Some pattern) groups) ≡ true
+  reported method other open_to_all none some =
+      ap (λ b. list_any (says_uncovered pattern method) (cond b [] (map (λ (group : Group). finding.Uncovered pattern group.methods) (filter is_left_out groups)))) (not_all other some)
+      ∙ any_seen (says_uncovered pattern method) (λ (group : Group). finding.Uncovered pattern group.methods) (filter is_left_out groups)
+      ∙ kept_any (λ (group : Group). bytes_eq pattern pattern && has_method method group) is_left_out groups
+      ∙ any_same (λ (group : Group). is_left_out group && (bytes_eq pattern pattern && has_method method group)) (λ (group : Group). is_left_out group && has_method method group)
+      (λ (group : Group). ap (λ b. is_left_out group && (b && has_method method group)) (same_text pattern)) groups
+      ∙ left_out method none open_to_all
+
+  -- What is found at the row of a pattern is found in the table.
+  in_table : (test : Finding → Bool) (at : Option (List ℕ) → List Group → List Finding) → lists (all_patterns constraints) pattern ≡ true → list_any test (at (Some pattern) groups) ≡ true
+      → list_any test (flat_map (λ (row : Row). at row.pattern row.groups) (table_of constraints rules).rows) ≡ true
+  in_table test at there some =
+      any_of_joined test (λ (row : Row). at row.pattern row.groups) (table_of constraints rules).rows
+      ∙ any_first (λ (row : Row). list_any test (at row.pattern row.groups)) (map (row_at constraints rules) (in_row_order (all_patterns constraints))) (cond (match_every_path (all_patterns constraints)) [] (other_paths ∷ []))
+      (any_seen (λ (row : Row). list_any test (at row.pattern row.groups)) (row_at constraints rules) (in_row_order (all_patterns constraints))
+      ∙ any_in (λ p. list_any test (at (Some p) (row_at constraints rules p).groups)) (in_row_order (all_patterns constraints)) pattern (ordered_lists (all_patterns constraints) pattern ∙ there) some)
+
+-- ---- The parts of all findings.
+module _ (test : Finding → Bool) (o u h d p e k x y : List Finding) where
+  of_five : list_any test (o ++ u ++ h ++ d ++ p) ≡ true → list_any test (o ++ u ++ h ++ d ++ p ++ e ++ k ++ x ++ y) ≡ true
+  of_five some =
+      any_first test (o ++ u ++ h ++ d ++ p ++ e ++ k ++ x) y
+      (any_first test (o ++ u ++ h ++ d ++ p ++ e ++ k) x (any_first test (o ++ u ++ h ++ d ++ p ++ e) k (any_first test (o ++ u ++ h ++ d ++ p) e some)))
+
+  of_three : list_any test (o ++ u ++ h) ≡ true → list_any test (o ++ u ++ h ++ d ++ p ++ e ++ k ++ x ++ y) ≡ true
+  of_three some = of_five (any_first test (o ++ u ++ h ++ d) p (any_first test (o ++ u ++ h) d some))
+
+  in_opened : list_any test o ≡ true → list_any test (o ++ u ++ h ++ d ++ p ++ e ++ k ++ x ++ y) ≡ true
+  in_opened some = of_three (any_first test (o ++ u) h (any_first test o u some))
+
+  in_uncovered : list_any test u ≡ true → list_any test (o ++ u ++ h ++ d ++ p ++ e ++ k ++ x ++ y) ≡ true
+  in_uncovered some = of_three (any_first test (o ++ u) h (any_last test o u some))
+
+  in_heads : list_any test h ≡ true → list_any test (o ++ u ++ h ++ d ++ p ++ e ++ k ++ x ++ y) ≡ true
+  in_heads some = of_three (any_last test (o ++ u) h some)
+
+  in_dead : list_any test d ≡ true → list_any test (o ++ u ++ h ++ d ++ p ++ e ++ k ++ x ++ y) ≡ true
+  in_dead some = of_five (any_first test (o ++ u ++ h ++ d) p (any_last test (o ++ u ++ h) d some))
+
+  in_partly_dead : list_any test p ≡ true → list_any test (o ++ u ++ h ++ d ++ p ++ e ++ k ++ x ++ y) ≡ true
+  in_partly_dead some = of_five (any_last test (o ++ u ++ h ++ d) p some)
+
+module _ (constraints : List Constraint) (rules : Rules) (held : Option (List (List ℕ))) (test : Finding → Bool) where
+  abbrev IsAmong : Type 0
+  IsAmong = list_any test (findings_of constraints rules (table_of constraints rules) held) ≡ true
+
+  among_opened : list_any test (opened constraints rules held) ≡ true → IsAmong
+  among_opened =
+      in_opened test (opened constraints rules held) (uncovered constraints rules held) (heads constraints rules held) (dead constraints rules held) (partly_dead constraints rules held) (escaped constraints) (unknown constraints rules held) (unheld constraints rules held) (unused constraints rules held)
+
+  among_uncovered : list_any test (uncovered constraints rules held) ≡ true → IsAmong
+  among_uncovered =
+      in_uncovered test (opened constraints rules held) (uncovered constraints rules held) (heads constraints rules held) (dead constraints rules held) (partly_dead constraints rules held) (escaped constraints) (unknown constraints rules held) (unheld constraints rules held) (unused constraints rules held)
+
+  among_heads : list_any test (heads constraints rules held) ≡ true → IsAmong
+  among_heads =
+      in_heads test (opened constraints rules held) (uncovered constraints rules held) (heads constraints rules held) (dead constraints rules held) (partly_dead constraints rules held) (escaped constraints) (unknown constraints rules held) (unheld constraints rules held) (unused constraints rules held)
+
+  among_dead : list_any test (dead constraints rules held) ≡ true → IsAmong
+  among_dead =
+      in_dead test (opened constraints rules held) (uncovered constraints rules held) (heads constraints rules held) (dead constraints rules held) (partly_dead constraints rules held) (escaped constraints) (unknown constraints rules held) (unheld constraints rules held) (unused constraints rules held)
+
+  among_partly_dead : list_any test (partly_dead constraints rules held) ≡ true → IsAmong
+  among_partly_dead =
+      in_partly_dead test (opened constraints rules held) (uncovered constraints rules held) (heads constraints rules held) (dead constraints rules held) (partly_dead constraints rules held) (escaped constraints) (unknown constraints rules held) (unheld constraints rules held) (unused constraints rules held)
+
+pub uncovered_found : UncoveredIsFound
+uncovered_found constraints rules held pattern method other open_to_all there none some =
+    among_uncovered constraints rules held (says_uncovered pattern method)
+    (in_table constraints rules pattern (says_uncovered pattern method) uncovered_at there (reported constraints rules pattern method other open_to_all none some))
+
+-- ---- Opened patterns.
+reported_pair : (pattern : List ℕ) (found : Option (ℕ × ℕ)) → is_some found ≡ true → list_any (says_opened pattern) (map (λ (pair : ℕ × ℕ). finding.Opened pattern pair.0 pair.1) (option_to_list found)) ≡ true
+reported_pair pattern None some = absurd (false≢true some)
+reported_pair pattern (Some pair) some = ap (λ b. b || false) (same_text pattern)
+
+pub opened_found : BestIsAMatch → OpenedIsFound
+opened_found best_is_a_match constraints rules held pattern method path number other both_on best passing =
+    among_opened constraints rules held (says_opened pattern)
+    (in_table constraints rules pattern (says_opened pattern) (λ its_pattern groups. opened_at constraints its_pattern) (in_texts (all_patterns constraints) pattern (best_is_a_match (all_patterns constraints) path pattern best).0)
+    (reported_pair pattern (opened_pair constraints pattern)
+    (pair_found constraints pattern rules method number other both_on (sym (ap (λ b. kind_and_cause (verdict_at rules None b (covering constraints b method))) best) ∙ passing))))
+
+-- ---- Dead patterns.
+same_number : (n : ℕ) → (n == n) ≡ true
+same_number n = grind arith
+
+module _ (constraints : List Constraint) (rules : Rules) (held : Option (List (List ℕ))) (c : Constraint) (pattern : List ℕ) (there : Contains constraints c) (listed : lists (patterns_in c) pattern ≡ true) where
+  abbrev has_prefix : Bool
+  has_prefix = lists (all_patterns constraints) (codes "/*")
+
+  dead_found_at : decides_nothing has_prefix pattern ≡ true → (all_dead : Bool) → is_dead has_prefix c ≡ all_dead → list_any (says_dead c.number pattern) (findings_of constraints rules (table_of constraints rules) held) ≡ true
+  dead_found_at nothing true is =
+      among_dead constraints rules held (says_dead c.number pattern)
+      (any_seen (says_dead c.number pattern) (λ (x : Constraint). finding.Dead x.number) (filter (is_dead has_prefix) constraints)
+      ∙ kept_any (λ (x : Constraint). x.number == c.number) (is_dead has_prefix) constraints
+      ∙ contained (λ (x : Constraint). is_dead has_prefix x && (x.number == c.number)) constraints c there (both (is_dead has_prefix c) (c.number == c.number) is (same_number c.number)))
+  dead_found_at nothing false is =
+      among_partly_dead constraints rules held (says_dead c.number pattern)
+      (any_of_joined (says_dead c.number pattern) (dead_patterns_in has_prefix) constraints
+      ∙ contained (λ (x : Constraint). list_any (says_dead c.number pattern) (dead_patterns_in has_prefix x)) constraints c there
+      (ap (λ b. list_any (says_dead c.number pattern) (cond b [] (map (finding.DeadPattern c.number) (filter (decides_nothing has_prefix) (patterns_in c))))) is
+      ∙ any_seen (says_dead c.number pattern) (finding.DeadPattern c.number) (filter (decides_nothing has_prefix) (patterns_in c))
+      ∙ kept_any (λ text. (c.number == c.number) && bytes_eq text pattern) (decides_nothing has_prefix) (patterns_in c)
+      ∙ any_in (λ text. decides_nothing has_prefix text && ((c.number == c.number) && bytes_eq text pattern)) (patterns_in c) pattern listed
+      (both (decides_nothing has_prefix pattern) ((c.number == c.number) && bytes_eq pattern pattern) nothing (both (c.number == c.number) (bytes_eq pattern pattern) (same_number c.number) (same_text pattern)))))
+
+pub dead_found : DeadIsFound
+dead_found constraints rules held c pattern there listed nothing = dead_found_at constraints rules held c pattern there listed nothing (is_dead (lists (all_patterns constraints) (codes "/*")) c) refl
+
+-- ---- The same callers fare alike.
+module _ (caller : Option Caller) where
+  abbrev kind : Access → Kind
+  kind access = (said_to caller access).0
+
+  opened_kind : (access : Access) → is_open access ≡ true → kind access ≡ Passes
+  opened_kind Unconstrained is = refl
+  opened_kind Uncovered is = refl
+  opened_kind UncoveredDenied is = absurd (false≢true is)
+  opened_kind Precluded is = absurd (false≢true is)
+  opened_kind NeedsTls is = absurd (false≢true is)
+  opened_kind Everyone is = refl
+  opened_kind AnyLogin is = absurd (false≢true is)
+  opened_kind (Roles names) is = absurd (false≢true is)
+
+  closed : (access : Access) → is_closed access ≡ true → kind access ≡ IsDenied
+  closed Unconstrained is = absurd (false≢true is)
+  closed Uncovered is = absurd (false≢true is)
+  closed UncoveredDenied is = refl
+  closed Precluded is = refl
+  closed NeedsTls is = refl
+  closed Everyone is = absurd (false≢true is)
+  closed AnyLogin is = absurd (false≢true is)
+  closed (Roles names) is = absurd (false≢true is)
+
+within_others : (names others : List (List ℕ)) (text : List ℕ) → list_all (lists others) names ≡ true → lists names text ≡ true → lists others text ≡ true
+within_others names others text all there =
+    found (lists others text ≡ true) (λ listed. bytes_eq listed text) names there
+    (λ k d within same. ap (lists others) (sym ((bytes_eq-Decides (slice_index_or names k d) text).0 same)) ∙ AllPass-from_list_all (lists others) names all k d within)
+
+same_texts : (names others : List (List ℕ)) → (list_all (lists others) names && list_all (lists names) others) ≡ true → (text : List ℕ) → lists names text ≡ lists others text
+same_texts names others same text =
+    both_ways (lists names text) (lists others text) (within_others names others text (and_left (list_all (lists others) names) (list_all (lists names) others) same))
+    (within_others others names text (and_right (list_all (lists others) names) (list_all (lists names) others) same))
+
+roles_alike : (caller : Option Caller) (names others : List (List ℕ)) → (list_all (lists others) names && list_all (lists names) others) ≡ true → kind caller (Roles names) ≡ kind caller (Roles others)
+roles_alike None names others same = refl
+roles_alike (Some caller) names others same = ap (λ b. (cond {A = Kind × Cause} b (Passes, cause.Role) (IsDenied, cause.NoRole)).0) (any_listed (lists caller.roles) names others (same_texts names others same))
+
+any_alike : (caller : Option Caller) (other : Access) → same_logins AnyLogin other ≡ true → kind caller AnyLogin ≡ kind caller other
+any_alike caller Unconstrained same = absurd (false≢true same)
+any_alike caller Uncovered same = absurd (false≢true same)
+any_alike caller UncoveredDenied same = absurd (false≢true same)
+any_alike caller Precluded same = absurd (false≢true same)
+any_alike caller NeedsTls same = absurd (false≢true same)
+any_alike caller Everyone same = absurd (false≢true same)
+any_alike caller AnyLogin same = refl
+any_alike caller (Roles names) same = absurd (false≢true same)
+
+named_alike : (caller : Option Caller) (names : List (List ℕ)) (other : Access) → same_logins (Roles names) other ≡ true → kind caller (Roles names) ≡ kind caller other
+named_alike caller names Unconstrained same = absurd (false≢true same)
+named_alike caller names Uncovered same = absurd (false≢true same)
+named_alike caller names UncoveredDenied same = absurd (false≢true same)
+named_alike caller names Precluded same = absurd (false≢true same)
+named_alike caller names NeedsTls same = absurd (false≢true same)
+named_alike caller names Everyone same = absurd (false≢true same)
+named_alike caller names AnyLogin same = absurd (false≢true same)
+named_alike caller names (Roles others) same = roles_alike caller names others same
+
+logins_alike : (caller : Option Caller) (access other : Access) → same_logins access other ≡ true → kind caller access ≡ kind caller other
+logins_alike caller Unconstrained other same = absurd (false≢true same)
+logins_alike caller Uncovered other same = absurd (false≢true same)
+logins_alike caller UncoveredDenied other same = absurd (false≢true same)
+logins_alike caller Precluded other same = absurd (false≢true same)
+logins_alike caller NeedsTls other same = absurd (false≢true same)
+logins_alike caller Everyone other same = absurd (false≢true same)
+logins_alike caller AnyLogin other same = any_alike caller other same
+logins_alike caller (Roles names) other same = named_alike caller names other same
+
+alike_at : (caller : Option Caller) (access other : Access) (open_both closed_both : Bool) → (is_open access && is_open other) ≡ open_both → (is_closed access && is_closed other) ≡ closed_both
+    → (open_both || closed_both || same_logins access other) ≡ true → kind caller access ≡ kind caller other
+alike_at caller access other true closed_both is was same =
+    opened_kind caller access (and_left (is_open access) (is_open other) is) ∙ sym (opened_kind caller other (and_right (is_open access) (is_open other) is))
+alike_at caller access other false true is was same =
+    closed caller access (and_left (is_closed access) (is_closed other) was) ∙ sym (closed caller other (and_right (is_closed access) (is_closed other) was))
+alike_at caller access other false false is was same = logins_alike caller access other same
+
+differ_at : (caller : Option Caller) (access other : Access) (same : Bool) → same_callers access other ≡ same → kind caller access ≢ kind caller other → not same ≡ true
+differ_at caller access other true is apart = absurd (apart (alike_at caller access other (is_open access && is_open other) (is_closed access && is_closed other) refl refl is))
+differ_at caller access other false is apart = refl
+
+module _ (constraints : List Constraint) (rules : Rules) (pattern path : List ℕ) (caller : Option Caller) (best : best_pattern (all_patterns constraints) path ≡ Some pattern) (apart : (kind_and_cause (verdict constraints rules (codes "GET") path caller)).0 ≢ (kind_and_cause (verdict constraints rules (codes "HEAD") path caller)).0) where
+  abbrev the_groups : List Group
+  the_groups = (row_at constraints rules pattern).groups
+
+  strays : (get head : Group) → get.cell ≡ cell_at rules (Some pattern) (covering constraints (Some pattern) (codes "GET")) → head.cell ≡ cell_at rules (Some pattern) (covering constraints (Some pattern) (codes "HEAD")) → not (same_callers get.cell.access head.cell.access) ≡ true
+  strays get head is was =
+      differ_at caller get.cell.access head.cell.access (same_callers get.cell.access head.cell.access) refl
+      (λ same. apart (ap (λ (x : Kind × Cause). x.0) (sym (says constraints rules pattern (codes "GET") path caller get.cell best is)) ∙ same ∙ ap (λ (x : Kind × Cause). x.0) (says constraints rules pattern (codes "HEAD") path caller head.cell best was)))
+
+  differs : head_differs the_groups ≡ true
+  differs =
+      found (head_differs the_groups ≡ true) (has_method (codes "GET")) the_groups (some_group constraints rules pattern (codes "GET"))
+      (λ k d within get_has.
+      list_any_at (λ (get : Group). has_method (codes "GET") get && head_strays the_groups get) the_groups k d within
+      (both (has_method (codes "GET") (slice_index_or the_groups k d)) (head_strays the_groups (slice_index_or the_groups k d)) get_has
+      (found (head_strays the_groups (slice_index_or the_groups k d) ≡ true) (has_method (codes "HEAD")) the_groups (some_group constraints rules pattern (codes "HEAD"))
+      (λ j e inside head_has.
+      list_any_at (λ (head : Group). has_method (codes "HEAD") head && not (same_callers (slice_index_or the_groups k d).cell.access head.cell.access)) the_groups j e inside
+      (both (has_method (codes "HEAD") (slice_index_or the_groups j e)) (not (same_callers (slice_index_or the_groups k d).cell.access (slice_index_or the_groups j e).cell.access)) head_has
+      (strays (slice_index_or the_groups k d) (slice_index_or the_groups j e) (in_row constraints rules pattern (codes "GET") k d within get_has) (in_row constraints rules pattern (codes "HEAD") j e inside head_has)))))))
+
+  head_reported : list_any (says_head pattern) (head_at (Some pattern) the_groups) ≡ true
+  head_reported =
+      ap (λ b. list_any (says_head pattern) (cond b (finding.HeadDiffers pattern ∷ []) [])) differs ∙ ap (λ b. b || false) (same_text pattern)
+
+pub head_found : BestIsAMatch → HeadIsFound
+head_found best_is_a_match constraints rules held pattern path caller best apart =
+    among_heads constraints rules held (says_head pattern)
+    (in_table constraints rules pattern (says_head pattern) head_at (in_texts (all_patterns constraints) pattern (best_is_a_match (all_patterns constraints) path pattern best).0)
+    (head_reported constraints rules pattern path caller best apart))

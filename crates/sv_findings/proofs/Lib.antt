@@ -1,0 +1,4 @@
+pub mod OpenedLemmas
+pub mod OpenedSteps
+pub mod FindingLemmas
+pub mod FoundFindings

@@ -1,0 +1,14 @@
+use Rattle.sv_findings.proofs.FoundFindings.{dead_found, head_found, opened_found, uncovered_found}
+use Rattle.sv_findings.proofs.laws.findings_are_complete.Goals as goal
+
+pub returns-clause-opened : goal.returns-clause-opened
+returns-clause-opened c = opened_found c.best_is_a_match.ensures
+
+pub returns-clause-uncovered : goal.returns-clause-uncovered
+returns-clause-uncovered c = uncovered_found
+
+pub returns-clause-heads : goal.returns-clause-heads
+returns-clause-heads c = head_found c.best_is_a_match.ensures
+
+pub returns-clause-dead : goal.returns-clause-dead
+returns-clause-dead c = dead_found

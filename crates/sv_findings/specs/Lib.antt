@@ -1,0 +1,5 @@
+pub mod Dead
+pub mod Opened
+pub mod RoleFindings
+pub mod Findings
+pub mod FindingLaws

@@ -1,0 +1,15 @@
+//! Findings: what the security constraints of a context probably leave open by mistake, or state without effect (Jakarta
+//! Servlet 6.0, section 13.8).
+#![tactic(auto)]
+
+mod dead;
+mod finding;
+mod findings;
+mod heads;
+mod laws;
+mod opened;
+mod role_findings;
+
+pub use finding::Finding;
+pub use findings::findings_of;
+pub use laws::{findings_are_complete, findings_are_right};
