@@ -6,7 +6,7 @@ use Rattle.sv_program.specs.Configuration.{Step, each, text_of}
 use Rattle.sv_program.specs.FileStore.{AreRead, FileText, Giving, Reading}
 use Rattle.sv_program.specs.declared.configuration.ContextTexts.{ContextTexts}
 use Rattle.sv_report.specs.FindingWords.{kind_name}
-use Rattle.sv_report.specs.Page.{audit_html}
+use Rattle.sv_page.specs.Page.{audit_html}
 use Rattle.sv_report.specs.Json.{audit_json}
 use Rattle.sv_report.specs.Keys.{keys_text}
 use Rattle.sv_report.specs.Text.{audit_text}

@@ -14,10 +14,9 @@ use crate::kinds::lists_kind;
 use crate::line_file::located;
 use crate::viewer::check_viewer;
 use std::alloc::Global;
+use sv_page::audit_html;
 use sv_program::{CommandFault, ContextTexts};
-use sv_report::{
-    ContextReport, ReportedFinding, audit_html, audit_json, audit_text, keys_text, kind_name,
-};
+use sv_report::{ContextReport, ReportedFinding, audit_json, audit_text, keys_text, kind_name};
 use sv_text::{Listed, NoMemory, Text};
 
 /// A report on access.

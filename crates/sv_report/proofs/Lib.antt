@@ -1,3 +1,1 @@
 pub mod JsonLemmas
-pub mod MarkupLemmas
-pub mod HtmlLemmas

@@ -11,8 +11,3 @@ pub mod JsonParts
 pub mod FindingJson
 pub mod Json
 pub mod Keys
-pub mod Markup
-pub mod CellWords
-pub mod HtmlCells
-pub mod HtmlTables
-pub mod Page

@@ -12,8 +12,8 @@ use crate::places::line_of;
 use crate::report::ReportedFinding;
 use serde_json::{Map, Value};
 use std::alloc::Global;
-use sv_findings::Finding;
 use sv_constraints::Methods;
+use sv_findings::Finding;
 use sv_text::NoMemory;
 
 /// Returns findings as values. Constraints begin on `lines`.

@@ -9,8 +9,8 @@ use crate::parts::joined;
 use crate::places::number_text;
 use crate::words::{methods_text, shown_pattern};
 use std::alloc::Global;
-use sv_findings::Finding;
 use sv_constraints::Methods;
+use sv_findings::Finding;
 use sv_text::{NoMemory, Text};
 
 /// Returns the name of the kind of a finding, by which options and files of accepted findings name it.

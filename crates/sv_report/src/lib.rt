@@ -1,20 +1,15 @@
-//! Reports on who may reach what: access tables and findings as text, as JSON and as HTML.
+//! Reports on who may reach what: access tables and findings as text and as JSON.
 #![tactic(auto)]
 
-mod cell_words;
 mod details;
 pub mod escaped;
 mod finding_lines;
 mod finding_values;
 mod finding_words;
-mod html_cells;
-mod html_tables;
 mod json_words;
 mod keys;
 mod lines;
-mod markup;
 mod members;
-mod page;
 mod parts;
 mod places;
 mod report;
@@ -22,11 +17,13 @@ mod values;
 mod viewers;
 mod words;
 
-pub use finding_words::kind_name;
-pub use html_tables::MAX_SHOWN_ROWS;
+pub use details::detail_text;
+pub use finding_words::{heading, kind_name, problem_text, remedy};
 pub use keys::keys_text;
 pub use lines::{METHODS_WIDTH, PATTERN_WIDTH, WHO_WIDTH, audit_text};
-pub use markup::{html_text, html_text_is_plain};
-pub use page::audit_html;
+pub use parts::joined;
+pub use places::{constraint_text, number_text, place_text};
 pub use report::{ContextReport, ReportedFinding, ReportedRow, Viewer};
 pub use values::audit_json;
+pub use viewers::{entry_text, hidden_text, viewer_title};
+pub use words::{methods_text, pattern_text};

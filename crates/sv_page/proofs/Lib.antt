@@ -1,0 +1,2 @@
+pub mod MarkupLemmas
+pub mod HtmlLemmas

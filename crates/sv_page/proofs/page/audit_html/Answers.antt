@@ -1,0 +1,13 @@
+use Rattle.std.proofs.Common.{ap, ap₂, codes, [], ◌∷◌, ◌∙◌}
+use Rattle.sv_page.specs.Page.{list_html}
+use Rattle.sv_report.specs.Parts.{joined}
+use Rattle.sv_page.specs.declared.page.TheConstants.{PAGE_START}
+use Rattle.sv_page.proofs.HtmlLemmas.{given}
+use Rattle.sv_page.proofs.page.audit_html.Goals as goal
+
+pub returns : goal.returns
+returns c =
+    given c.joined.result _ _
+    (ap₂ (λ list sections. joined (PAGE_START.now ∷ list ∷ sections ∷ codes "</body>\n</html>\n" ∷ []))
+    (c.as_str-2.ensures ∙ c.in_ok-list.ensures ∙ ap list_html (c.as_str.ensures ∙ c.in_ok-findings.ensures)) (c.as_str-3.ensures ∙ c.in_ok-sections.ensures))
+    c.joined.ensures

@@ -1,0 +1,5 @@
+pub mod Markup
+pub mod CellWords
+pub mod HtmlCells
+pub mod HtmlTables
+pub mod Page

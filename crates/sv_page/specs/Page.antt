@@ -1,0 +1,33 @@
+-- The page of a report.
+use Rattle.std.specs.Prelude.{ℕ, ◌==◌, List, [], ◌∷◌, codes, length, if◌then◌else◌}
+use Rattle.std.specs.List.{flat_map}
+use Rattle.sv_uri.specs.ContextPath.{shown_context}
+use Rattle.sv_report.specs.FindingWords.{heading, problem_text, remedy}
+use Rattle.sv_page.specs.HtmlTables.{section_html}
+use Rattle.sv_page.specs.Markup.{html_text}
+use Rattle.sv_report.specs.Parts.{joined}
+use Rattle.sv_report.specs.Places.{line_of, place_text}
+use Rattle.sv_page.specs.declared.page.TheConstants.{PAGE_START}
+use Rattle.sv_report.specs.declared.report.ContextReport.{ContextReport}
+use Rattle.sv_report.specs.declared.report.ReportedFinding.{ReportedFinding}
+
+-- What a finding is, and the place of its constraint.
+abbrev pub located_problem : ContextReport → ReportedFinding → List ℕ
+located_problem context reported = html_text (joined (problem_text reported.finding ∷ place_text context.file (line_of context.lines reported.constraint) ∷ []))
+
+-- The item of a finding: its context, what it is and what to write.
+unfoldable pub item_html : ContextReport → ReportedFinding → List ℕ
+item_html context reported = joined (
+    codes "<li class=\"" ∷ heading reported.is_accepted ∷ codes "\"><b>" ∷ heading reported.is_accepted
+    ∷ codes "</b> <code>" ∷ html_text (shown_context context.path) ∷ codes "</code> " ∷ located_problem context reported
+    ∷ codes "<br>" ∷ html_text (remedy reported.finding) ∷ codes "</li>\n" ∷ [])
+
+abbrev pub context_items : ContextReport → List ℕ
+context_items context = flat_map (item_html context) context.findings
+
+abbrev pub list_html : List ℕ → List ℕ
+list_html items = if length items == 0 then codes "<p>There are no findings.</p>\n" else joined (codes "<ul>\n" ∷ items ∷ codes "</ul>\n" ∷ [])
+
+-- The findings, then the tables.
+abbrev pub audit_html : List ContextReport → List ℕ
+audit_html contexts = joined (PAGE_START.now ∷ list_html (flat_map context_items contexts) ∷ flat_map section_html contexts ∷ codes "</body>\n</html>\n" ∷ [])

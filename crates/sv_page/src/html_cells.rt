@@ -1,0 +1,129 @@
+//! The cells of access tables in HTML.
+
+ghost use Rattle.std.specs.Prelude.{◌≡◌, ◌++◌, OnOk, string_bytes};
+ghost use Rattle.std.specs.List.{flat_map};
+ghost use Rattle.sv_text.specs.Gives.{GivesAnswer};
+ghost use Rattle.sv_page.specs.HtmlCells as spec;
+
+use crate::cell_words::{class_of, explanation, reason};
+use crate::markup::html_text;
+use std::alloc::Global;
+use sv_audit::Group;
+use sv_report::{
+    ContextReport, ReportedRow, detail_text, entry_text, joined, methods_text, pattern_text,
+};
+use sv_text::{NoMemory, Text};
+
+/// Returns a row: its pattern with an example and its exceptions, and a cell for each group of methods.
+#[tactic(auto, unfolding(crate::specs::HtmlCells::row_html))]
+pub fn row_html(alloc: Global, context: &ContextReport, row: &ReportedRow) -> Result<Text, NoMemory>
+    ensures { GivesAnswer result (spec.row_html context.now row.now) }
+{
+    let pattern = pattern_text(alloc, &row.row.pattern)?;
+    let pattern = html_text(alloc, pattern.as_str())?;
+    let details = detail_text(alloc, context.path.as_str(), row)?;
+    let details = html_text(alloc, details.as_str())?;
+    let cells = cells_html(alloc, context, row.row.groups.as_slice())?;
+    row_of(alloc, pattern.as_str(), details.as_str(), cells.as_str())
+}
+
+/// Returns a row of these parts, which are HTML.
+#[tactic(auto, unfolding(crate::specs::HtmlCells::row_of))]
+pub fn row_of(alloc: Global, pattern: &str, details: &str, cells: &str) -> Result<Text, NoMemory>
+    ensures { GivesAnswer result (spec.row_of pattern.now details.now cells.now) }
+{
+    joined(
+        alloc,
+        &[
+            "<tr><th scope=\"row\"><code>",
+            pattern,
+            "</code><small>",
+            details,
+            "</small></th><td>",
+            cells,
+            "</td></tr>\n",
+        ],
+    )
+}
+
+fn cells_html(alloc: Global, context: &ContextReport, groups: &[Group]) -> Result<Text, NoMemory>
+    ensures { GivesAnswer result (flat_map (spec.group_html context.now) groups.now) }
+{
+    let mut text = String::new(alloc);
+    for group in groups {
+        push_group(&mut text, alloc, context, group)?;
+    }
+    Ok(Text::from_string(text))
+}
+
+fn push_group(
+    text: &mut String,
+    alloc: Global,
+    context: &ContextReport,
+    group: &Group,
+) -> Result<(), NoMemory>
+    ensures { OnOk result (string_bytes text.new ≡ string_bytes text.old ++ spec.group_html context.now group.now) }
+{
+    let cell = group_html(alloc, context, group)?;
+    Ok(text.push_str(cell.as_str())?)
+}
+
+#[tactic(auto, unfolding(crate::specs::HtmlCells::group_html))]
+fn group_html(alloc: Global, context: &ContextReport, group: &Group) -> Result<Text, NoMemory>
+    ensures { GivesAnswer result (spec.group_html context.now group.now) }
+{
+    let access = &group.cell.access;
+    let methods = methods_text(alloc, &group.methods)?;
+    let who = entry_text(alloc, &context.viewer, context.has_login, access)?;
+    let why = why_text(alloc, context, group)?;
+    cell_html(
+        alloc,
+        class_of(context.has_login, access),
+        methods.as_str(),
+        who.as_str(),
+        why.as_str(),
+    )
+}
+
+#[tactic(auto, unfolding(crate::specs::HtmlCells::why_text))]
+fn why_text(alloc: Global, context: &ContextReport, group: &Group) -> Result<Text, NoMemory>
+    ensures { GivesAnswer result (spec.why_text context.now group.now) }
+{
+    let reason = reason(context.has_login, &group.cell.access);
+    explanation(
+        alloc,
+        context.lines.as_slice(),
+        reason,
+        group.cell.constraint,
+    )
+}
+
+/// Returns a cell of these texts, in the color of its class.
+#[tactic(auto, unfolding(crate::specs::HtmlCells::cell_html))]
+pub fn cell_html(
+    alloc: Global,
+    class: &str,
+    methods: &str,
+    who: &str,
+    why: &str,
+) -> Result<Text, NoMemory>
+    ensures { GivesAnswer result (spec.cell_html class.now methods.now who.now why.now) }
+{
+    let methods = html_text(alloc, methods)?;
+    let who = html_text(alloc, who)?;
+    let why = html_text(alloc, why)?;
+    joined(
+        alloc,
+        &[
+            "<details class=\"",
+            class,
+            "\"><summary><b>",
+            methods.as_str(),
+            "</b> ",
+            who.as_str(),
+            "</summary>",
+            why.as_str(),
+            "</details>",
+        ],
+    )
+}

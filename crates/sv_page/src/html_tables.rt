@@ -1,0 +1,181 @@
+//! Access tables in HTML.
+
+ghost use Rattle.std.specs.Prelude.{◌≡◌, ◌++◌, OnOk, length, string_bytes};
+ghost use Rattle.std.specs.List.{flat_map};
+ghost use Rattle.sv_text.specs.Gives.{GivesAnswer};
+ghost use Rattle.sv_page.specs.HtmlCells as cells;
+ghost use Rattle.sv_page.specs.HtmlTables as spec;
+
+use crate::html_cells::{cell_html, row_html, row_of};
+use crate::markup::html_text;
+use std::alloc::Global;
+use sv_report::{
+    ContextReport, ReportedRow, Viewer, hidden_text, joined, number_text, viewer_title,
+};
+use sv_text::{NoMemory, Text};
+use sv_uri::shown_context;
+
+/// The number of rows of a context that a page shows.
+pub const MAX_SHOWN_ROWS: usize = 2000;
+
+/// Returns the part of a page on a context: its path, its file and its table.
+#[tactic(auto, unfolding(crate::specs::HtmlTables::section_html))]
+pub fn section_html(alloc: Global, context: &ContextReport) -> Result<Text, NoMemory>
+    ensures { GivesAnswer result (spec.section_html context.now) }
+{
+    let heading = heading_html(alloc, context)?;
+    let title = title_html(alloc, &context.viewer)?;
+    let rows = shown_html(alloc, context)?;
+    let others = other_rows(alloc, context)?;
+    let note = note_html(alloc, context.rows.as_slice())?;
+    joined(
+        alloc,
+        &[
+            heading.as_str(),
+            title.as_str(),
+            rows.as_str(),
+            others.as_str(),
+            "</table>\n</div>\n",
+            note.as_str(),
+            "</section>\n",
+        ],
+    )
+}
+
+fn heading_html(alloc: Global, context: &ContextReport) -> Result<Text, NoMemory>
+    ensures { GivesAnswer result (spec.heading_html context.now) }
+{
+    let path = shown_context(context.path.as_str());
+    heading_of(alloc, path, context.file.as_str())
+}
+
+#[tactic(auto, unfolding(crate::specs::HtmlTables::heading_of))]
+fn heading_of(alloc: Global, path: &str, file: &str) -> Result<Text, NoMemory>
+    ensures { GivesAnswer result (spec.heading_of path.now file.now) }
+{
+    let path = html_text(alloc, path)?;
+    let file = html_text(alloc, file)?;
+    joined(
+        alloc,
+        &[
+            "<section>\n<h2><code>",
+            path.as_str(),
+            "</code> <small>",
+            file.as_str(),
+            "</small></h2>\n",
+        ],
+    )
+}
+
+fn title_html(alloc: Global, viewer: &Option<Viewer>) -> Result<Text, NoMemory>
+    ensures { GivesAnswer result (spec.title_html viewer.now) }
+{
+    let title = viewer_title(alloc, viewer)?;
+    let title = html_text(alloc, title.as_str())?;
+    joined(
+        alloc,
+        &[
+            "<div class=\"table\">\n<table>\n<tr><th scope=\"col\">pattern</th><th scope=\"col\">",
+            title.as_str(),
+            "</th></tr>\n",
+        ],
+    )
+}
+
+/// Returns the first rows, at most so many.
+fn first_rows(rows: &[ReportedRow], most: usize) -> &[ReportedRow]
+    ensures { result.now ≡ spec.first_rows most rows.now }
+{
+    if rows.len() <= most {
+        rows
+    } else {
+        &rows[..most]
+    }
+}
+
+#[tactic(auto, unfolding(crate::specs::HtmlTables::shown_html))]
+fn shown_html(alloc: Global, context: &ContextReport) -> Result<Text, NoMemory>
+    ensures { GivesAnswer result (spec.shown_html context.now) }
+{
+    let rows = first_rows(context.rows.as_slice(), MAX_SHOWN_ROWS);
+    rows_html(alloc, context, rows)
+}
+
+fn rows_html(alloc: Global, context: &ContextReport, rows: &[ReportedRow]) -> Result<Text, NoMemory>
+    ensures { GivesAnswer result (flat_map (cells.row_html context.now) rows.now) }
+{
+    let mut text = String::new(alloc);
+    for row in rows {
+        push_row(&mut text, alloc, context, row)?;
+    }
+    Ok(Text::from_string(text))
+}
+
+fn push_row(
+    text: &mut String,
+    alloc: Global,
+    context: &ContextReport,
+    row: &ReportedRow,
+) -> Result<(), NoMemory>
+    ensures { OnOk result (string_bytes text.new ≡ string_bytes text.old ++ cells.row_html context.now row.now) }
+{
+    let row = row_html(alloc, context, row)?;
+    Ok(text.push_str(row.as_str())?)
+}
+
+/// Returns the rows of the protected folders and of the login post.
+fn other_rows(alloc: Global, context: &ContextReport) -> Result<Text, NoMemory>
+    ensures { GivesAnswer result (spec.other_rows context.now) }
+{
+    let hidden = hidden_html(alloc, &context.viewer)?;
+    let login = login_html(alloc, context.has_login)?;
+    joined(alloc, &[hidden.as_str(), login.as_str()])
+}
+
+fn hidden_html(alloc: Global, viewer: &Option<Viewer>) -> Result<Text, NoMemory>
+    ensures { GivesAnswer result (spec.hidden_html viewer.now) }
+{
+    let cell = cell_html(
+        alloc,
+        "hidden",
+        "all",
+        hidden_text(viewer),
+        "The container never serves these folders (sections 10.5 and 10.6).",
+    )?;
+    row_of(alloc, "/WEB-INF/*, /META-INF/*", "", cell.as_str())
+}
+
+fn login_html(alloc: Global, has_login: bool) -> Result<Text, NoMemory>
+    ensures { GivesAnswer result (spec.login_html has_login) }
+{
+    if !has_login {
+        return Text::copy_of(alloc, "");
+    }
+    let cell = cell_html(
+        alloc,
+        "post",
+        "POST",
+        "login post",
+        "The container answers the login form (section 13.6.3.1).",
+    )?;
+    row_of(alloc, "*/j_security_check", "", cell.as_str())
+}
+
+/// Returns a note if not all rows are shown.
+fn note_html(alloc: Global, rows: &[ReportedRow]) -> Result<Text, NoMemory>
+    ensures { GivesAnswer result (spec.note_html (length rows.now)) }
+{
+    let count = rows.len();
+    if count <= MAX_SHOWN_ROWS {
+        return Text::copy_of(alloc, "");
+    }
+    let count = number_text(alloc, count as u64)?;
+    joined(
+        alloc,
+        &[
+            "<p>Only the first 2,000 of ",
+            count.as_str(),
+            " rows are shown.</p>\n",
+        ],
+    )
+}

@@ -1,5 +1,0 @@
-use Rattle.sv_report.proofs.MarkupLemmas.{text_is_plain}
-use Rattle.sv_report.proofs.markup.html_text_is_plain.Goals as goal
-
-pub returns : goal.returns
-returns c = text_is_plain
