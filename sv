@@ -1,7 +1,7 @@
 #!/usr/bin/env bash
 # ./sv COMMAND ..   runs the program, from any folder, on standard input and with the arguments as they are: the released
 #                   program where it was built from these sources, else one that is built here first.
-# ./sv audit WEB-INF/web.xml ..   imports the web.xml first (tools/audit-web-xml).
+# ./sv audit .. WEB-INF/web.xml ..   imports each web.xml first (tools/audit-web-xml).
 # ./sv build        proves and builds the program from these sources.
 # ./sv release      does so, and makes it the released program.
 set -eu
@@ -72,16 +72,37 @@ build() {
     echo "sv: $# of $# done, $SECONDS s" >&2
 }
 
-# Makes the program that was built the released one.
+# Proves and builds the crates of the program, and makes it the released one.
 release() {
+    build "$@"
     cp "$built/sv" "$built/sources" "$released"
+}
+
+# Prints the usage of the command $1, `build` or `release`.
+usage() {
+    echo "sv $1"
+    case $1 in
+        build) echo "    proves and builds the program from its sources, in half an hour or more" ;;
+        release) echo "    does what build does, and makes the program the released one" ;;
+    esac
+}
+
+# Runs the command $1, `build` or `release`, unless the arguments after it are wrong or ask for its usage.
+build_command() {
+    if [ $# = 1 ]; then
+        "$1" "${crates[@]}"
+    elif [[ $# == 2 && ($2 == -h || $2 == --help) ]]; then
+        usage "$1"
+    else
+        printf 'sv: usage\n  usage: sv %s\n' "$1" >&2
+        exit 2
+    fi
 }
 
 set -o pipefail
 mapfile -t crates < <(program_crates)
 case ${1:-} in
-    build) build "${crates[@]}" ;;
-    release) build "${crates[@]}" && release ;;
+    build | release) build_command "$@" ;;
     *)
         if runs_here && is_of_tree "$released"; then
             run=$released/sv
@@ -89,7 +110,7 @@ case ${1:-} in
             is_of_tree "$built" || build "${crates[@]}"
             run=$built/sv
         fi
-        if [[ ${1:-} == audit && ${2:-} == *.xml ]]; then
+        if [[ ${1:-} == audit && " ${*:2} " == *".xml "* ]]; then
             exec "$top/tools/audit-web-xml" "$run" "${@:2}"
         fi
         exec "$run" "$@"

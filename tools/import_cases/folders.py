@@ -2,6 +2,7 @@
 from __future__ import annotations
 
 import contextlib
+import errno
 import io
 import os
 import re
@@ -14,7 +15,7 @@ import tempfile
 import zipfile
 from pathlib import Path
 from types import FrameType, ModuleType
-from typing import Iterator
+from typing import Callable, Iterator
 from unittest import mock
 
 from library import load_script
@@ -149,6 +150,7 @@ def ran(script: Path, arguments: list[str], room: Path, given: dict[str, str]) -
             contextlib.redirect_stderr(stderr),
             masked(0o022),
             limited(int(given.get("file-limit", "0"))),
+            refused(given.get("refused-name", "").strip()),
             timed(MAX_SECONDS),
         ):
             stack.enter_context(context)
@@ -185,6 +187,31 @@ def limited(size: int) -> Iterator[None]:
 
 
 @contextlib.contextmanager
+def refused(name: str) -> Iterator[None]:
+    """Lets the system refuse to give a file this name, if one is given, and to list a folder of this name."""
+
+    def listed(path: Path) -> list[str]:
+        if name and Path(path).name == name:
+            raise OSError(errno.EACCES, os.strerror(errno.EACCES), path)
+        return names(path)
+
+    names = os.listdir
+
+    def unless_refused(call: Callable[..., None]) -> Callable[..., None]:
+        def give(source: str, target: str, **options: object) -> None:
+            if name and target == name:
+                raise OSError(errno.EIO, os.strerror(errno.EIO), target)
+            call(source, target, **options)
+
+        return give
+
+    with mock.patch("os.link", unless_refused(os.link)), mock.patch(
+        "os.replace", unless_refused(os.replace)
+    ), mock.patch("os.listdir", listed):
+        yield
+
+
+@contextlib.contextmanager
 def timed(seconds: float) -> Iterator[None]:
     """Interrupts what takes longer."""
 
@@ -210,6 +237,7 @@ def tried_notation() -> list[str]:
         "exits": ("raise SystemExit(1)", False),
         "exceeds the limit": ("open('web.toml', 'w').write(5000 * 'x')", False),
         "waits": ("open('pipe')", False),
+        "is refused a name": ("import os; os.replace('users.toml', 'web.lines')", False),
     }
     faults = []
     with tempfile.TemporaryDirectory(prefix="sv-import-") as name, mock.patch(
@@ -222,6 +250,7 @@ def tried_notation() -> list[str]:
             "modes": "users.toml 600\nlink link:other\n",
             "nodes": "link link other\nfifo pipe\nmode users.toml 600\n",
             "file-limit": "4096\n",
+            "refused-name": "web.lines\n",
             "users.toml": "u",
             "before/users.toml": "u",
             "before/other": "o",

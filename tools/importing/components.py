@@ -16,6 +16,8 @@ from .words import Table, init_params, truth, whole, words
 
 FILE_SERVLET = "default"
 EVERY_SERVLET = "*"
+# A servlet that Tomcat and Jetty declare for every application.
+PAGE_SERVLET = "jsp"
 # What a class that is not in this program stands as.
 ANY_SERVLET = "Paths"
 ANY_FILTER = "Mark"
@@ -39,7 +41,7 @@ class Names:
         name = element.text_of(f"{self.kind}-name")
         named = element.first(f"{self.kind}-name")
         if named is None:
-            told.tell(Rank.BEHAVIOR, element.line, f"a {self.kind} without a name is not read")
+            told.tell(Rank.ERROR, element.line, f"a {self.kind} has no {self.kind}-name")
         elif not name:
             told.tell(Rank.ERROR, named.line, f"{named.name} is empty")
         elif name in self._written:
@@ -189,11 +191,17 @@ def servlet_mappings(root: Element, names: Names, told: Told) -> list[Table]:
         written = names.find(name)
         if name == FILE_SERVLET:
             _tell_patterns_of_files(element, told)
-        elif written is None:
+        elif written is None and name == PAGE_SERVLET:
             told.tell(
                 Rank.BEHAVIOR,
                 element.line,
-                f"no servlet {shortened(name)} is declared: its mapping is not read",
+                "servlet jsp, which Tomcat and Jetty declare themselves, is not in this program: its mapping is not read",
+            )
+        elif written is None:
+            told.tell(
+                Rank.ERROR,
+                element.line,
+                f"no servlet {shortened(name)} is declared; Tomcat does not start such an application",
             )
         else:
             patterns = [
@@ -203,9 +211,9 @@ def servlet_mappings(root: Element, names: Names, told: Told) -> list[Table]:
                 tables.append({"servlet-name": written, "url-pattern": list(patterns)})
             elif element.first("url-pattern") is None:
                 told.tell(
-                    Rank.BEHAVIOR,
+                    Rank.ERROR,
                     element.line,
-                    f"a mapping of servlet {shortened(name)} without a pattern is not read",
+                    f"a mapping of servlet {shortened(name)} has no url-pattern; Tomcat does not start such an application",
                 )
     return tables
 
@@ -266,9 +274,9 @@ def filter_mappings(
         written = filter_names.find(name)
         if written is None:
             told.tell(
-                Rank.BEHAVIOR,
+                Rank.ERROR,
                 element.line,
-                f"no filter {shortened(name)} is declared: its mapping is not read",
+                f"no filter {shortened(name)} is declared; Tomcat does not start such an application",
             )
             continue
         patterns = [
@@ -276,7 +284,13 @@ def filter_mappings(
         ]
         servlet_list = _servlets_of(element, servlet_names, told)
         dispatchers = _dispatchers(element, told)
-        if not patterns and not servlet_list:
+        if element.first("url-pattern") is None and element.first("servlet-name") is None:
+            told.tell(
+                Rank.ERROR,
+                element.line,
+                f"a mapping of filter {shortened(name)} has no url-pattern and no servlet-name; Tomcat does not start such an application",
+            )
+        elif not patterns and not servlet_list:
             told.tell(
                 Rank.BEHAVIOR,
                 element.line,

@@ -16,6 +16,8 @@ PRIVATE = 0o600
 # The mask of the process applies.
 PUBLIC = 0o666
 
+# Only Linux opens a folder that cannot be read.
+_FOLDER = getattr(os, "O_PATH", os.O_RDONLY) | os.O_DIRECTORY
 _IS_A_LINK = "is a link, which is not followed"
 _IS_NOT_REGULAR = "is not a regular file"
 
@@ -33,11 +35,10 @@ class NewFile:
     like: os.stat_result | None = None
 
 
-def open_regular(path: Path, flags: int = 0) -> BinaryIO:
-    """Opens a regular file to read it. Waits for no FIFO and opens no device."""
-    if not stat.S_ISREG(path.stat().st_mode):
-        raise _refusal(path, _IS_NOT_REGULAR)
-    file = os.fdopen(os.open(path, os.O_RDONLY | os.O_NONBLOCK | flags), "rb")
+def open_regular(path: Path) -> BinaryIO:
+    """Opens a regular file to read it. Follows no link to it, waits for no FIFO and opens no device."""
+    _check_regular(path, path.lstat())
+    file = os.fdopen(os.open(path, os.O_RDONLY | os.O_NONBLOCK | os.O_NOFOLLOW), "rb")
     if not stat.S_ISREG(os.fstat(file.fileno()).st_mode):
         file.close()
         raise _refusal(path, _IS_NOT_REGULAR)
@@ -53,7 +54,8 @@ def read_regular(path: Path) -> bytes:
 def write_files(folder: Path, files: list[NewFile]) -> None:
     """Writes files into a folder, which it makes if there is none. If one of them is refused or cannot be written, no file is changed.
 
-    Links are not followed, neither the folder's nor that of a file."""
+    Each file is on the disk under a temporary name before the first one gets its own. Links are not followed, neither that of a file nor that of a
+    folder in the path."""
     with _opened_folder(folder) as number:
         for file in files:
             with _named(folder / file.name):
@@ -62,15 +64,69 @@ def write_files(folder: Path, files: list[NewFile]) -> None:
         try:
             for file in files:
                 with _named(folder / file.name):
-                    temporaries.append(f".{file.name}.{secrets.token_hex(8)}")
+                    temporaries.append(_hidden(file.name, "new"))
                     _write(number, temporaries[-1], file)
-            for file, temporary in zip(files, temporaries):
-                with _named(folder / file.name):
-                    _publish(number, temporary, file)
+            with _Names(number) as names:
+                for file, temporary in zip(files, temporaries):
+                    with _named(folder / file.name):
+                        names.give(file, temporary)
+                with _named(folder):
+                    _sync(number)
         finally:
             for temporary in temporaries:
                 with contextlib.suppress(FileNotFoundError):
                     os.unlink(temporary, dir_fd=number)
+
+
+class _Names:
+    """Gives files of a folder their names. If that ends with a fault, each name has again what had it."""
+
+    def __init__(self, folder: int) -> None:
+        self._folder = folder
+        # The names, each with the name of a copy of the file that had it.
+        self._given: list[tuple[str, str | None]] = []
+
+    def __enter__(self) -> _Names:
+        return self
+
+    def __exit__(self, kind: type[BaseException] | None, *_rest: object) -> None:
+        for name, old in reversed(self._given):
+            if kind is None and old is not None:
+                os.unlink(old, dir_fd=self._folder)
+            elif kind is not None and old is not None:
+                self._rename(old, name)
+            elif kind is not None:
+                os.unlink(name, dir_fd=self._folder)
+        if self._given:
+            _sync(self._folder)
+
+    def give(self, file: NewFile, temporary: str) -> None:
+        """Gives a file, which has a temporary name, its own."""
+        if not file.may_replace:
+            # A link, unlike a rename, fails if a file of that name appeared meanwhile.
+            self._link(temporary, file.name)
+            self._given.append((file.name, None))
+            return
+        old: str | None = _hidden(file.name, "old")
+        try:
+            self._link(file.name, old)
+        except FileNotFoundError:
+            old = None
+        try:
+            self._rename(temporary, file.name)
+        except BaseException:
+            if old is not None:
+                os.unlink(old, dir_fd=self._folder)
+            raise
+        self._given.append((file.name, old))
+
+    def _link(self, name: str, other: str) -> None:
+        os.link(
+            name, other, src_dir_fd=self._folder, dst_dir_fd=self._folder, follow_symlinks=False
+        )
+
+    def _rename(self, name: str, other: str) -> None:
+        os.replace(name, other, src_dir_fd=self._folder, dst_dir_fd=self._folder)
 
 
 @contextlib.contextmanager
@@ -84,27 +140,59 @@ def locked(folder: Path) -> Iterator[None]:
 
 @contextlib.contextmanager
 def _opened_folder(path: Path) -> Iterator[int]:
-    if path.is_symlink():
+    """Opens a folder, and makes each folder of its path that there is not."""
+    with contextlib.ExitStack() as opened:
+        parts = path.parts[1:] if path.is_absolute() else path.parts
+        number = os.open("/" if path.is_absolute() else ".", _FOLDER)
+        opened.callback(os.close, number)
+        for place, part in enumerate(parts, len(path.parts) - len(parts) + 1):
+            with _named(Path(*path.parts[:place])):
+                number = _opened_inner(number, part)
+                opened.callback(os.close, number)
+        with _named(path):
+            last = os.open(".", os.O_RDONLY | os.O_DIRECTORY, dir_fd=number)
+            opened.callback(os.close, last)
+        yield last
+
+
+def _opened_inner(outer: int, name: str) -> int:
+    """Opens a folder in another one, and makes it if there is none."""
+    with contextlib.suppress(FileExistsError):
+        os.mkdir(name, dir_fd=outer)
+    if stat.S_ISLNK(os.stat(name, dir_fd=outer, follow_symlinks=False).st_mode):
+        raise _refusal(Path(name), _IS_A_LINK)
+    return os.open(name, _FOLDER | os.O_NOFOLLOW, dir_fd=outer)
+
+
+def _check_regular(path: Path, status: os.stat_result) -> None:
+    if stat.S_ISLNK(status.st_mode):
         raise _refusal(path, _IS_A_LINK)
-    path.mkdir(parents=True, exist_ok=True)
-    number = os.open(path, os.O_RDONLY | os.O_DIRECTORY | os.O_NOFOLLOW)
-    try:
-        yield number
-    finally:
-        os.close(number)
+    if not stat.S_ISREG(status.st_mode):
+        raise _refusal(path, _IS_NOT_REGULAR)
 
 
 def _check_target(folder: int, file: NewFile) -> None:
     try:
-        mode = os.stat(file.name, dir_fd=folder, follow_symlinks=False).st_mode
+        status = os.stat(file.name, dir_fd=folder, follow_symlinks=False)
     except FileNotFoundError:
         return
-    if stat.S_ISLNK(mode):
-        raise _refusal(Path(file.name), _IS_A_LINK)
-    if not stat.S_ISREG(mode):
-        raise _refusal(Path(file.name), _IS_NOT_REGULAR)
+    _check_regular(Path(file.name), status)
     if not file.may_replace:
         raise _refusal(Path(file.name), "exists; --force replaces it")
+
+
+def _hidden(name: str, kind: str) -> str:
+    """A name that a file has for a while. A program that is killed may leave the file."""
+    return f".{name}.{secrets.token_hex(8)}.{kind}"
+
+
+def _sync(folder: int) -> None:
+    """Waits until the names in a folder are on the disk, if its file system can say so."""
+    try:
+        os.fsync(folder)
+    except OSError as error:
+        if error.errno != errno.EINVAL:
+            raise
 
 
 def _write(folder: int, name: str, new: NewFile) -> None:
@@ -116,14 +204,6 @@ def _write(folder: int, name: str, new: NewFile) -> None:
         file.write(new.text)
         file.flush()
         os.fsync(file.fileno())
-
-
-def _publish(folder: int, temporary: str, file: NewFile) -> None:
-    """Gives a file its name. A link to it, unlike a rename, fails if a file of that name appeared meanwhile."""
-    if file.may_replace:
-        os.replace(temporary, file.name, src_dir_fd=folder, dst_dir_fd=folder)
-    else:
-        os.link(temporary, file.name, src_dir_fd=folder, dst_dir_fd=folder)
 
 
 @contextlib.contextmanager

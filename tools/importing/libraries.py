@@ -19,6 +19,13 @@ _UNREADABLE = (OSError, zipfile.BadZipFile, NotImplementedError, ValueError)
 def tell_fragments(web_xml: Path, told: Told) -> None:
     """Reports the libraries next to a web.xml that have a fragment, that are suspicious, and that cannot be read."""
     for path in _libraries(web_xml.parent / "lib", told):
+        if path.is_symlink():
+            told.tell(
+                Rank.SECURITY,
+                1,
+                f"lib/{path.name} is a link, which is not followed: whether it has a web-fragment.xml is not known",
+            )
+            continue
         try:
             with open_regular(path) as file, zipfile.ZipFile(file) as library:
                 names = library.namelist()
@@ -43,7 +50,14 @@ def tell_fragments(web_xml: Path, told: Told) -> None:
 
 
 def _libraries(folder: Path, told: Told) -> list[Path]:
-    """The libraries in a folder, none if there is no folder of this name. Reports a folder that cannot be read."""
+    """The libraries in a folder, none if there is no folder of this name. Reports a folder that is a link, or cannot be read."""
+    if folder.is_symlink():
+        told.tell(
+            Rank.SECURITY,
+            1,
+            f"{folder.name} is a link, which is not followed: whether a library has a web-fragment.xml is not known",
+        )
+        return []
     try:
         return sorted(path for path in folder.iterdir() if path.suffix == ".jar")
     except (FileNotFoundError, NotADirectoryError):

@@ -46,11 +46,12 @@ def constraints(root: Element, told: Told) -> list[Constraint]:
         rest = {**_authorization(element, told), **_transport(element, told), **words(element)}
         parts = _parts(_collections(element, told))
         if not parts:
-            told.tell(
-                Rank.SECURITY,
-                element.line,
-                f"constraint {number} has no pattern that could be read: it is imported as one that no request matches",
-            )
+            if any(it.first("url-pattern") for it in element.all("web-resource-collection")):
+                told.tell(
+                    Rank.SECURITY,
+                    element.line,
+                    f"constraint {number} has no pattern that could be read: it is imported as one that no request matches",
+                )
             parts = [[{"url-pattern": [NO_PATH]}]]
         first, *others = [
             Constraint({"web-resource-collection": list(part), **rest}, element.line)
@@ -72,9 +73,9 @@ def constraints(root: Element, told: Told) -> list[Constraint]:
 def _collections(element: Element, told: Told) -> list[Table]:
     if element.first("web-resource-collection") is None:
         told.tell(
-            Rank.SECURITY,
+            Rank.ERROR,
             element.line,
-            "a security-constraint without a web-resource-collection constrains nothing",
+            "a security-constraint has no web-resource-collection, and so covers nothing",
         )
     found = [_collection(child, told) for child in element.all("web-resource-collection")]
     return [table for table in found if table is not None]
@@ -91,9 +92,9 @@ def _collection(element: Element, told: Told) -> Table | None:
     methods = _methods(element, told)
     if element.first("url-pattern") is None:
         told.tell(
-            Rank.SECURITY,
+            Rank.ERROR,
             element.line,
-            "a web-resource-collection without a url-pattern covers nothing",
+            "a web-resource-collection has no url-pattern, and so covers nothing",
         )
     if not patterns:
         return None
@@ -183,9 +184,9 @@ def _transport(element: Element, told: Told) -> Table:
     guarantee = constraint.first("transport-guarantee")
     if guarantee is None:
         told.tell(
-            Rank.SECURITY,
+            Rank.ERROR,
             constraint.line,
-            "a user-data-constraint without a transport-guarantee asks for nothing",
+            "a user-data-constraint has no transport-guarantee, and so requires nothing",
         )
         return {}
     asked = guarantee.text

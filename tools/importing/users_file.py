@@ -36,9 +36,7 @@ def _read(path: Path, name: str) -> tuple[str, os.stat_result | None]:
     """The text and the status of a users file to which a user of a name can be added. A file that does not exist has an empty text."""
     if not os.path.lexists(path):
         return "", None
-    if path.is_symlink():
-        raise _refusal(path, "is a link, which is not followed")
-    with open_regular(path, os.O_NOFOLLOW) as file:
+    with open_regular(path) as file:
         status = os.fstat(file.fileno())
         try:
             text = file.read().decode()

@@ -1,0 +1,198 @@
+"""Runs the audit of a web.xml, and the commands of ./sv that are no commands of the program."""
+from __future__ import annotations
+
+import os
+import re
+import shutil
+import subprocess
+import tempfile
+from pathlib import Path
+from typing import Iterator, NamedTuple, Optional
+
+HERE = Path(__file__).resolve().parent
+TOP = HERE.parent.parent
+# A program that prints its arguments, and the files that are among them, and ends with 4.
+PROGRAM = """#!/bin/sh
+printf "%s\\n" "$@"
+for word; do
+    case $word in FOLDER/*|*/tmp*/*) echo "- $word"; cat "$word" ;; esac
+done
+exit 4
+"""
+# What the command rt is for a case: it ends with a fault, so no case builds anything.
+NO_BUILD = "#!/bin/sh\necho no build >&2\nexit 9\n"
+NAME = "-a b.xml"
+OTHER = "other.xml"
+WRONG = "wrong.xml"
+TOMCAT_USERS = '<tomcat-users><user username="ann" roles="one"/></tomcat-users>\n'
+SERVER = f"""port = 0
+seed = "{'0' * 64}"
+
+[[context]]
+path = ""
+descriptor = "web.toml"
+files = ""
+"""
+SHOP = SERVER.replace('path = ""', 'path = "/shop"')
+LINES = f"{NAME}\n3\n7\n"
+USAGE = """sv audit WEB.XML [OPTION ..]
+    imports the web.xml, and shows who may enter where by it; sets --lines, and has two more options:
+    --users FILE            the users: a tomcat-users.xml, or a users file
+    --context PATH          the context path; the root without it
+help
+audit
+"""
+
+
+class Ended(NamedTuple):
+    """How a command ends: its status, and what it prints."""
+
+    status: int
+    stdout: str
+    stderr: str
+
+
+def ended(room: Path, command: list[str], path: str = os.environ["PATH"]) -> Ended:
+    """How a command ends in a room, with what the room holds as temporary files named by their folder's name."""
+    came = subprocess.run(
+        command,
+        cwd=room,
+        env={**os.environ, "TMPDIR": str(room), "PATH": path},
+        stdin=subprocess.DEVNULL,
+        capture_output=True,
+        text=True,
+    )
+    stdout = re.sub(f"{room}/tmp[^/]*", "FOLDER", came.stdout)
+    stdout = re.sub('seed = "[0-9a-f]{64}"', f'seed = "{"0" * 64}"', stdout)
+    return Ended(came.returncode, stdout, came.stderr)
+
+
+def shown(words: list[str], files: dict[str, str]) -> str:
+    """The output of the program of the cases for these words. The files among them are printed."""
+    printed = [f"{word}\n" for word in words]
+    return "".join(printed + [f"- {name}\n{text}" for name, text in files.items()])
+
+
+def audits_that_pass() -> Iterator[tuple[list[str], str]]:
+    """The arguments of audits that an importer lets pass, and what the program prints for them."""
+    web = {"FOLDER/web/server.toml": SERVER, "FOLDER/web/web.lines": LINES}
+    words = ["audit", "FOLDER/web/server.toml", "--lines", "FOLDER/web/web.lines"]
+    options = ["--format", "a  b", "", "--secure", "--path", "--users", "--method", "M", "--as"]
+    yield [NAME, *options], shown([*words, *options], web)
+    yield (
+        [NAME, "--as", "ann", "--users", "tomcat.xml", "--context", "/shop", "--secure"],
+        shown(
+            [*words, "--as", "ann", "--secure"],
+            {**web, "FOLDER/web/server.toml": SHOP + 'users = "FOLDER/users.toml"\n'},
+        ),
+    )
+    yield (
+        [NAME, "--users", "our.toml"],
+        shown(words, {**web, "FOLDER/web/server.toml": SERVER + 'users = "ROOM/our.toml"\n'}),
+    )
+    diff = ["--secure", "--diff", "FOLDER/other/server.toml", "--as", "ann"]
+    yield (
+        [NAME, "--secure", "--diff", OTHER, "--as", "ann", "--context", "/shop"],
+        shown(
+            [*words, *diff],
+            {
+                "FOLDER/web/server.toml": SHOP,
+                "FOLDER/web/web.lines": LINES,
+                "FOLDER/other/server.toml": SHOP,
+            },
+        ),
+    )
+    yield [NAME, "--diff", "old.toml"], shown([*words, "--diff", "old.toml"], web)
+    yield (
+        ["old.toml", "--diff", OTHER],
+        shown(
+            ["audit", "old.toml", "--diff", "FOLDER/other/server.toml"],
+            {"FOLDER/other/server.toml": SERVER},
+        ),
+    )
+    yield ["old.toml", "--accept", OTHER], shown(["audit", "old.toml", "--accept", OTHER], {})
+    yield [NAME, "--format", "json", "--help"], USAGE
+
+
+def audits_that_fail() -> Iterator[tuple[list[str], Ended]]:
+    """The arguments of audits that end before the program is run, and how."""
+    wrong = (HERE / "a_wrong_value/told").read_text(encoding="utf-8")
+    yield [WRONG, "--format", "json"], Ended(1, "", wrong.replace("web.xml", WRONG))
+    for arguments, fault in [
+        ([NAME, "--users"], "--users needs FILE"),
+        ([NAME, "--secure", "--context"], "--context needs PATH"),
+        ([NAME, "--users", "a", "--users", "b"], "--users is given twice"),
+    ]:
+        yield arguments, Ended(2, "", f"sv: usage\n  {fault}\n")
+
+
+def furnish(room: Path) -> None:
+    """Puts into a room what the audits read."""
+    for name in (NAME, OTHER):
+        shutil.copy(HERE / "rules_slash/web.xml", room / name)
+    shutil.copy(HERE / "a_wrong_value/web.xml", room / WRONG)
+    (room / "tomcat.xml").write_text(TOMCAT_USERS, encoding="utf-8")
+    (room / "program").write_text(PROGRAM, encoding="utf-8")
+    (room / "program").chmod(0o755)
+
+
+def tried_audits(program: Optional[str]) -> list[tuple[str, list[str]]]:
+    """What differs in the audits of a web.xml, by a program that prints what it is given, and by the real one, if it is named."""
+    results = []
+    with tempfile.TemporaryDirectory(prefix="sv-import-") as folder:
+        room = Path(folder)
+        furnish(room)
+        before = sorted(room.iterdir())
+        command = [str(TOP / "tools/audit-web-xml"), "./program"]
+        for arguments, text in audits_that_pass():
+            came = ended(room, [*command, *arguments])
+            text = text.replace("ROOM", str(room))
+            results.append((arguments, came[:2] == (4, text), came))
+        for arguments, expected in audits_that_fail():
+            came = ended(room, [*command, *arguments])
+            results.append((arguments, came == expected, came))
+        if program:
+            command = [str(TOP / "tools/audit-web-xml"), program]
+            arguments = [NAME, "--as", "ann", "--users", "tomcat.xml", "--context", "/shop"]
+            came = ended(room, [*command, *arguments])
+            results.append((arguments, shows_caller(came), came))
+        left = sorted(room.iterdir())
+        results.append((["after all"], left == before, Ended(0, f"{left} is left", "")))
+    return [
+        (f"an audit, {' '.join(arguments)}", [] if is_good else [f"it ends with {came}"])
+        for arguments, is_good, came in results
+    ]
+
+
+def shows_caller(came: Ended) -> bool:
+    """Whether a table says what the user ann, who has the role one, may enter: the context root, and no other path."""
+    rows = [" ".join(line.split()) for line in came.stdout.splitlines()]
+    return came.status == 0 and rows[:3:2] + rows[4:5] == [
+        f"context /shop ({NAME})",
+        '"" all yes 1, line 3',
+        "/ all no (nobody (no role is allowed)) 2, line 7",
+    ]
+
+
+def tried_commands() -> list[tuple[str, list[str]]]:
+    """What differs in the commands of ./sv that build, where no build may begin."""
+    results = []
+    build = (
+        "sv build\n    proves and builds the program from its sources, in half an hour or more\n"
+    )
+    release = "sv release\n    does what build does, and makes the program the released one\n"
+    with tempfile.TemporaryDirectory(prefix="sv-import-") as folder:
+        room = Path(folder)
+        (room / "rt").write_text(NO_BUILD, encoding="utf-8")
+        (room / "rt").chmod(0o755)
+        for arguments, expected in [
+            (["build", "--help"], Ended(0, build, "")),
+            (["build", "-h"], Ended(0, build, "")),
+            (["release", "--help"], Ended(0, release, "")),
+            (["build", "all"], Ended(2, "", "sv: usage\n  usage: sv build\n")),
+            (["release", "--help", "-h"], Ended(2, "", "sv: usage\n  usage: sv release\n")),
+        ]:
+            came = ended(room, [str(TOP / "sv"), *arguments], f"{room}:{os.environ['PATH']}")
+            name = f"./sv {' '.join(arguments)}"
+            results.append((name, [] if came == expected else [f"it ends with {came}"]))
+    return results
