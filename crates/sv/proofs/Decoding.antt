@@ -7,7 +7,7 @@ use Rattle.std.specs.Str.{bytes_eq}
 use Rattle.sv.specs.Options.{IsProper, IsValue}
 use Rattle.sv.specs.Settings.{Setting, Keyed, key_word, own_words, setting_words, takes_word, words_of}
 use Rattle.sv.specs.declared.key.Key.{Key}
-use Rattle.sv.specs.declared.key.Key.TheVariants.{Control, Journal, Listen, SameSeed, Connections, IdleSeconds, HeldMebibytes, Secure, Format, As, Role, FailOn, Accept, Lines}
+use Rattle.sv.specs.declared.key.Key.TheVariants.{Control, Journal, Listen, SameSeed, Connections, IdleSeconds, HeldMebibytes, Secure, Format, As, Role, FailOn, Accept, Lines, Path, Method, Diff}
 use Rattle.sv.specs.declared.option_set.OptionSet.{OptionSet}
 
 -- the option of a word
@@ -27,6 +27,9 @@ key_at word =
     else if bytes_eq word (codes "--fail-on") then Some FailOn
     else if bytes_eq word (codes "--accept") then Some Accept
     else if bytes_eq word (codes "--lines") then Some Lines
+    else if bytes_eq word (codes "--path") then Some Path
+    else if bytes_eq word (codes "--method") then Some Method
+    else if bytes_eq word (codes "--diff") then Some Diff
     else None
 
 key_at-key_word : (key : Key) → key_at (key_word key) ≡ Some key
@@ -45,6 +48,9 @@ key_at-key_word Role = refl
 key_at-key_word FailOn = refl
 key_at-key_word Accept = refl
 key_at-key_word Lines = refl
+key_at-key_word Path = refl
+key_at-key_word Method = refl
+key_at-key_word Diff = refl
 
 pub key_word_injective : (a b : Key) → key_word a ≡ key_word b → a ≡ b
 key_word_injective a b same = let e : Some a ≡ Some b = sym (key_at-key_word a) ∙ ap key_at same ∙ key_at-key_word b in cc

@@ -5,7 +5,7 @@ use Rattle.sv.specs.Options.{AreProper}
 use Rattle.sv.specs.Settings.{Setting, values, words_of}
 use Rattle.sv.specs.Values.{IsGiven, IsName, Says, SaysOr}
 use Rattle.sv.specs.declared.audit_options.AuditOptions.{AuditOptions}
-use Rattle.sv.specs.declared.key.Key.TheVariants.{Accept, As, FailOn, Format, Lines, Role, Secure}
+use Rattle.sv.specs.declared.key.Key.TheVariants.{Accept, As, Diff, FailOn, Format, Lines, Method, Path, Role, Secure}
 use Rattle.sv.specs.declared.option_set.OptionSet.TheVariants.{Audit}
 use Rattle.sv_audit_command.specs.declared.access_options.AccessOptions.{AccessOptions}
 use Rattle.sv_audit_command.specs.declared.access_options.Asked.{Asked}
@@ -28,6 +28,9 @@ GiveAccess settings options =
     × Says IsName (values FailOn settings) options.fail_on
     × Says IsName (values Accept settings) options.accept
     × Says IsName (values Lines settings) options.lines
+    × Says IsName (values Path settings) options.path
+    × Says IsName (values Method settings) options.method
+    × Says IsName (values Diff settings) options.diff
 
 -- the arguments are the name of the server file, then the words of settings in any order, which give these options
 abbrev pub IsAudit : List (List ℕ) → AuditOptions → Type 0

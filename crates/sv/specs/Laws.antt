@@ -38,7 +38,8 @@ abbrev pub SameAccess : AccessOptions → AccessOptions → Type 0
 SameAccess one other =
     (one.format ≡ other.format) × (one.is_secure ≡ other.is_secure) × SameViewer one.viewer other.viewer
     × (option_copied one.fail_on ≡ option_copied other.fail_on) × (option_copied one.accept ≡ option_copied other.accept)
-    × (option_copied one.lines ≡ option_copied other.lines)
+    × (option_copied one.lines ≡ option_copied other.lines) × (option_copied one.path ≡ option_copied other.path)
+    × (option_copied one.method ≡ option_copied other.method) × (option_copied one.diff ≡ option_copied other.diff)
 
 abbrev pub AuditsOne : Type 0
 AuditsOne = (arguments : List (List ℕ)) (one other : AuditOptions) → IsAudit arguments one → IsAudit arguments other

@@ -3,7 +3,7 @@ use Rattle.std.specs.Prelude.{◌≡◌, ℕ, Bool, true, false, List, [], ◌�
 use Rattle.std.specs.List.{flat_map}
 use Rattle.std.specs.Str.{bytes_eq}
 use Rattle.sv.specs.declared.key.Key.{Key}
-use Rattle.sv.specs.declared.key.Key.TheVariants.{Control, Journal, Listen, SameSeed, Connections, IdleSeconds, HeldMebibytes, Secure, Format, As, Role, FailOn, Accept, Lines}
+use Rattle.sv.specs.declared.key.Key.TheVariants.{Control, Journal, Listen, SameSeed, Connections, IdleSeconds, HeldMebibytes, Secure, Format, As, Role, FailOn, Accept, Lines, Path, Method, Diff}
 use Rattle.sv.specs.declared.option_set.OptionSet.{OptionSet}
 use Rattle.sv.specs.declared.option_set.OptionSet.TheVariants.{Run, Audit}
 
@@ -26,6 +26,9 @@ key_word Role = codes "--role"
 key_word FailOn = codes "--fail-on"
 key_word Accept = codes "--accept"
 key_word Lines = codes "--lines"
+key_word Path = codes "--path"
+key_word Method = codes "--method"
+key_word Diff = codes "--diff"
 
 -- the value of an option, as messages call it
 abbrev pub value_name : Key → List ℕ
@@ -43,13 +46,17 @@ value_name Role = codes "ROLE"
 value_name FailOn = codes "any, or kinds of findings joined by commas"
 value_name Accept = codes "FILE"
 value_name Lines = codes "FILE"
+value_name Path = codes "TARGET"
+value_name Method = codes "METHOD"
+value_name Diff = codes "a server file"
 
 -- the options of a command, in the order of its help
 abbrev pub option_words : OptionSet → List (List ℕ)
 option_words Run =
     key_word Control ∷ key_word Journal ∷ key_word Listen ∷ key_word SameSeed ∷ key_word Connections ∷ key_word IdleSeconds ∷ key_word HeldMebibytes ∷ []
 option_words Audit =
-    key_word Secure ∷ key_word Format ∷ key_word As ∷ key_word Role ∷ key_word FailOn ∷ key_word Accept ∷ key_word Lines ∷ []
+    key_word Secure ∷ key_word Format ∷ key_word As ∷ key_word Role ∷ key_word FailOn ∷ key_word Accept ∷ key_word Lines
+    ∷ key_word Path ∷ key_word Method ∷ key_word Diff ∷ []
 
 -- the command of an option
 abbrev pub set_of : Key → OptionSet
@@ -60,6 +67,9 @@ set_of Role = Audit
 set_of FailOn = Audit
 set_of Accept = Audit
 set_of Lines = Audit
+set_of Path = Audit
+set_of Method = Audit
+set_of Diff = Audit
 set_of other = Run
 
 -- the command has this option, and its word is this
@@ -76,6 +86,8 @@ takes_word other = true
 abbrev pub rival : Key → Option Key
 rival As = Some Role
 rival Role = Some As
+rival Path = Some Diff
+rival Diff = Some Path
 rival other = None
 
 -- the word after the option's own, if it takes one

@@ -27,7 +27,8 @@ pub struct AuditOptions<'a> {
 impl<'a> AuditOptions<'a> {
     /// Parses the arguments: the name of the server file, followed by options in any order, each at most once. The
     /// options are `--secure`, `--format FORMAT` (`text`, `json`, `html` or `keys`; `text` without it), `--as USER` or
-    /// `--role ROLE`, but not both, `--fail-on KINDS`, `--accept FILE` and `--lines FILE`.
+    /// `--role ROLE`, but not both, `--fail-on KINDS`, `--accept FILE`, `--lines FILE`, and `--path TARGET` with
+    /// `--method METHOD` or `--diff OTHER`, but not both.
     ///
     /// # Errors
     /// The first fault, from the left.
@@ -45,6 +46,9 @@ impl<'a> AuditOptions<'a> {
                 fail_on: given.value(Key::FailOn),
                 accept: given.value(Key::Accept),
                 lines: given.value(Key::Lines),
+                path: given.value(Key::Path),
+                method: given.value(Key::Method),
+                diff: given.value(Key::Diff),
             },
         })
     }

@@ -48,6 +48,12 @@ pub enum Key {
     Accept,
     /// `--lines FILE`: the name of the file of the lines on which the constraints of an imported descriptor begin.
     Lines,
+    /// `--path TARGET`: the target of the request that is explained.
+    Path,
+    /// `--method METHOD`: the method of that request.
+    Method,
+    /// `--diff OTHER`: the name of the server file that is compared with the first.
+    Diff,
 }
 
 impl Key {
@@ -70,6 +76,9 @@ impl Key {
             Key::FailOn => "--fail-on",
             Key::Accept => "--accept",
             Key::Lines => "--lines",
+            Key::Path => "--path",
+            Key::Method => "--method",
+            Key::Diff => "--diff",
         }
     }
 
@@ -92,6 +101,9 @@ impl Key {
             Key::FailOn => "any, or kinds of findings joined by commas",
             Key::Accept => "FILE",
             Key::Lines => "FILE",
+            Key::Path => "TARGET",
+            Key::Method => "METHOD",
+            Key::Diff => "a server file",
         }
     }
 
@@ -114,6 +126,9 @@ impl Key {
             Key::FailOn => true,
             Key::Accept => true,
             Key::Lines => true,
+            Key::Path => true,
+            Key::Method => true,
+            Key::Diff => true,
         }
     }
 
@@ -136,6 +151,9 @@ impl Key {
             Key::FailOn => None,
             Key::Accept => None,
             Key::Lines => None,
+            Key::Path => Some(Key::Diff),
+            Key::Method => None,
+            Key::Diff => Some(Key::Path),
         }
     }
 
@@ -159,6 +177,9 @@ impl Key {
             Key::FailOn => are_kinds(word),
             Key::Accept => true,
             Key::Lines => true,
+            Key::Path => true,
+            Key::Method => true,
+            Key::Diff => true,
         }
     }
 }

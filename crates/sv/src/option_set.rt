@@ -110,5 +110,14 @@ fn audit_key(word: &str) -> Option<Key>
     if word == "--lines" {
         return Some(Key::Lines);
     }
+    if word == "--path" {
+        return Some(Key::Path);
+    }
+    if word == "--method" {
+        return Some(Key::Method);
+    }
+    if word == "--diff" {
+        return Some(Key::Diff);
+    }
     None
 }

@@ -4,11 +4,11 @@
 pub const FIRST: &str = "    decides by an example policy on the first request on standard input\n";
 
 /// What `policy` does.
-pub const POLICY: &str = "    tells what would become of a request to the server of that file\n";
+pub const POLICY: &str = "    explains what the server does with a request, and which constraint decides\n";
 
 /// What `uncovered` does.
 pub const UNCOVERED: &str =
-    "    tells which methods the constraints of the server leave uncovered\n";
+    "    lists the methods that the constraints of the server leave uncovered\n";
 
 /// What `audit` does, with its options.
 pub const AUDIT: &str = "    \
@@ -18,15 +18,18 @@ pub const AUDIT: &str = "    \
     --as USER               marks what that user may enter
     --role ROLE             marks what a caller with that role may enter; not with --as
     --fail-on KINDS         exits with status 4 if there are findings of these kinds, joined by commas, or any:
-                            opened, uncovered, head-differs, dead, dead-pattern, escaped, unknown-role,
-                            unheld-role, unused-role
+                            opened, uncovered, read-otherwise, head-differs, dead, dead-pattern, unreached,
+                            unserved, escaped, login-needs, unknown-role, unheld-role, unused-role
     --accept FILE           does not count findings whose keys are lines of that file
     --lines FILE            takes the lines of constraints from that file
+    --path TARGET           explains one request to that target, in sentences
+    --method METHOD         the method of that request; GET without it
+    --diff OTHER            shows what the server file OTHER decides differently; text or json; not with --path
 ";
 
 /// What `replay` does.
 pub const REPLAY: &str =
-    "    runs the script on standard input over the server, and prints what comes of it\n";
+    "    runs the script of events on standard input, without a socket, and prints the results\n";
 
 /// What `serve` does.
 pub const SERVE: &str =
@@ -36,7 +39,7 @@ pub const SERVE: &str =
 pub const RUN: &str = "    \
     serves many connections at once, at the port of the server file; options, in any order:
     --control SOCKET        takes lines at that socket file: status, uncovered, explain, append, withdraw, stop
-    --journal FILE          appends to that file what became of each request
+    --journal FILE          appends the outcome of each request to that file
     --listen ADDRESS:PORT   listens there
     --same-seed             gives the same session ids at each start, for tests
     --connections N         connections at once, 1 to 1024; 1024 without it
@@ -52,7 +55,7 @@ pub const SELF_TEST: &str =
 pub const HELP: &str = "    lists the commands, or shows the usage of one\n";
 
 /// What `version` does.
-pub const VERSION_TOPIC: &str = "    tells the version, and what proved it\n";
+pub const VERSION_TOPIC: &str = "    prints the version, and the toolchain that proved it\n";
 
 /// The output of `version`: the program's name and version, and the toolchain that proves it. The toolchain is named
 /// as `rt version` prints it.

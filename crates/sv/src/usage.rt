@@ -37,7 +37,7 @@ const RUN_OPTIONS: [&str; 7] = [
 ];
 
 /// The options of `audit`, in the order of its help.
-const AUDIT_OPTIONS: [&str; 7] = [
+const AUDIT_OPTIONS: [&str; 10] = [
     "--secure",
     "--format",
     "--as",
@@ -45,6 +45,9 @@ const AUDIT_OPTIONS: [&str; 7] = [
     "--fail-on",
     "--accept",
     "--lines",
+    "--path",
+    "--method",
+    "--diff",
 ];
 
 /// Returns the line that says what is wrong with arguments that name no command, without a line feed. It shows a word

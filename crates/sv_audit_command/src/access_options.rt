@@ -37,4 +37,10 @@ pub struct AccessOptions<'a> {
     pub accept: Option<&'a str>,
     /// The name of the file with the lines on which the constraints of an imported descriptor begin.
     pub lines: Option<&'a str>,
+    /// The name of another server file, if the report is on what the two decide differently.
+    pub diff: Option<&'a str>,
+    /// The target of a request, if the report is on this request.
+    pub path: Option<&'a str>,
+    /// The method of this request, which is GET if none is named.
+    pub method: Option<&'a str>,
 }
