@@ -19,7 +19,7 @@ from servers import TOP, end_in_order, has, wait_until  # noqa: E402
 
 RELEASED = f"{TOP}/release/sv"
 SECONDS = 20
-# A page of the Demo behind its constraint, and the login of its one user.
+# A page of the Demo that its constraint protects, and the login of its only user.
 PAGE = "/admin/x.txt"
 LOGIN = "/j_security_check"
 FORM = "j_username=ann&j_password=bc"

@@ -12,9 +12,9 @@ from attacking.responses import judged
 from attacking.site import HIDDEN, MARK
 
 AT_ONCE = 12
-# A connection whose head takes 10 seconds is given up: where our own process stands still for half of that between two parts, what comes back tells nothing.
+# The server closes a connection whose head takes 10 seconds. If our own process pauses for half of that between two parts, the response proves nothing.
 MOST_HELD_UP = 5
-# So many of all messages have no end of writing for a second.
+# For this share of all messages, writing ends a second late.
 LATE = 0.02
 DIFFERS = "whole it is answered"
 REPEATED = re.compile(r"(.{1,60}?)\1{9,}")
@@ -75,7 +75,7 @@ async def attacked(port, seed, tally, made, until):
     for number in itertools.count():
         if time.monotonic() >= until:
             return
-        # The chances of a message do not hang on what came of those before.
+        # The random choices for a message do not depend on the responses to earlier ones.
         chance = random.Random(f"{seed} {number}")
         text, names = made(chance)
         cuts = pieces(chance, text)

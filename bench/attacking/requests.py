@@ -13,7 +13,7 @@ VERSION = re.compile(rb"HTTP/([0-9])\.([0-9])")
 HOST = re.compile(
     rb"(?:\[[0-9A-Za-z:.]+\]|(?:[A-Za-z0-9\-._~!$&'()*+,;=]|%[0-9A-Fa-f]{2})*)(?::[0-9]*)?"
 )
-# What a server of ours takes for a host as well (docs/DECISIONS.md), where the RFC would have it refuse the request.
+# Hosts that our server accepts too, although the RFC requires it to refuse the request (docs/DECISIONS.md).
 HOST_BYTES = re.compile(rb"[A-Za-z0-9\-._~%!$&'()*+,;=:\[\]]{0,255}")
 QUOTED = rb'"(?:[\t !#-\[\]-~\x80-\xff]|\\[\t -~\x80-\xff])*"'
 EXTENSIONS = re.compile(

@@ -9,9 +9,9 @@ FIELD_LINE = re.compile(
     rb"(" + TOKEN + rb"):[ \t]*([!-~\x80-\xff](?:[\t -~\x80-\xff]*[!-~\x80-\xff])?)?[ \t]*"
 )
 SIZE = re.compile(rb"[0-9A-Fa-f]+")
-# docs/COMMANDS.md and docs/DIFFERENCES.md tell them, and 503 for a context whose sessions are as many as it holds.
+# They are described in docs/COMMANDS.md and docs/DIFFERENCES.md; 503 is for a context that has no capacity for another session.
 STATUSES = {200, 302, 303, 400, 403, 404, 405, 413, 417, 431, 501, 503}
-# What is refused is refused before its method is looked at, so such an answer to HEAD may have a body (docs/DIFFERENCES.md).
+# A request is refused before its method is read, so the response to a HEAD may have a body (docs/DIFFERENCES.md).
 REFUSALS = {400, 413, 417, 431, 501}
 
 

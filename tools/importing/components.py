@@ -18,7 +18,7 @@ FILE_SERVLET = "default"
 EVERY_SERVLET = "*"
 # A servlet that Tomcat and Jetty declare for every application.
 PAGE_SERVLET = "jsp"
-# What a class that is not in this program stands as.
+# The classes that are written for a class that is not in this program.
 ANY_SERVLET = "Paths"
 ANY_FILTER = "Mark"
 ANY_LISTENER = "Log"

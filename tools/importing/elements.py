@@ -37,7 +37,7 @@ _NO_JSP = "JSP is not run by this program"
 _NO_NAMES = "nothing is looked up by name here"
 _NO_CALLBACKS = "no such method is called here"
 
-# What stands in each element that is read. An element that is no key here has a text alone.
+# The children of each element that is read. An element that is no key here has only a text.
 CONTENT: dict[str, Content] = {
     "web-app": {
         **_WORDS,

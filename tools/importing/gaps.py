@@ -35,7 +35,7 @@ class Methods(NamedTuple):
         return f"all methods but {names}" if self.is_all_but else names
 
 
-# An extension pattern by which a path is found: an extension is not empty in Tomcat, and has no dot.
+# An extension pattern that matches a path: in Tomcat an extension is not empty, and it has no dot.
 _EXTENSION = re.compile(r"\*\.[^.]+")
 ALL = Methods(frozenset(), True)
 

@@ -7,7 +7,7 @@ from xml.parsers import expat
 
 from .told import Rank, Told
 
-# The most elements that may stand within one another: descriptors have six levels.
+# The greatest depth of nested elements: descriptors have six levels.
 DEEPEST = 64
 # The blanks of XML.
 BLANKS = " \t\r\n"
