@@ -45,7 +45,7 @@ JAVA = ["java", "-Xmx256m", "-XX:+UseSerialGC", "-XX:TieredStopAtLevel=1"]
 
 
 class Request(NamedTuple):
-    """What is asked, and the name of the caller, if there is one. The path is written as in a request line, without the context path."""
+    """A method, a path, and the name of the caller, if there is one. The path is written as in a request line, without the context path."""
 
     method: str
     path: str
@@ -105,7 +105,7 @@ class Site:
         return f"site{self.place}-{caller}"
 
     def folder(self) -> str:
-        """The name of the folder by which Tomcat knows the context."""
+        """The name of the folder that Tomcat has for the context."""
         return self.context[1:] or "ROOT"
 
     def _named(self, header: str) -> list[dict[str, Value]]:
@@ -156,7 +156,7 @@ class Site:
 
 
 def compared_part(path: Path) -> bytes:
-    """A web.xml with what is compared of another one, and the servlet that open requests reach."""
+    """A web.xml with the compared elements of another one, and the servlet that open requests reach."""
     parse = xml.etree.ElementTree
     root = parse.Element(
         "web-app",
@@ -278,7 +278,7 @@ class Tomcat:
         return answer
 
     def logged_in(self, site: Site, caller: str, page: str) -> dict[str, str]:
-        """The fields by which a request is a caller's: by a form, the cookie of a session that has gone through the login."""
+        """The fields of a caller's requests: with a form, the cookie of a session that has gone through the login."""
         name = site.user(caller)
         if not site.uses_form:
             return {

@@ -32,7 +32,7 @@ MOST_OF_AN_ADDRESS = 100
 
 
 def see(what, came, wanted):
-    """Ends the script where what came is not what is wanted."""
+    """Ends the script if a result differs from the expected one."""
     if came != wanted:
         sys.exit(f"{what}: {came!r} and not {wanted!r}")
 
@@ -84,7 +84,7 @@ def room(*programs):
 
 
 def configured(source, folder, **places):
-    """The file of a configuration of these examples, in which the words in capitals are filled in."""
+    """A configuration file of these examples, with the words in capitals replaced."""
     places.update(FOLDER=f"{folder}/proxy", KEYS=f"{folder}/keys")
     with open(source) as file:
         text = re.sub(rf"\b({'|'.join(places)})\b", lambda it: str(places[it[1]]), file.read())
@@ -122,7 +122,7 @@ def started(name, folder, port):
 
 @contextlib.contextmanager
 def proxy(name, source, folder, **places):
-    """nginx or HAProxy by a configuration of these examples, in which the words in capitals are filled in. It ends when its caller is done."""
+    """nginx or HAProxy with a configuration of these examples, whose words in capitals are replaced. It ends when its caller is done."""
     configured(source, folder, **places)
     with started(name, folder, places["TLS_PORT"]) as server:
         yield server

@@ -74,7 +74,7 @@ class Visitor(threading.Thread):
         return text
 
     def turn(self):
-        """The page behind the constraint, the count of its session, and the file that names the server."""
+        """The protected page, the count of its session, and the file that names the server."""
         page = self.ask(PAGE)
         if page == LOGIN_PAGE:
             self.ask(LOGIN, "POST", FORM)

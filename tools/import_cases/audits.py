@@ -175,7 +175,7 @@ def shows_caller(came: Ended) -> bool:
 
 
 def tried_commands() -> list[tuple[str, list[str]]]:
-    """What differs in the commands of ./sv that build, where no build may begin, and in the commands that need a toolchain, where there is none."""
+    """What differs in the commands of ./sv that build, if they must not begin a build, and in the commands that need a toolchain, if there is none."""
     build = (
         "sv build\n    proves and builds the program from its sources, in half an hour or more\n"
     )
@@ -219,7 +219,7 @@ def tried_commands() -> list[tuple[str, list[str]]]:
 
 
 def path_of(folder: Path, commands: list[str]) -> str:
-    """A path by which only these commands are found, by links in a new folder."""
+    """A path on which only these commands are found, as links in a new folder."""
     folder.mkdir()
     for command in commands:
         (folder / command).symlink_to(shutil.which(command) or command)

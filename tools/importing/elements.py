@@ -10,7 +10,7 @@ from .tree import Element
 
 
 class Taken(enum.Enum):
-    """How often an element that is read may stand in its parent."""
+    """How often an element that is read may occur in its parent."""
 
     ONE = "once"
     MANY = "any number of times"
@@ -255,7 +255,7 @@ def _decides(element: Element) -> bool:
 
 
 def taken(element: Element) -> Element:
-    """The element with what is read of it alone, so that what was told is not taken, too."""
+    """The element with only the children that are read, so that none is both reported and imported."""
     content = CONTENT.get(element.name, {})
     kept: list[Element] = []
     for child in element.children:

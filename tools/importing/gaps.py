@@ -1,6 +1,6 @@
-"""Where Tomcat reads constraints otherwise. It seeks an exact pattern, then the longest of a prefix, then an extension, then `/`, and goes
-on from a prefix whose constraints leave the method uncovered. By the specification the best pattern alone counts (Jakarta Servlet 6.0, section 13.8.3).
-It declares the roles that constraints name. By the specification the role `*` is for the roles of `security-role` alone (section 13.8)."""
+"""The differences of Tomcat in the reading of constraints. It seeks an exact pattern, then the longest of a prefix, then an extension, then `/`, and goes
+on from a prefix whose constraints leave the method uncovered. By the specification only the best pattern counts (Jakarta Servlet 6.0, section 13.8.3).
+It declares the roles that constraints name. By the specification the role `*` is only for the roles of `security-role` (section 13.8)."""
 from __future__ import annotations
 
 import re
@@ -41,7 +41,7 @@ ALL = Methods(frozenset(), True)
 
 
 def tell_readings(root: Element, constraints: list[Table], told: Told) -> None:
-    """Tells the patterns and roles of constraints for which Tomcat decides otherwise."""
+    """Reports the patterns and roles of constraints for which Tomcat decides differently."""
     _tell_undeclared_roles(root, told)
     lines: dict[str, int] = {}
     for pattern_element in _patterns_of(root):
