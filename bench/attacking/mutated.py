@@ -21,11 +21,11 @@ REPEATED = re.compile(r"(.{1,60}?)\1{9,}")
 
 
 class HeldUp(Exception):
-    """We stood still ourselves for so long that the server may have given the connection up."""
+    """Our own process paused for so long that the server may have closed the connection."""
 
 
 async def exchange(port, chance, parts):
-    """What comes back for these parts, behind which writing ends, at times a second later."""
+    """The response to these parts. Writing ends after them, sometimes a second later."""
     async with Peer(port) as peer:
         slept = 0
         for part in parts:
@@ -46,7 +46,7 @@ async def exchange(port, chance, parts):
 
 
 async def judged_once(port, chance, tally, parts):
-    """The statuses that come back for these parts, and what is wrong with what came."""
+    """The statuses of the responses to these parts, and their faults."""
     data, ended = await exchange(port, chance, parts)
     tally.sent += 1
     tally.closed += ended
@@ -60,7 +60,7 @@ async def judged_once(port, chance, tally, parts):
 
 
 async def judged_both(port, chance, tally, text, cuts):
-    """What is wrong with what comes back for the text whole and in pieces; both are to have the same statuses."""
+    """The faults of the responses to the text, whole and in pieces. Both must have the same statuses."""
     whole, wrong = await judged_once(port, chance, tally, [text])
     if wrong:
         return wrong

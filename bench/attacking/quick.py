@@ -54,7 +54,7 @@ async def pipelines(port):
 
 
 async def read_answers(peer, sending):
-    """What comes, where writing ends once all was sent."""
+    """The response, if writing ends after all is sent."""
     sending.add_done_callback(lambda _: peer.end_writing())
     return await peer.read_to_end(PATIENCE)
 

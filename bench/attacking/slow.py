@@ -26,7 +26,7 @@ async def drip(peer, parts, pause):
 
 
 async def given_up(port, tally, parts, pause):
-    """Sends so slowly, and is to be given up in time without an answer."""
+    """Sends this slowly, and must be closed in time without a response."""
     async with Peer(port) as peer:
         begun = time.monotonic()
         tally.sent += 1
