@@ -19,7 +19,7 @@ class Browser:
 
     def __init__(self, port, folder):
         self.place = f"http://127.0.0.1:{port}/session"
-        # As root, which a script in a container is, Chromium runs without its sandbox alone.
+        # As root, for example in a container, Chromium runs only without its sandbox.
         words = [
             "--headless=new",
             "--no-sandbox",

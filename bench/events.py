@@ -20,11 +20,11 @@ class Events:
     front: str
     timed: str
     count: int
-    # in the timed events ID stands for the id of the session that was opened last
+    # in the timed events ID is replaced by the id of the session that was opened last
     names_a_session: bool = False
-    # the static file /page.html of each context, where it has one
+    # the static file /page.html of each context, if it has one
     page: str = ""
-    # beside it so many other static files /fN.html
+    # the number of its other static files /fN.html
     files: int = 0
 
 

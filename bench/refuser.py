@@ -3,7 +3,7 @@ import os
 import shutil
 import subprocess
 
-# Environment variables tell it which calls to refuse, the first and the last, and the descriptor to which it writes at
+# Environment variables name the first and the last call that it refuses, and the file descriptor to which it writes at
 # the first call that it refuses.
 SOURCE = r"""
 #include <errno.h>

@@ -37,7 +37,7 @@ def within(value, most, text):
 
 
 def end_in_order():
-    """Lets what is killed leave no server behind."""
+    """Ends the servers of a script that is killed."""
     signal.signal(signal.SIGTERM, lambda *_: sys.exit(1))
 
 

@@ -38,11 +38,14 @@ SERVER = """<Server port="-1"><Service name="Catalina">
 <Host name="localhost" appBase="webapps" autoDeploy="false"/></Engine></Service></Server>
 """
 CONTEXT = '<Context><JarScanner scanClassPath="false" scanManifest="false"/></Context>\n'
+# The descriptor that two contexts of one server have, one of them within the other, and their paths.
+TWO_CONTEXTS = "rules_two_contexts"
+CONTEXTS = ["", "/two"]
 JAVA = ["java", "-Xmx256m", "-XX:+UseSerialGC", "-XX:TieredStopAtLevel=1"]
 
 
 class Request(NamedTuple):
-    """What is asked, and the name of the caller, if there is one. The path is written as in a request line."""
+    """A method, a path, and the name of the caller, if there is one. The path is written as in a request line, without the context path."""
 
     method: str
     path: str
@@ -50,8 +53,8 @@ class Request(NamedTuple):
 
 
 class Said(NamedTuple):
-    """What the program says of a request: `open`, `login`, `denied` or `transport`, the line that says so, and whether the best pattern is a prefix whose
-    constraints leave the method uncovered."""
+    """What the program says of a request: `open`, `login`, `denied`, `transport`, `hidden` or the context of another site that serves it, the line that says so,
+    and whether the best pattern is a prefix whose constraints leave the method uncovered."""
 
     verdict: str
     line: str
@@ -67,21 +70,22 @@ class Difference(NamedTuple):
 
 
 class Site:
-    """A descriptor, as both containers have it."""
+    """A descriptor, as both containers have it. If one of the two contexts is named, both have the same path in both containers. If none is, it is the root's
+    descriptor in ours, and the site has a context of its own in Tomcat."""
 
-    def __init__(self, path: Path, place: int, room: Path) -> None:
+    def __init__(self, path: Path, place: int, room: Path, context: Optional[str] = None) -> None:
         self.name = path.parent.name if path.name == "web.xml" else path.stem
-        self.context = f"/site{place}"
+        self.place = place
+        self.our_context = context or ""
+        self.context = f"/site{place}" if context is None else context
         self.room = room / self.name
         read = descriptor.read(path.read_bytes(), Told(str(path)))
         self.tables = read.tables
-        self.room.mkdir()
+        self.room.mkdir(exist_ok=True)
         (self.room / "web.toml").write_text(read.text(), encoding="utf-8")
         self.callers = self._callers()
-        users_name = "users.toml" if self.callers else ""
-        (self.room / "server.toml").write_text(
-            descriptor.server_text("0" * 64, "", users_name), encoding="utf-8"
-        )
+        contexts = [""] if context is None else CONTEXTS
+        (self.room / "server.toml").write_text(self._server_text(contexts), encoding="utf-8")
         entries = [
             users.User(name, "", users.NO_DIGEST, roles).text()
             for name, roles in self.callers.items()
@@ -89,6 +93,20 @@ class Site:
         (self.room / "users.toml").write_text("\n".join(entries), encoding="utf-8")
         self.web_xml = compared_part(path)
         self.uses_form = b"<auth-method>FORM" in self.web_xml
+
+    def _server_text(self, contexts: list[str]) -> str:
+        """The server file of contexts with this descriptor."""
+        users_name = "users.toml" if self.callers else ""
+        texts = [descriptor.server_text("0" * 64, it, users_name) for it in contexts]
+        return texts[0] + "".join(f"\n{it[it.index('[[context]]'):]}" for it in texts[1:])
+
+    def user(self, caller: str) -> str:
+        """The name of a caller in Tomcat, whose users are those of all sites."""
+        return f"site{self.place}-{caller}"
+
+    def folder(self) -> str:
+        """The name of the folder that Tomcat has for the context."""
+        return self.context[1:] or "ROOT"
 
     def _named(self, header: str) -> list[dict[str, Value]]:
         return [table for its_header, table in self.tables if its_header == header]
@@ -138,7 +156,7 @@ class Site:
 
 
 def compared_part(path: Path) -> bytes:
-    """A web.xml with what is compared of another one, and the servlet that open requests reach."""
+    """A web.xml with the compared elements of another one, and the servlet that open requests reach."""
     parse = xml.etree.ElementTree
     root = parse.Element(
         "web-app",
@@ -192,9 +210,7 @@ class Tomcat:
             '<web-app xmlns="https://jakarta.ee/xml/ns/jakartaee" version="6.0" metadata-complete="true"/>'
         )
         names = {
-            f"{site.context[1:]}-{caller}": roles
-            for site in sites
-            for caller, roles in site.callers.items()
+            site.user(caller): roles for site in sites for caller, roles in site.callers.items()
         }
         entries = [
             f'<user username="{name}" password="{PASSWORD}" roles="{",".join(roles)}"/>'
@@ -204,8 +220,9 @@ class Tomcat:
             f"<tomcat-users>{''.join(entries)}</tomcat-users>"
         )
         for site in sites:
-            shutil.copytree(classes, self.base / f"webapps{site.context}/WEB-INF/classes")
-            (self.base / f"webapps{site.context}/WEB-INF/web.xml").write_bytes(site.web_xml)
+            folder = self.base / "webapps" / site.folder() / "WEB-INF"
+            shutil.copytree(classes, folder / "classes")
+            (folder / "web.xml").write_bytes(site.web_xml)
 
     @contextlib.contextmanager
     def running(self) -> Iterator[None]:
@@ -261,8 +278,8 @@ class Tomcat:
         return answer
 
     def logged_in(self, site: Site, caller: str, page: str) -> dict[str, str]:
-        """The fields by which a request is a caller's: by a form, the cookie of a session that has gone through the login."""
-        name = f"{site.context[1:]}-{caller}"
+        """The fields of a caller's requests: with a form, the cookie of a session that has gone through the login."""
+        name = site.user(caller)
         if not site.uses_form:
             return {
                 "Authorization": "Basic " + base64.b64encode(f"{name}:{PASSWORD}".encode()).decode()
@@ -279,6 +296,8 @@ class Tomcat:
         """What Tomcat does with a request, in the words of `Said`."""
         answer = self.asked(request.method, site.context + request.path, fields)
         reached = answer.getheader("X-Reached", "")
+        if reached and (context := answer.getheader("X-Context", "")) != site.context:
+            return f"context {context}"
         if answer.getheader("Location", "").startswith("https:"):
             return "transport"
         words = {
@@ -286,12 +305,17 @@ class Tomcat:
             (200, "FORWARD"): "login",
             (401, ""): "login",
             (403, ""): "denied",
+            (404, ""): "hidden",
         }
         return words.get((answer.status, reached), f"{answer.status} {reached}".strip())
 
 
-def known(site: Site, request: Request, said: Said) -> str:
+def known(site: Site, request: Request, said: Said, theirs: str) -> str:
     """Why a difference is one that docs/DIFFERENCES.md has, and nothing if it is none of those."""
+    if said.verdict.startswith("no "):
+        return ""
+    if said.verdict == "hidden" and theirs in ("login", "denied"):
+        return "Tomcat asks the constraints before it hides a folder"
     patterns = site.patterns()
     path = urllib.parse.unquote(request.path)
     escaped = [pattern for pattern in patterns if "%" in pattern]
@@ -333,7 +357,9 @@ def compare(site: Site, tomcat: Tomcat, ours: dict[Request, Said]) -> int:
     for request, said in ours.items():
         theirs = tomcat.verdict(site, request, fields[request.caller] if request.caller else {})
         if theirs != said.verdict:
-            differ[Difference(said.line, theirs, known(site, request, said))].append(request)
+            differ[Difference(said.line, theirs, known(site, request, said, theirs))].append(
+                request
+            )
     print_comparison(site, [said.verdict for said in ours.values()], differ)
     return sum(len(examples) for difference, examples in differ.items() if not difference.reason)
 
@@ -346,7 +372,7 @@ def print_comparison(
         f"{word} {count}" for word, count in sorted(collections.Counter(verdicts).items())
     )
     print(
-        f"{site.name}: {len(verdicts)} requests ({counts}), {sum(map(len, differ.values()))} differ"
+        f"{site.name}{site.our_context}: {len(verdicts)} requests ({counts}), {sum(map(len, differ.values()))} differ"
     )
     for (line, theirs, reason), examples in differ.items():
         method, path, caller = examples[0]
@@ -369,7 +395,11 @@ def compare_sites(said_by: Callable[[str, Site], dict[Request, Said]], arguments
     named = [Path(name) for name in arguments[1:]]
     program = os.path.realpath(arguments[0] if arguments else f"{TOP}/release/sv")
     with tempfile.TemporaryDirectory(prefix="sv-tomcat-") as room:
-        sites = [Site(path, place, Path(room)) for place, path in enumerate(named or descriptors())]
+        sites = [
+            Site(path, place, Path(room), context)
+            for place, path in enumerate(named or descriptors())
+            for context in (CONTEXTS if path.parent.name == TWO_CONTEXTS else [None])
+        ]
         tomcat = Tomcat(Path(room) / "tomcat", sites)
         with tomcat.running():
             unequal = sum(compare(site, tomcat, said_by(program, site)) for site in sites)

@@ -19,7 +19,7 @@ from servers import TOP, end_in_order, has, wait_until  # noqa: E402
 
 RELEASED = f"{TOP}/release/sv"
 SECONDS = 20
-# A page of the Demo behind its constraint, and the login of its one user.
+# A page of the Demo that its constraint protects, and the login of its only user.
 PAGE = "/admin/x.txt"
 LOGIN = "/j_security_check"
 FORM = "j_username=ann&j_password=bc"
@@ -32,7 +32,7 @@ MOST_OF_AN_ADDRESS = 100
 
 
 def see(what, came, wanted):
-    """Ends the script where what came is not what is wanted."""
+    """Ends the script if a result differs from the expected one."""
     if came != wanted:
         sys.exit(f"{what}: {came!r} and not {wanted!r}")
 
@@ -84,7 +84,7 @@ def room(*programs):
 
 
 def configured(source, folder, **places):
-    """The file of a configuration of these examples, in which the words in capitals are filled in."""
+    """A configuration file of these examples, with the words in capitals replaced."""
     places.update(FOLDER=f"{folder}/proxy", KEYS=f"{folder}/keys")
     with open(source) as file:
         text = re.sub(rf"\b({'|'.join(places)})\b", lambda it: str(places[it[1]]), file.read())
@@ -122,7 +122,7 @@ def started(name, folder, port):
 
 @contextlib.contextmanager
 def proxy(name, source, folder, **places):
-    """nginx or HAProxy by a configuration of these examples, in which the words in capitals are filled in. It ends when its caller is done."""
+    """nginx or HAProxy with a configuration of these examples, whose words in capitals are replaced. It ends when its caller is done."""
     configured(source, folder, **places)
     with started(name, folder, places["TLS_PORT"]) as server:
         yield server

@@ -5,7 +5,7 @@ import re
 TESTS = os.path.join(os.path.dirname(os.path.realpath(__file__)), "case_tests.cases")
 HEAD = re.compile(rb"(?m)^== (\d+) rows?, (\d+) fails?\n")
 
-# Texts that are no case, and what is wrong with each.
+# Texts that are no case, and the fault of each.
 REFUSED = [
     (b"-- args --", "case: the last line has no end"),
     (b"-- nothing --\n", "case: there is no section `nothing`"),

@@ -25,7 +25,7 @@ def covers(collection, pattern, method):
 
 
 def admits(roles, declared, caller):
-    """Whether roles of a constraint, beside those that the descriptor declares, admit a caller of these roles."""
+    """Whether the roles of a constraint admit a caller of these roles, for the roles that the descriptor declares."""
     named = {it for it in roles if it not in ("*", "**")} | (
         set(declared) if "*" in roles else set()
     )

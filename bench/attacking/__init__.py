@@ -1,1 +1,1 @@
-"""What bench/attack does to a server, and how it judges what comes back."""
+"""The attacks of bench/attack, and how it judges the responses."""

@@ -400,7 +400,7 @@ def pieces(chance, text):
 
 
 def noise(chance):
-    """Random bytes, some of which begin as a request does, or have ends of lines."""
+    """Random bytes. Some of them begin as a request does, or have ends of lines."""
     alphabet = chance.choice(
         [
             bytes(range(256)),

@@ -12,20 +12,20 @@ from attacking.responses import judged
 from attacking.site import HIDDEN, MARK
 
 AT_ONCE = 12
-# A connection whose head takes 10 seconds is given up: where our own process stands still for half of that between two parts, what comes back tells nothing.
+# The server closes a connection whose head takes 10 seconds. If our own process pauses for half of that between two parts, the response proves nothing.
 MOST_HELD_UP = 5
-# So many of all messages have no end of writing for a second.
+# For this share of all messages, writing ends a second late.
 LATE = 0.02
 DIFFERS = "whole it is answered"
 REPEATED = re.compile(r"(.{1,60}?)\1{9,}")
 
 
 class HeldUp(Exception):
-    """We stood still ourselves for so long that the server may have given the connection up."""
+    """Our own process paused for so long that the server may have closed the connection."""
 
 
 async def exchange(port, chance, parts):
-    """What comes back for these parts, behind which writing ends, at times a second later."""
+    """The response to these parts. Writing ends after them, sometimes a second later."""
     async with Peer(port) as peer:
         slept = 0
         for part in parts:
@@ -46,7 +46,7 @@ async def exchange(port, chance, parts):
 
 
 async def judged_once(port, chance, tally, parts):
-    """The statuses that come back for these parts, and what is wrong with what came."""
+    """The statuses of the responses to these parts, and their faults."""
     data, ended = await exchange(port, chance, parts)
     tally.sent += 1
     tally.closed += ended
@@ -60,7 +60,7 @@ async def judged_once(port, chance, tally, parts):
 
 
 async def judged_both(port, chance, tally, text, cuts):
-    """What is wrong with what comes back for the text whole and in pieces; both are to have the same statuses."""
+    """The faults of the responses to the text, whole and in pieces. Both must have the same statuses."""
     whole, wrong = await judged_once(port, chance, tally, [text])
     if wrong:
         return wrong
@@ -75,7 +75,7 @@ async def attacked(port, seed, tally, made, until):
     for number in itertools.count():
         if time.monotonic() >= until:
             return
-        # The chances of a message do not hang on what came of those before.
+        # The random choices for a message do not depend on the responses to earlier ones.
         chance = random.Random(f"{seed} {number}")
         text, names = made(chance)
         cuts = pieces(chance, text)

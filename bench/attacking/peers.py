@@ -1,4 +1,4 @@
-"""Connections to the server that is attacked, and what is counted of an attack."""
+"""Connections to the attacked server, and the counts of an attack."""
 import asyncio
 import collections
 import dataclasses
@@ -12,7 +12,7 @@ PATIENCE = 5
 
 @dataclasses.dataclass
 class Tally:
-    """What an attack sent and what came of it, and a line for each miss."""
+    """The counts of an attack and of its results, and a line for each miss."""
 
     name: str
     expected: str
@@ -75,7 +75,7 @@ class Peer:
         self.socket.close()
 
     async def read(self, patience, most=65536):
-        """What comes next; nothing at the end, also where the connection was reset."""
+        """The next bytes; none at the end, or if the connection was reset."""
         try:
             return await asyncio.wait_for(
                 asyncio.get_running_loop().sock_recv(self.socket, most), patience
@@ -95,7 +95,7 @@ class Peer:
 
 
 async def asked_once(port, text, patience=PATIENCE):
-    """What comes back for these bytes, behind which writing ends."""
+    """The response to these bytes. Writing ends after them."""
     async with Peer(port) as peer:
         await peer.send(text)
         peer.end_writing()

@@ -1,4 +1,4 @@
-"""A probe that asks for a page over a new connection every tenth of a second, beside all attacks."""
+"""A probe that requests a page over a new connection every tenth of a second, during all attacks."""
 import contextlib
 import multiprocessing
 import os
@@ -11,7 +11,7 @@ BEGINS, ENDS = b"HTTP/1.1 200 OK\r\n", b"\r\n\r\ncaller -\n"
 
 
 def answer(port, request):
-    """What comes back for a request, up to where it should end."""
+    """The response to a request, up to its expected end."""
     try:
         with socket.create_connection(("127.0.0.1", port), 15) as peer:
             peer.sendall(request)
@@ -24,7 +24,7 @@ def answer(port, request):
 
 
 def probe(port, request, over, found):
-    """Asks until it is over, and hands on the seconds that each answer took, and the wrong answers."""
+    """Sends requests until the end, and returns the seconds of each response, and the wrong responses."""
     signal.signal(signal.SIGTERM, signal.SIG_DFL)
     seconds, wrong, begun = [], [], time.monotonic()
     parent = os.getppid()
@@ -39,7 +39,7 @@ def probe(port, request, over, found):
 
 @contextlib.contextmanager
 def probing(port, request):
-    """Probes in a process of its own meanwhile; the call that it gives ends that, and answers what was found."""
+    """Probes in a process of its own meanwhile. The call that it gives ends the process, and returns its results."""
     over, found = multiprocessing.Event(), multiprocessing.Queue()
     asking = multiprocessing.Process(target=probe, args=(port, request, over, found), daemon=True)
     asking.start()

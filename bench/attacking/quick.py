@@ -16,7 +16,7 @@ FLOODS = 64
 # docs/OPERATION.md
 ROOM = 1024
 AGAIN = 20
-# A head that has no end is given up behind so many seconds.
+# The server closes a connection whose head has no end after this many seconds.
 GIVEN_UP = 12.5
 
 
@@ -54,7 +54,7 @@ async def pipelines(port):
 
 
 async def read_answers(peer, sending):
-    """What comes, where writing ends once all was sent."""
+    """The response, if writing ends after all is sent."""
     sending.add_done_callback(lambda _: peer.end_writing())
     return await peer.read_to_end(PATIENCE)
 
@@ -110,7 +110,7 @@ async def half_closed(port, cookie):
     return tally
 
 
-# What is sent before a reset, and how many bytes are read before it, at least.
+# The bytes sent before a reset, and the least number of bytes read before it.
 PHASES = [
     (b"", 0),
     (b"G", 0),
@@ -250,7 +250,7 @@ async def other_protocols(port):
     return tally
 
 
-# What is sent so that the server closes behind its answer, the answer's status, and how long its body is at least.
+# Bytes after whose response the server closes, the status of that response, and the least length of its body.
 CLOSING = [
     (asked(b"POST", b"/who", b"Content-Length: 1100000\r\n", body=b"x" * 1_100_000), 413, 1),
     (asked(b"POST", b"/who", b"Content-Length: 5000000\r\n", body=b"x" * 5_000_000), 413, 1),

@@ -13,7 +13,7 @@ VERSION = re.compile(rb"HTTP/([0-9])\.([0-9])")
 HOST = re.compile(
     rb"(?:\[[0-9A-Za-z:.]+\]|(?:[A-Za-z0-9\-._~!$&'()*+,;=]|%[0-9A-Fa-f]{2})*)(?::[0-9]*)?"
 )
-# What a server of ours takes for a host as well (docs/DECISIONS.md), where the RFC would have it refuse the request.
+# Hosts that our server accepts too, although the RFC requires it to refuse the request (docs/DECISIONS.md).
 HOST_BYTES = re.compile(rb"[A-Za-z0-9\-._~%!$&'()*+,;=:\[\]]{0,255}")
 QUOTED = rb'"(?:[\t !#-\[\]-~\x80-\xff]|\\[\t -~\x80-\xff])*"'
 EXTENSIONS = re.compile(
@@ -44,7 +44,7 @@ class Request(NamedTuple):
 
 
 class Reading(NamedTuple):
-    """The requests, and what stands behind them: `nothing`, a `part` of a request or a `fault`, in answer to which a 100 may come."""
+    """The requests, and the kind of the bytes after them: `nothing`, a `part` of a request or a `fault`, which a 100 may answer."""
 
     requests: list
     rest: str
@@ -156,7 +156,7 @@ class Reader:
             self.strict = False
 
     def body(self, fields, minor):
-        """Goes behind the body, and tells whether it is framed so that nothing may be read behind it."""
+        """Skips the body, and returns whether its framing forbids reading anything after it."""
         codings, lengths = self.listed(fields, b"transfer-encoding"), self.listed(
             fields, b"content-length"
         )
@@ -214,7 +214,7 @@ class Reader:
             self.skip(2)
 
     def trailers(self):
-        """Goes behind the trailer fields, which a server may drop unread. Whether a line feed alone ends a line among them is the server's choice."""
+        """Skips the trailer fields, which a server may drop unread. The server may choose whether a bare line feed ends a line among them."""
         if self.lone_feeds:
             while line := self.line():
                 self.strict = self.strict and bool(

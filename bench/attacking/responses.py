@@ -1,4 +1,4 @@
-"""A strict reader of responses by RFC 9112, and what is to be said of those that came for a message."""
+"""A strict reader of responses by RFC 9112, and the verdict on the responses to a message."""
 import re
 from typing import NamedTuple
 
@@ -9,14 +9,14 @@ FIELD_LINE = re.compile(
     rb"(" + TOKEN + rb"):[ \t]*([!-~\x80-\xff](?:[\t -~\x80-\xff]*[!-~\x80-\xff])?)?[ \t]*"
 )
 SIZE = re.compile(rb"[0-9A-Fa-f]+")
-# docs/COMMANDS.md and docs/DIFFERENCES.md tell them, and 503 for a context whose sessions are as many as it holds.
+# They are described in docs/COMMANDS.md and docs/DIFFERENCES.md; 503 is for a context that has no capacity for another session.
 STATUSES = {200, 302, 303, 400, 403, 404, 405, 413, 417, 431, 501, 503}
-# What is refused is refused before its method is looked at, so such an answer to HEAD may have a body (docs/DIFFERENCES.md).
+# A request is refused before its method is read, so the response to a HEAD may have a body (docs/DIFFERENCES.md).
 REFUSALS = {400, 413, 417, 431, 501}
 
 
 class Wrong(Exception):
-    """What came is not what may come."""
+    """The bytes are no response that is allowed."""
 
 
 class Answer(NamedTuple):
@@ -151,7 +151,7 @@ def check_final(reading, request, answer):
 
 
 def check_all_answered(reading, final, answers):
-    """What a server has to serve is to be answered, unless an answer closed before."""
+    """A request that a server has to serve must be answered, unless an earlier response closed the connection."""
     if answers and answers[-1].closes:
         return
     wanted = 0
@@ -162,7 +162,7 @@ def check_all_answered(reading, final, answers):
 
 
 def judged(all_readings, data):
-    """The answers, and nothing; or none, and what is wrong with what came by each reading of the message."""
+    """The responses and no fault; or none, and the fault by each reading of the message."""
     wrongs = []
     for reading in all_readings:
         try:

@@ -12,7 +12,7 @@ BRISK = 20
 STOPPED = 100
 # docs/OPERATION.md: 10 seconds; the clock counts whole ones, and looks once a second.
 GIVEN_UP = (9, 12.5)
-# The system takes what is left of its buffer when the first window of 10 seconds is over: so a second one follows.
+# The system accepts the rest of the buffer when the first window of 10 seconds ends, so a second one follows.
 STOPPED_SECONDS = 24
 PIPELINED = 24
 
@@ -26,7 +26,7 @@ async def drip(peer, parts, pause):
 
 
 async def given_up(port, tally, parts, pause):
-    """Sends so slowly, and is to be given up in time without an answer."""
+    """Sends this slowly, and must be closed in time without a response."""
     async with Peer(port) as peer:
         begun = time.monotonic()
         tally.sent += 1

@@ -9,9 +9,9 @@ import typing
 
 from sites import FORM, LOGIN, LOGIN_PAGE, PAGE, SECONDS
 
-# Who has waited for so long for an answer has a request under way at the server that stands still.
+# A visitor that has waited this long has sent its request to the server that is stopped.
 WAITED_SECONDS = 0.3
-# What lies between two requests of a visitor.
+# The seconds between two requests of a visitor.
 PAUSE = 0.01
 
 
@@ -74,7 +74,7 @@ class Visitor(threading.Thread):
         return text
 
     def turn(self):
-        """The page behind the constraint, the count of its session, and the file that names the server."""
+        """The protected page, the count of its session, and the file that names the server."""
         page = self.ask(PAGE)
         if page == LOGIN_PAGE:
             self.ask(LOGIN, "POST", FORM)

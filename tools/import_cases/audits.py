@@ -175,24 +175,52 @@ def shows_caller(came: Ended) -> bool:
 
 
 def tried_commands() -> list[tuple[str, list[str]]]:
-    """What differs in the commands of ./sv that build, where no build may begin."""
-    results = []
+    """What differs in the commands of ./sv that build, if they must not begin a build, and in the commands that need a toolchain, if there is none."""
     build = (
         "sv build\n    proves and builds the program from its sources, in half an hour or more\n"
     )
     release = "sv release\n    does what build does, and makes the program the released one\n"
+    needed = "needs the Rattle toolchain (rt on the path)\n"
     with tempfile.TemporaryDirectory(prefix="sv-import-") as folder:
         room = Path(folder)
         (room / "rt").write_text(NO_BUILD, encoding="utf-8")
         (room / "rt").chmod(0o755)
-        for arguments, expected in [
-            (["build", "--help"], Ended(0, build, "")),
-            (["build", "-h"], Ended(0, build, "")),
-            (["release", "--help"], Ended(0, release, "")),
-            (["build", "all"], Ended(2, "", "sv: usage\n  usage: sv build\n")),
-            (["release", "--help", "-h"], Ended(2, "", "sv: usage\n  usage: sv release\n")),
-        ]:
-            came = ended(room, [str(TOP / "sv"), *arguments], f"{room}:{os.environ['PATH']}")
-            name = f"./sv {' '.join(arguments)}"
-            results.append((name, [] if came == expected else [f"it ends with {came}"]))
-    return results
+        no_build = f"{room}:{os.environ['PATH']}"
+        no_rt = path_of(room / "bin", ["bash", "dirname", "readlink"])
+        results = [
+            (command, ended(room, [str(TOP / command[0]), *command[1:]], path), expected)
+            for path, command, expected in [
+                (no_build, ["sv", "build", "--help"], Ended(0, build, "")),
+                (no_build, ["sv", "build", "-h"], Ended(0, build, "")),
+                (no_build, ["sv", "release", "--help"], Ended(0, release, "")),
+                (no_build, ["sv", "build", "all"], Ended(2, "", "sv: usage\n  usage: sv build\n")),
+                (
+                    no_build,
+                    ["sv", "release", "--help", "-h"],
+                    Ended(2, "", "sv: usage\n  usage: sv release\n"),
+                ),
+                (
+                    no_rt,
+                    ["tools/try", "hello", "8080"],
+                    Ended(1, "", f"try: running crates/hello without a proof {needed}"),
+                ),
+                (no_rt, ["test"], Ended(1, "", f"test: proving and testing {needed}")),
+                (
+                    no_rt,
+                    ["test", "wrong-bodies", "sv"],
+                    Ended(1, "", f"test: trying the edits {needed}"),
+                ),
+            ]
+        ]
+    return [
+        (" ".join(command), [] if came == expected else [f"it ends with {came}"])
+        for command, came, expected in results
+    ]
+
+
+def path_of(folder: Path, commands: list[str]) -> str:
+    """A path on which only these commands are found, as links in a new folder."""
+    folder.mkdir()
+    for command in commands:
+        (folder / command).symlink_to(shutil.which(command) or command)
+    return str(folder)

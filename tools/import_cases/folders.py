@@ -119,14 +119,14 @@ def make_node(room: Path, kind: str, name: str, value: str = "") -> None:
 
 
 def mode_of(path: Path) -> str:
-    """The mode of a file in octal digits, or the kind of what is no regular file."""
+    """The mode of a regular file in octal digits, or the kind of any other file."""
     if path.is_symlink():
         return f"link:{os.readlink(path)}"
     return f"{path.stat().st_mode & 0o7777:o}" if path.is_file() else "none"
 
 
 def contents(room: Path) -> dict[str, bytes | str]:
-    """What a room holds, without the files that tools write: a text for what is no regular file, or the bytes."""
+    """The files of a room, without those that tools write: the bytes of a regular file, or a text for any other."""
     found: dict[str, bytes | str] = {}
     for path in room.rglob("*"):
         name = str(path.relative_to(room))

@@ -18,7 +18,7 @@ FILE_SERVLET = "default"
 EVERY_SERVLET = "*"
 # A servlet that Tomcat and Jetty declare for every application.
 PAGE_SERVLET = "jsp"
-# What a class that is not in this program stands as.
+# The classes that are written for a class that is not in this program.
 ANY_SERVLET = "Paths"
 ANY_FILTER = "Mark"
 ANY_LISTENER = "Log"
@@ -29,7 +29,7 @@ _DISPATCHERS = ("REQUEST", "FORWARD", "INCLUDE", "ERROR")
 
 
 class Names:
-    """The components of one kind: under which name each one of the file stands in the descriptor."""
+    """The components of one kind, with their names in the descriptor."""
 
     def __init__(self, kind: str, root: Element) -> None:
         self.kind = kind
@@ -62,7 +62,7 @@ class Names:
         return None
 
     def find(self, name: str) -> str | None:
-        """The name under which a component stands, `None` where none of its name is declared."""
+        """The name of a component in the descriptor, `None` if none of its name is declared."""
         return self._written.get(name)
 
     def _name_for(self, element: Element, name: str, told: Told) -> str:
@@ -132,7 +132,7 @@ def _servlet_class(element: Element, told: Told) -> str:
 
 
 def _class_of(element: Element, kind: str, known: frozenset[str], stand_in: str, told: Told) -> str:
-    """The class of a component, or what stands for one that this program does not have."""
+    """The class of a component, or the substitute for one that this program does not have."""
     class_element = element.first(f"{kind}-class")
     if class_element is None or not class_element.text:
         told.tell(
@@ -183,7 +183,7 @@ def _tell_async(element: Element, told: Told) -> None:
 
 
 def servlet_mappings(root: Element, names: Names, told: Told) -> list[Table]:
-    """The tables of the servlet mappings. A pattern stands for one servlet alone."""
+    """The tables of the servlet mappings. Each pattern is mapped to only one servlet."""
     tables: list[Table] = []
     owners: dict[str, str] = {}
     for element in root.all("servlet-mapping"):
@@ -219,7 +219,7 @@ def servlet_mappings(root: Element, names: Names, told: Told) -> list[Table]:
 
 
 def _tell_patterns_of_files(element: Element, told: Told) -> None:
-    """Tells the patterns of the file servlet, but for the one at which it stands by itself."""
+    """Reports the patterns of the file servlet, except its default one."""
     for pattern in element.all("url-pattern"):
         if pattern.text != "/":
             told.tell(

@@ -29,7 +29,7 @@ _PUBLIC_IDS = (
 
 @dataclasses.dataclass
 class Descriptor:
-    """The tables of a descriptor, in the order of its format, the lines of the web.xml on which its constraints begin, and whether nothing beside the file was to be read."""
+    """The tables of a descriptor, in the order of its format, the lines of the web.xml on which its constraints begin, and whether no other file has to be read."""
 
     top: Table
     tables: list[tuple[str, Table]]
@@ -48,7 +48,7 @@ class Descriptor:
 
 
 def read(text: bytes, told: Told) -> Descriptor:
-    """Reads the text of a web.xml, and tells what has no place in a descriptor. What is no web.xml is a `Fault`."""
+    """Reads the text of a web.xml, and reports the elements that have no place in a descriptor. A text that is no web.xml is a `Fault`."""
     document = tree.read(text, told)
     _check_root(document, told)
     tell_what_is_not_taken(document.root, told)

@@ -10,7 +10,7 @@ from .tree import Element
 
 
 class Taken(enum.Enum):
-    """How often an element that is read may stand in its parent."""
+    """How often an element that is read may occur in its parent."""
 
     ONE = "once"
     MANY = "any number of times"
@@ -37,7 +37,7 @@ _NO_JSP = "JSP is not run by this program"
 _NO_NAMES = "nothing is looked up by name here"
 _NO_CALLBACKS = "no such method is called here"
 
-# What stands in each element that is read. An element that is no key here has a text alone.
+# The children of each element that is read. An element that is no key here has only a text.
 CONTENT: dict[str, Content] = {
     "web-app": {
         **_WORDS,
@@ -255,7 +255,7 @@ def _decides(element: Element) -> bool:
 
 
 def taken(element: Element) -> Element:
-    """The element with what is read of it alone, so that what was told is not taken, too."""
+    """The element with only the children that are read, so that none is both reported and imported."""
     content = CONTENT.get(element.name, {})
     kept: list[Element] = []
     for child in element.children:

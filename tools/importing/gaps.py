@@ -1,6 +1,6 @@
-"""Where Tomcat reads constraints otherwise. It seeks an exact pattern, then the longest of a prefix, then an extension, then `/`, and goes
-on from a prefix whose constraints leave the method uncovered. By the specification the best pattern alone counts (Jakarta Servlet 6.0, section 13.8.3).
-It declares the roles that constraints name. By the specification the role `*` is for the roles of `security-role` alone (section 13.8)."""
+"""The differences of Tomcat in the reading of constraints. It seeks an exact pattern, then the longest of a prefix, then an extension, then `/`, and goes
+on from a prefix whose constraints leave the method uncovered. By the specification only the best pattern counts (Jakarta Servlet 6.0, section 13.8.3).
+It declares the roles that constraints name. By the specification the role `*` is only for the roles of `security-role` (section 13.8)."""
 from __future__ import annotations
 
 import re
@@ -35,13 +35,13 @@ class Methods(NamedTuple):
         return f"all methods but {names}" if self.is_all_but else names
 
 
-# An extension pattern by which a path is found: an extension is not empty in Tomcat, and has no dot.
+# An extension pattern that matches a path: in Tomcat an extension is not empty, and it has no dot.
 _EXTENSION = re.compile(r"\*\.[^.]+")
 ALL = Methods(frozenset(), True)
 
 
 def tell_readings(root: Element, constraints: list[Table], told: Told) -> None:
-    """Tells the patterns and roles of constraints for which Tomcat decides otherwise."""
+    """Reports the patterns and roles of constraints for which Tomcat decides differently."""
     _tell_undeclared_roles(root, told)
     lines: dict[str, int] = {}
     for pattern_element in _patterns_of(root):

@@ -65,7 +65,7 @@ def _timeout(element: Element, told: Told) -> Table:
 
 
 def _cookie_config(cookie: Element, told: Told) -> Table:
-    """How the cookie of a session is set where it is otherwise than without a word. What it cannot carry is told."""
+    """The settings of the session cookie that differ from the defaults. Those that it cannot have are reported."""
     secure, http_only = cookie.first("secure"), cookie.first("http-only")
     settings = {
         **_cookie_name(cookie.first("name"), told),

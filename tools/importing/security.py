@@ -142,7 +142,7 @@ def _is_method_told(element: Element, told: Told) -> bool:
 
 
 def _parts(collections: list[Table]) -> list[list[Table]]:
-    """The collections in parts, each of which has no more patterns than a constraint may have."""
+    """The collections in parts that each have no more patterns than a constraint may have."""
     parts: list[list[Table]] = []
     room = 0
     for collection in collections:
@@ -158,7 +158,7 @@ def _parts(collections: list[Table]) -> list[list[Table]]:
 
 
 def _authorization(element: Element, told: Told) -> Table:
-    """Who may enter: nobody where no role is named, and everybody where there is no such element."""
+    """Who may enter: nobody if no role is named, and everybody if there is no such element."""
     constraint = element.first("auth-constraint")
     if constraint is None:
         return {}

@@ -7,7 +7,7 @@ from xml.parsers import expat
 
 from .told import Rank, Told
 
-# The most elements that may stand within one another: descriptors have six levels.
+# The greatest depth of nested elements: descriptors have six levels.
 DEEPEST = 64
 # The blanks of XML.
 BLANKS = " \t\r\n"
@@ -15,7 +15,7 @@ BLANKS = " \t\r\n"
 
 @dataclasses.dataclass
 class Element:
-    """An element: its name without its namespace, the line of its start tag, and what stands in it."""
+    """An element: its name without its namespace, the line of its start tag, and its content."""
 
     name: str
     namespace: str
@@ -118,7 +118,7 @@ class Document:
 
 
 def read(text: bytes, told: Told) -> Document:
-    """Reads the text of an XML file; a text that is none, or that has what is refused, is a `Fault`."""
+    """Reads the text of an XML file. A text that is no XML, or has a part that is refused, is a `Fault`."""
     builder = _Builder(told)
     try:
         builder.parser.Parse(text, True)

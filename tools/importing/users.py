@@ -55,7 +55,7 @@ def with_password(name: str, roles: list[str], salt: bytes, password: bytes) -> 
 
 
 def read(text: bytes, told: Told) -> list[User]:
-    """Reads the users of a tomcat-users.xml, with the roles of their groups, and tells what cannot be taken over."""
+    """Reads the users of a tomcat-users.xml, with the roles of their groups, and reports what cannot be imported."""
     root = tree.read(text, told).root
     if root.name != "tomcat-users" or root.namespace not in _NAMESPACES:
         raise told.fault(root.line, f"{root.name} is no tomcat-users")

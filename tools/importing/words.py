@@ -15,7 +15,7 @@ _WHOLE = re.compile(rf"[-+]?[0-9]{{1,{MAX_DIGITS}}}")
 
 
 def words(element: Element) -> Table:
-    """The words for people of an element, which a descriptor of this program may have in every table. Those of parameters stand beside them."""
+    """The words for people of an element, which a descriptor of this program may have in every table. Those of parameters are separate."""
     descriptions = [on_one_line(text) for text in element.texts("description")]
     for param in element.all("init-param"):
         descriptions += [
@@ -43,7 +43,7 @@ def truth(element: Element, name: str, default: bool, told: Told) -> bool:
 
 
 def whole(element: Element, told: Told) -> int | None:
-    """The number in an element, an integer of the schemas. Reports what is none."""
+    """The number in an element, an integer of the schemas. Reports any other text."""
     if _WHOLE.fullmatch(element.text):
         return int(element.text)
     told.tell(
