@@ -2,6 +2,7 @@
 use Rattle.std.proofs.Common.{◌≡◌, ℕ, Bool, true, false, if◌then◌else◌, List, [], ◌∷◌, Option, Some, None, Ok, Err, refl, subst}
 use Rattle.std.specs.Prelude.{is_some, option_copied}
 use Rattle.std.specs.List.{list_any}
+use Rattle.sv_deployments.specs.declared.folders.FoundContext.{FoundContext}
 use Rattle.sv_descriptor.specs.Descriptor.{located_descriptor}
 use Rattle.sv_descriptor.specs.Fault.{Located}
 use Rattle.sv_descriptor.specs.Server.{located_server}
@@ -16,7 +17,7 @@ use Rattle.sv_program.specs.declared.command_fault.CommandFault.TheVariants.{Inp
 use Rattle.sv_program.specs.declared.command_fault.CommandFault.TheVariants as command
 use Rattle.sv_program.specs.declared.configuration.ContextTexts.{ContextTexts}
 use Rattle.sv_audit_command.specs.AuditCommand.{report_for}
-use Rattle.sv_audit_command.specs.Audited.{audited_context}
+use Rattle.sv_audit_command.specs.Audited.{audited_context, context_users}
 use Rattle.sv_audit_command.specs.Report.{asked_text, report_on}
 use Rattle.sv_audit_command.specs.Viewer.{check_viewer}
 use Rattle.sv_audit_command.specs.declared.audited_context.AuditedContext.{AuditedContext}
@@ -77,9 +78,11 @@ named_faults : (path : List ℕ) (name : Option (List ℕ)) (file : FileText) �
 named_faults path None file = done []
 named_faults path (Some name) file = onward (text_of name file) _ (text_faults name file) (λ text. users_read path name text (located_users text))
 
-context_faults : (is_secure : Bool) (at : ContextTexts) → AreOfFiles (audited_context is_secure at)
-context_faults is_secure at =
-    onward (descriptor_in at) _ (app_faults at) (λ app. onward (users_in at) _ (named_faults at.context.path at.context.users at.users) (λ users. done _))
+realm_faults : (at : ContextTexts) → AreOfFiles (context_users at)
+realm_faults at = onward (users_in at) _ (named_faults at.context.path at.context.users at.users) (λ users. done _)
+
+context_faults : (is_secure : Bool) (at : FoundContext) → AreOfFiles (audited_context is_secure at)
+context_faults is_secure at = onward (descriptor_in at.texts) _ (app_faults at.texts) (λ app. onward (context_users at.texts) _ (realm_faults at.texts) (λ users. done _))
 
 further_faults : (name : Option (List ℕ)) (file : FileText) → AreOfFiles (asked_text name file)
 further_faults None file = done []
@@ -95,14 +98,14 @@ viewer_faults (Some (asked.User name)) contexts =
     chosen (list_any (λ (context : AuditedContext). is_some (caller_named context.realm name.now)) contexts) (command.User (quoted name.now)) tt
 viewer_faults (Some (asked.Role role)) contexts = done {A = Unit {0}} tt
 
-report_faults : (options : AccessOptions) (texts : List ContextTexts) (files : FurtherFiles) → AreOfFiles (report_on options texts files)
+report_faults : (options : AccessOptions) (texts : List FoundContext) (files : FurtherFiles) → AreOfFiles (report_on options texts files)
 report_faults options texts files =
     onward (each (audited_context options.is_secure) texts) _ (each_faults (audited_context options.is_secure) (context_faults options.is_secure) texts) (λ contexts.
     onward (asked_text (option_copied options.accept) files.accept) _ (further_faults (option_copied options.accept) files.accept) (λ accepted.
     onward (asked_text (option_copied options.lines) files.lines) _ (further_faults (option_copied options.lines) files.lines) (λ lines.
     onward (check_viewer options.viewer contexts) _ (viewer_faults options.viewer contexts) (λ known. done _))))
 
-pub all_faults : (options : AccessOptions) (config : List ℕ) (file : FileText) (texts : List ContextTexts) (files : FurtherFiles) → AreOfFiles (report_for options config file texts files)
+pub all_faults : (options : AccessOptions) (config : List ℕ) (file : FileText) (texts : List FoundContext) (files : FurtherFiles) → AreOfFiles (report_for options config file texts files)
 all_faults options config file texts files =
     onward (server_in config file) _ (onward (text_of config file) _ (text_faults config file) (λ text. server_read config text (located_server text)))
     (λ server. report_faults options texts files)

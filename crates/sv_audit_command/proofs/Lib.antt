@@ -6,3 +6,4 @@ mod LineLaw
 mod Steps
 mod FilesFaults
 mod AuditRun
+mod Collected

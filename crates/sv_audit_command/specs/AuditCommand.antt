@@ -3,15 +3,16 @@ use Rattle.std.specs.Prelude.{◌≡◌, ℕ, ◌<◌, List, [], ◌++◌, map, 
 use Rattle.std.specs.Io.KnownBytes.{Appends}
 use Rattle.sv_text.specs.Gives.{Gives}
 use Rattle.sv_text.specs.Steps.{◌>>=◌}
+use Rattle.sv_deployments.specs.Configuration.{AreGiven}
+use Rattle.sv_deployments.specs.Folders.{FolderGiving}
+use Rattle.sv_deployments.specs.declared.folders.FoundContext.{FoundContext}
 use Rattle.sv_program.specs.CommandFault.{UnlessNoMemory, command_fault}
 use Rattle.sv_program.specs.Configuration.{Step, server_in}
-use Rattle.sv_program.specs.ConfigurationFiles.{contexts_in, readings}
 use Rattle.sv_program.specs.FileStore.{AreRead, FileText, Giving, Reading}
 use Rattle.sv_program.specs.declared.command_fault.CommandFault.{CommandFault}
 use Rattle.sv_program.specs.declared.command_fault.CommandFault.TheVariants as fault
-use Rattle.sv_program.specs.declared.configuration.ContextTexts.{ContextTexts}
 use Rattle.sv_descriptor.specs.declared.server.Server.{Server}
-use Rattle.sv_audit_command.specs.Report.{further_readings, report_on}
+use Rattle.sv_audit_command.specs.Report.{further_readings, other_contexts, other_name, report_on}
 use Rattle.sv_audit_command.specs.declared.further_files.FurtherFiles.{FurtherFiles}
 use Rattle.sv_audit_command.specs.declared.access_options.AccessOptions.{AccessOptions}
 use Rattle.sv_audit_command.specs.declared.audit_report.Report.{Report}
@@ -20,28 +21,27 @@ use Rattle.sv_audit_command.specs.declared.audit_report.Report.{Report}
 abbrev pub Auditing : Type 0 → Type 1
 Auditing S = Step Report → S → S → Type 0
 
--- The report on a server file with this text, if it is available, and contexts and further files with these texts.
-abbrev pub report_for : AccessOptions → List ℕ → FileText → List ContextTexts → FurtherFiles → Step Report
-report_for options config file texts files = do
+-- The report on a server file with this text, if it is available, on what was found of its contexts, and from these
+-- further files.
+abbrev pub report_for : AccessOptions → List ℕ → FileText → List FoundContext → FurtherFiles → Step Report
+report_for options config file found files = do
   server ← server_in config file
-  report_on options texts files
+  report_on options found files
 
 -- The files that the options name are read after those of the contexts, unless the server file has a fault.
 abbrev pub readings_after : Step Server → List Reading → List Reading
 readings_after (Ok server) further = further
 readings_after (Err found) further = []
 
-abbrev pub audit_readings : AccessOptions → List ℕ → FileText → List ContextTexts → FurtherFiles → List Reading
-audit_readings options config file texts files = readings config file texts ++ readings_after (server_in config file) (further_readings options files)
-
--- The report is the one on the server file, the contexts' files and the further files that the store gives; no other
--- file is read.
-abbrev pub IsAudited : {S : Type 0} → Giving S → AccessOptions → List ℕ → Auditing S
-IsAudited gives options config report before after =
-    (file : FileText) × (texts : List ContextTexts) × (files : FurtherFiles)
-    × (map (λ text. text.context) texts ≡ contexts_in (server_in config file))
-    × AreRead gives before (audit_readings options config file texts files) after
-    × (report ≡ report_for options config file texts files)
+-- The report is the one on the server file, on the files and folders of its contexts, and from the further files, which
+-- the store gives in this order. Nothing else is read.
+abbrev pub IsAudited : {S : Type 0} → Giving S → FolderGiving S → AccessOptions → List ℕ → Auditing S
+IsAudited {S} gives_text gives_files options config report before after =
+    (file : FileText) × (found : List FoundContext) × (files : FurtherFiles) × (between : S)
+    × AreGiven gives_text gives_files config file found before between
+    × AreRead gives_text between (readings_after (server_in config file) (further_readings options files)) after
+    × (map (λ text. text.context) files.other.contexts ≡ other_contexts (other_name options) files.other.server)
+    × (report ≡ report_for options config file found files)
 
 -- The result is the report or its fault, unless memory ran out.
 abbrev pub FindsReport : {S : Type 0} → Auditing S → Step Report → S → S → Type 0

@@ -1,12 +1,12 @@
 -- The keys of findings, by which an accepting file names them.
-use Rattle.std.specs.Prelude.{ℕ, Bool, List, [], ◌∷◌, ◌++◌, codes, find, map, nat_eq, Option, None, Some}
-use Rattle.std.specs.List.{flat_map, list_any}
+use Rattle.std.specs.Prelude.{ℕ, List, [], ◌∷◌, ◌++◌, codes, filter, find, map, nat_eq, slice_get, Option, None, Some}
+use Rattle.std.specs.List.{flat_map}
 use Rattle.std.specs.Option.{option_map, option_map_or}
 use Rattle.sv_findings.specs.declared.finding.Finding.{Finding}
 use Rattle.sv_findings.specs.declared.finding.Finding.TheVariants.{Opened, Uncovered, HeadDiffers, Dead, DeadPattern, Escaped, UnknownRole, UnheldRole, UnusedRole}
-use Rattle.sv_constraints.specs.Covering.{lists}
 use Rattle.sv_constraints.specs.declared.constraint.Constraint.{Constraint}
 use Rattle.sv_constraints.specs.declared.constraint.Methods.{Methods}
+use Rattle.sv_policy.specs.Patterns.{lists_pattern}
 use Rattle.sv_program.specs.Uncovered.{methods_text, names_text}
 use Rattle.sv_report.specs.Escaped.{escaped}
 use Rattle.sv_report.specs.FindingWords.{kind_name}
@@ -49,12 +49,13 @@ subject constraints (UnusedRole role) = role
 abbrev pub key_of : List ℕ → List Constraint → Finding → List ℕ
 key_of path constraints finding = escaped (shown_context path ++ codes " " ++ kind_name finding ++ codes " " ++ subject constraints finding)
 
-abbrev pub has_pattern : List ℕ → Constraint → Bool
-has_pattern pattern constraint = list_any (λ collection. lists collection.patterns pattern) constraint.collections
+-- The number of the first of constraints.
+abbrev pub first_number : List Constraint → Option ℕ
+first_number constraints = option_map (λ constraint. constraint.number) (slice_get constraints 0)
 
--- The number of the first constraint that has the pattern.
+-- The number of the first constraint that lists the pattern.
 abbrev pub first_with : List Constraint → List ℕ → Option ℕ
-first_with constraints pattern = option_map (λ constraint. constraint.number) (find (has_pattern pattern) constraints)
+first_with constraints pattern = first_number (filter (λ constraint. lists_pattern constraint pattern) constraints)
 
 -- The constraint to change: that of the finding, or the first one that has its pattern.
 abbrev pub constraint_of : List Constraint → Finding → Option ℕ

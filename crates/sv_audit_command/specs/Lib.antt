@@ -1,5 +1,6 @@
 pub mod ConstraintLines
 pub mod Held
+pub mod ContextFiles
 pub mod Audited
 pub mod Viewer
 pub mod Kinds

@@ -30,6 +30,7 @@ located_by text context = record {
   mappings = context.mappings;
   realm = context.realm;
   held = context.held;
+  files = context.files;
 }
 
 abbrev pub first_located : List ℕ → List AuditedContext → List AuditedContext

@@ -2,9 +2,11 @@
 use Rattle.std.specs.Prelude.{ℕ, Bool, not, ◌&&◌, List, [], ◌∷◌, ◌++◌, filter, length, map, Option, None, Some, Ok, option_copied}
 use Rattle.std.specs.List.{flat_map}
 use Rattle.sv_text.specs.Steps.{◌>>=◌}
-use Rattle.sv_program.specs.Configuration.{Step, each, text_of}
+use Rattle.sv_deployments.specs.declared.folders.FoundContext.{FoundContext}
+use Rattle.sv_descriptor.specs.declared.server.ContextEntry.{ContextEntry}
+use Rattle.sv_program.specs.Configuration.{Step, each, server_in, text_of}
+use Rattle.sv_program.specs.ConfigurationFiles.{contexts_in, readings}
 use Rattle.sv_program.specs.FileStore.{AreRead, FileText, Giving, Reading}
-use Rattle.sv_program.specs.declared.configuration.ContextTexts.{ContextTexts}
 use Rattle.sv_report.specs.FindingWords.{kind_name}
 use Rattle.sv_page.specs.Page.{audit_html}
 use Rattle.sv_report.specs.Json.{audit_json}
@@ -19,6 +21,7 @@ use Rattle.sv_audit_command.specs.LineFile.{located}
 use Rattle.sv_audit_command.specs.Viewer.{check_viewer}
 use Rattle.sv_audit_command.specs.declared.audited_context.AuditedContext.{AuditedContext}
 use Rattle.sv_audit_command.specs.declared.further_files.FurtherFiles.{FurtherFiles}
+use Rattle.sv_audit_command.specs.declared.further_files.OtherFiles.{OtherFiles}
 use Rattle.sv_audit_command.specs.declared.access_options.AccessOptions.{AccessOptions}
 use Rattle.sv_audit_command.specs.declared.access_options.Format.{Format}
 use Rattle.sv_audit_command.specs.declared.access_options.Format.TheVariants as format
@@ -29,15 +32,40 @@ abbrev pub asked_readings : Option (List ℕ) → FileText → List Reading
 asked_readings None file = []
 asked_readings (Some its_name) file = record { name = its_name; text = file } ∷ []
 
--- The readings of the accepting file and of the file of lines.
-abbrev pub further_readings : AccessOptions → FurtherFiles → List Reading
-further_readings options files = asked_readings (option_copied options.accept) files.accept ++ asked_readings (option_copied options.lines) files.lines
+-- The name of the other server file, unless the report is on one request.
+abbrev pub other_if : Option (List ℕ) → Option (List ℕ) → Option (List ℕ)
+other_if None diff = diff
+other_if (Some target) diff = None
 
--- The accepting file is read, and then the file of lines.
+abbrev pub other_name : AccessOptions → Option (List ℕ)
+other_name options = other_if (option_copied options.path) (option_copied options.diff)
+
+-- The readings of another server file and of the files of its contexts, if there is one.
+abbrev pub other_readings : Option (List ℕ) → OtherFiles → List Reading
+other_readings None other = []
+other_readings (Some its_name) other = readings its_name other.server other.contexts
+
+-- Its contexts; none without another server file, or if it has a fault.
+abbrev pub other_contexts : Option (List ℕ) → FileText → List ContextEntry
+other_contexts None file = []
+other_contexts (Some its_name) file = contexts_in (server_in its_name file)
+
+-- The other server file is read, and then the files of its contexts.
+abbrev pub ReadsOther : {S : Type 0} → Giving S → Option (List ℕ) → S → OtherFiles → S → Type 0
+ReadsOther gives name before other after =
+    (map (λ text. text.context) other.contexts ≡ other_contexts name other.server) × AreRead gives before (other_readings name other) after
+
+-- The readings of the accepting file, of the file of lines, and of the other server's files.
+abbrev pub further_readings : AccessOptions → FurtherFiles → List Reading
+further_readings options files =
+    asked_readings (option_copied options.accept) files.accept ++ asked_readings (option_copied options.lines) files.lines ++ other_readings (other_name options) files.other
+
+-- The accepting file is read, then the file of lines, and then the other server's files.
 abbrev pub ReadsFurther : {S : Type 0} → Giving S → AccessOptions → S → FurtherFiles → S → Type 0
 ReadsFurther {S} gives options before files after =
-    (between : S) × AreRead gives before (asked_readings (option_copied options.accept) files.accept) between
-    × AreRead gives between (asked_readings (option_copied options.lines) files.lines) after
+    (between : S) × (beyond : S) × ReadsOther gives (other_name options) beyond files.other after
+    × AreRead gives before (asked_readings (option_copied options.accept) files.accept) between
+    × AreRead gives between (asked_readings (option_copied options.lines) files.lines) beyond
 
 -- The text of a file that an option names, or its fault; empty if it names none.
 abbrev pub asked_text : Option (List ℕ) → FileText → Step (List ℕ)
@@ -74,9 +102,9 @@ report_of options accepted contexts = record {
 }
 
 -- The report, or the first fault: of the contexts' files, of the accepting file, of the file of lines, of the viewer.
-abbrev pub report_on : AccessOptions → List ContextTexts → FurtherFiles → Step Report
-report_on options texts files = do
-  contexts ← each (audited_context options.is_secure) texts
+abbrev pub report_on : AccessOptions → List FoundContext → FurtherFiles → Step Report
+report_on options found files = do
+  contexts ← each (audited_context options.is_secure) found
   accepted ← asked_text (option_copied options.accept) files.accept
   lines ← asked_text (option_copied options.lines) files.lines
   known ← check_viewer options.viewer contexts

@@ -1,14 +1,30 @@
 //! The findings that an accepting file names by their keys.
 
-ghost use Rattle.std.specs.Prelude.{◌≡◌};
+ghost use Rattle.std.specs.Prelude.{◌≡◌, ℕ, List, IfOk};
+ghost use Rattle.sv_descriptor.specs.Names.{HaveSame};
 ghost use Rattle.sv_audit_command.specs.Accepted as spec;
 
-/// Returns whether the key is a line of the text of an accepting file. A key is never empty and never begins with `#`,
-/// so empty lines and comments mean nothing.
-pub(crate) fn is_accepted(accepted: &[u8], key: &[u8]) -> bool
-    ensures { result ≡ spec.is_accepted accepted.now key.now }
+use crate::line_file::parts;
+use std::alloc::Global;
+use sv_descriptor::Names;
+use sv_text::NoMemory;
+
+/// Returns the lines of the text of an accepting file as a set.
+pub(crate) fn accepted_lines(alloc: Global, accepted: &str) -> Result<Names<'_>, NoMemory>
+    ensures { IfOk result (λ lines. HaveSame lines (spec.lines_of accepted.now)) }
 {
-    accepted
-        .split(|byte| *byte == b'\n')
-        .any(|line| line == key)
+    let parts = parts(alloc, accepted)?;
+    let mut lines = Names::new(alloc);
+    for part in parts.as_slice() {
+        lines.enter(*part)?;
+    }
+    Ok(lines)
+}
+
+/// Returns whether the key is a line of an accepting file. A key is never empty and never begins with `#`, so empty
+/// lines and comments mean nothing.
+pub(crate) fn is_accepted(lines: &Names<'_>, key: &str) -> bool
+    ensures { (accepted : List ℕ) → HaveSame lines.now (spec.lines_of accepted) → result ≡ spec.is_accepted accepted key.now }
+{
+    lines.contains(key)
 }

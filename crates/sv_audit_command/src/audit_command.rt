@@ -8,12 +8,15 @@ use crate::audit_report::{Report, report_on};
 use crate::further_files::read_further;
 use std::alloc::Global;
 use std::io::Write;
+use sv_deployments::{FolderStore, read_folders};
 use sv_program::{CommandFault, FileStore, print_text, read_contexts, read_server_file};
 
-/// Reads the server file of this name, then the descriptor and the users file of each of its contexts, then the
-/// accepting file and the file of lines, and writes who may reach what (Jakarta Servlet 6.0, section 13.8). Names in the
-/// server file are relative to its folder. No other file is read. A file of lines locates the constraints of the first
-/// context: its first line names their file, and the next ones are the lines on which they begin in it.
+/// Reads the server file of this name, then the descriptor and the users file of each of its contexts, then the folders
+/// of their static files, then the accepting file and the file of lines, then the other server file with the descriptor
+/// and the users file of each of its contexts, and writes who may reach what (Jakarta Servlet 6.0, section 13.8). Names
+/// in a server file are relative to its folder. Nothing else is read. A folder that is not available is no fault: then
+/// nothing is reported that follows from its files. A file of lines locates the constraints of the first context: its
+/// first line names their file, and the next ones are the lines on which they begin in it.
 ///
 /// # Errors
 /// The first fault: [`CommandFault::File`] or [`CommandFault::Server`] for the server file, then
@@ -22,14 +25,14 @@ use sv_program::{CommandFault, FileStore, print_text, read_contexts, read_server
 /// the user, or [`CommandFault::NoMemory`]. After [`CommandFault::Findings`] the report is written: it has this number
 /// of findings of the kinds that must not be there, and which are not accepted. After [`CommandFault::Output`] a part
 /// of the report may have been written, after any other fault none.
-pub fn audit<S: FileStore, W: Write>(
+pub fn audit<S: FileStore + FolderStore, W: Write>(
     alloc: Global,
     store: &mut S,
     writer: &mut W,
     config: &str,
     options: &AccessOptions<'_>,
 ) -> Result<(), CommandFault>
-    ensures run { spec.Audits (spec.IsAudited S.gives_text options.now config.now) result store.old store.new (W.contents writer.old) (W.contents writer.new) }
+    ensures run { spec.Audits (spec.IsAudited S.gives_text S.gives_files options.now config.now) result store.old store.new (W.contents writer.old) (W.contents writer.new) }
     ensures untouched { IfErr result (λ fault. spec.IsBeforeOutput fault → writer.new ≡ writer.old) }
 {
     let report = report_from(alloc, store, config, options)?;
@@ -37,18 +40,19 @@ pub fn audit<S: FileStore, W: Write>(
 }
 
 /// Returns the report on the server, from the files that the store gives.
-fn report_from<S: FileStore>(
+fn report_from<S: FileStore + FolderStore>(
     alloc: Global,
     store: &mut S,
     config: &str,
     options: &AccessOptions<'_>,
 ) -> Result<Report, CommandFault>
-    ensures { spec.FindsReport (spec.IsAudited S.gives_text options.now config.now) result store.old store.new }
+    ensures { spec.FindsReport (spec.IsAudited S.gives_text S.gives_files options.now config.now) result store.old store.new }
 {
     let server = read_server_file(alloc, store, config)?;
     let texts = read_contexts(alloc, store, config, server.contexts)?;
+    let found = read_folders(alloc, store, config, texts)?;
     let files = read_further(alloc, store, options)?;
-    report_on(alloc, texts.as_slice(), &files, options)
+    report_on(alloc, found.as_slice(), &files, options)
 }
 
 /// Writes the report.

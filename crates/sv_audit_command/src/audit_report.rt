@@ -14,8 +14,9 @@ use crate::kinds::lists_kind;
 use crate::line_file::located;
 use crate::viewer::check_viewer;
 use std::alloc::Global;
+use sv_deployments::FoundContext;
 use sv_page::audit_html;
-use sv_program::{CommandFault, ContextTexts};
+use sv_program::CommandFault;
 use sv_report::{ContextReport, ReportedFinding, audit_json, audit_text, keys_text, kind_name};
 use sv_text::{Listed, NoMemory, Text};
 
@@ -28,20 +29,20 @@ pub struct Report {
     pub count: u64,
 }
 
-/// Returns the report on contexts whose files have these texts.
+/// Returns the report on contexts of which this was found, and from these further files.
 ///
 /// # Errors
 /// The first fault: of the descriptor and the users of each context, of the accepting file, of the file of lines, and
 /// then [`CommandFault::User`] if no context has the user. Or [`CommandFault::NoMemory`].
 pub(crate) fn report_on(
     alloc: Global,
-    texts: &[ContextTexts],
+    found: &[FoundContext],
     files: &FurtherFiles,
     options: &AccessOptions<'_>,
 ) -> Result<Report, CommandFault>
-    ensures { Gives command_fault result (spec.report_on options.now texts.now files.now) }
+    ensures { Gives command_fault result (spec.report_on options.now found.now files.now) }
 {
-    let contexts = audited_contexts(alloc, texts, options.is_secure)?;
+    let contexts = audited_contexts(alloc, found, options.is_secure)?;
     let accepted = asked_text(alloc, options.accept, &files.accept)?;
     let lines = asked_text(alloc, options.lines, &files.lines)?;
     check_viewer(alloc, options.viewer, contexts.as_slice())?;

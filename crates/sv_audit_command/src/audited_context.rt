@@ -5,11 +5,13 @@ ghost use Rattle.sv_program.specs.CommandFault.{command_fault};
 ghost use Rattle.sv_program.specs.Configuration.{each};
 ghost use Rattle.sv_audit_command.specs.Audited as spec;
 
+use crate::context_files::{ContextFiles, files_in};
 use crate::descriptor_lines::constraint_lines;
 use crate::held::held_in;
 use std::alloc::Global;
 use sv_audit::without_transport;
 use sv_constraints::{Constraint, Rules};
+use sv_deployments::FoundContext;
 use sv_descriptor::{ServletMapping, WebApp};
 use sv_program::{CommandFault, ContextTexts, FileText, descriptor_in, realm_in};
 use sv_realm::Realm;
@@ -32,6 +34,8 @@ pub(crate) struct AuditedContext {
     pub(crate) realm: Realm,
     /// The roles of the users, if the context names a users file.
     pub(crate) held: Option<Listed<Text>>,
+    /// The static files.
+    pub(crate) files: ContextFiles,
 }
 
 /// A descriptor, and the context that it describes.
@@ -45,7 +49,7 @@ pub(crate) struct Source {
     pub(crate) lines: Listed<Option<u64>>,
 }
 
-/// Reads the contexts whose files have these texts. Transport requirements are dropped if requests arrive over a
+/// Reads the contexts from what was found of them. Transport requirements are dropped if requests arrive over a
 /// connection whose transport is guaranteed.
 ///
 /// # Errors
@@ -53,14 +57,14 @@ pub(crate) struct Source {
 /// [`CommandFault::Descriptor`] or [`CommandFault::Users`]. Or [`CommandFault::NoMemory`].
 pub(crate) fn audited_contexts(
     alloc: Global,
-    texts: &[ContextTexts],
+    found: &[FoundContext],
     is_secure: bool,
 ) -> Result<Listed<AuditedContext>, CommandFault>
-    ensures { Gives command_fault result (each (spec.audited_context is_secure) texts.now) }
+    ensures { Gives command_fault result (each (spec.audited_context is_secure) found.now) }
 {
     let mut contexts = Vec::new(alloc);
-    for texts in texts {
-        let context = audited_context(alloc, texts, is_secure)?;
+    for found in found {
+        let context = audited_context(alloc, found, is_secure)?;
         contexts.push(context)?;
     }
     Ok(Listed::from_vec(contexts))
@@ -68,17 +72,14 @@ pub(crate) fn audited_contexts(
 
 fn audited_context(
     alloc: Global,
-    texts: &ContextTexts,
+    found: &FoundContext,
     is_secure: bool,
 ) -> Result<AuditedContext, CommandFault>
-    ensures { Gives command_fault result (spec.audited_context is_secure texts.now) }
+    ensures { Gives command_fault result (spec.audited_context is_secure found.now) }
 {
-    let web_app = descriptor_in(alloc, texts)?.into_web_app();
-    let realm = realm_in(alloc, texts)?;
-    let source = source_of(alloc, texts)?;
-    let held = held_in(alloc, &texts.context.users, &realm)?;
-    let users = ContextUsers { realm, held };
-    Ok(context_of(alloc, source, web_app, users, is_secure)?)
+    let web_app = descriptor_in(alloc, &found.texts)?.into_web_app();
+    let users = context_users(alloc, &found.texts)?;
+    Ok(context_of(alloc, found, web_app, users, is_secure)?)
 }
 
 /// The users of a context, and their roles.
@@ -88,16 +89,27 @@ pub(crate) struct ContextUsers {
     held: Option<Listed<Text>>,
 }
 
+fn context_users(alloc: Global, texts: &ContextTexts) -> Result<ContextUsers, CommandFault>
+    ensures { Gives command_fault result (spec.context_users texts.now) }
+{
+    let realm = realm_in(alloc, texts)?;
+    let held = held_in(alloc, &texts.context.users, &realm)?;
+    Ok(ContextUsers { realm, held })
+}
+
 /// Returns the context with this descriptor and these users.
 fn context_of(
     alloc: Global,
-    source: Source,
+    found: &FoundContext,
     web_app: WebApp,
     users: ContextUsers,
     is_secure: bool,
 ) -> Result<AuditedContext, NoMemory>
-    ensures { GivesAnswer result (spec.context_of is_secure source web_app users) }
+    ensures { GivesAnswer result (spec.context_of is_secure (spec.source_of found.now.texts) web_app users (spec.its_files found.now web_app)) }
 {
+    let source = source_of(alloc, &found.texts)?;
+    let folder = found.texts.context.files.as_str();
+    let files = files_in(alloc, folder, &found.files, &web_app.login)?;
     let has_login = web_app.login.is_some();
     let constraints = constraints_over(alloc, is_secure, web_app.constraints)?;
     Ok(AuditedContext {
@@ -108,6 +120,7 @@ fn context_of(
         mappings: web_app.servlet_mappings,
         realm: users.realm,
         held: users.held,
+        files,
     })
 }
 

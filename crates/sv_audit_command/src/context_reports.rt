@@ -1,10 +1,13 @@
 //! What is reported of contexts.
 
-ghost use Rattle.std.specs.Prelude.{◌≡◌, map, option_copied};
+ghost use Rattle.std.specs.Prelude.{◌≡◌, ℕ, List, map, option_copied};
+ghost use Rattle.sv_descriptor.specs.Names.{HaveSame};
+ghost use Rattle.sv_policy.specs.Groups.{IsGrouped};
 ghost use Rattle.sv_text.specs.Gives.{GivesAnswer};
+ghost use Rattle.sv_audit_command.specs.Accepted.{lines_of};
 ghost use Rattle.sv_audit_command.specs.ContextReports as spec;
 
-use crate::accepted::is_accepted;
+use crate::accepted::{accepted_lines, is_accepted};
 use crate::access_options::Asked;
 use crate::audited_context::AuditedContext;
 use crate::key::{constraint_of, key_of};
@@ -12,7 +15,9 @@ use crate::row_paths::reported_rows;
 use crate::viewer::viewer_in;
 use std::alloc::Global;
 use sv_audit::{Table, table_of};
+use sv_descriptor::Names;
 use sv_findings::{Finding, findings_of};
+use sv_policy::{Groups, grouped};
 use sv_report::{ContextReport, ReportedFinding, ReportedRow, Viewer};
 use sv_text::{Listed, NoMemory, Text};
 
@@ -111,25 +116,30 @@ fn reported_findings(
 ) -> Result<Listed<ReportedFinding>, NoMemory>
     ensures { GivesAnswer result (map (spec.reported_finding context.now accepted.now) findings) }
 {
+    let groups = grouped(alloc, context.constraints.as_slice())?;
+    let lines = accepted_lines(alloc, accepted)?;
     let mut reported = Vec::new(alloc);
     for finding in findings.into_vec() {
-        reported.push(reported_finding(alloc, context, accepted, finding)?)?;
+        reported.push(reported_finding(alloc, context, &groups, &lines, finding)?)?;
     }
     Ok(Listed::from_vec(reported))
 }
 
+/// Returns what is reported of a finding, given the constraints by pattern, and the lines of the accepting file.
 fn reported_finding(
     alloc: Global,
     context: &AuditedContext,
-    accepted: &str,
+    groups: &Groups<'_>,
+    lines: &Names<'_>,
     finding: Finding,
 ) -> Result<ReportedFinding, NoMemory>
-    ensures { GivesAnswer result (spec.reported_finding context.now accepted.now finding) }
+    ensures { (accepted : List ℕ) → IsGrouped context.now.constraints groups.now → HaveSame lines.now (lines_of accepted) →
+        GivesAnswer result (spec.reported_finding context.now accepted finding) }
 {
     let constraints = context.constraints.as_slice();
     let key = key_of(alloc, context.source.path.as_str(), constraints, &finding)?;
-    let constraint = constraint_of(constraints, &finding);
-    let is_accepted = is_accepted(accepted.as_bytes(), key.as_bytes());
+    let constraint = constraint_of(groups, &finding);
+    let is_accepted = is_accepted(lines, key.as_str());
     Ok(ReportedFinding {
         finding,
         key,

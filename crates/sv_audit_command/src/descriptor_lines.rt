@@ -227,7 +227,7 @@ fn items_of(value: &Value) -> &[Value]
 }
 
 /// Returns the bytes as a text, if they are UTF-8.
-fn text_of(bytes: &[u8]) -> Option<&str>
+pub(crate) fn text_of(bytes: &[u8]) -> Option<&str>
     ensures { option_copied result ≡ file_line.text_of bytes.now }
 {
     match str::from_utf8(bytes) {

@@ -1,6 +1,6 @@
 //! The files that the arguments of the command `audit` name, besides the server file.
 
-ghost use Rattle.std.specs.Prelude.{IfOk, option_copied};
+ghost use Rattle.std.specs.Prelude.{◌≡◌, [], IfOk, Some, option_copied};
 ghost use Rattle.sv_text.specs.Gives.{Gives};
 ghost use Rattle.sv_program.specs.CommandFault.{command_fault};
 ghost use Rattle.sv_program.specs.FileStore.{AreRead};
@@ -8,8 +8,10 @@ ghost use Rattle.sv_audit_command.specs.Report as spec;
 
 use crate::access_options::AccessOptions;
 use std::alloc::Global;
-use sv_program::{CommandFault, FileStore, FileText, Unavailable};
-use sv_text::{NoMemory, Text};
+use sv_program::{
+    CommandFault, ContextTexts, FileStore, FileText, Unavailable, read_contexts, server_in,
+};
+use sv_text::{Listed, NoMemory, Text};
 
 /// The texts of the files that the options name. A text is ignored if its option names no file.
 #[derive(Drop)]
@@ -18,9 +20,20 @@ pub(crate) struct FurtherFiles {
     pub(crate) accept: FileText,
     /// The file of lines.
     pub(crate) lines: FileText,
+    /// The other server file, and the files of its contexts.
+    pub(crate) other: OtherFiles,
 }
 
-/// Reads the accepting file, and then the file of lines.
+/// The texts of another server file, and of the files of its contexts.
+#[derive(Drop)]
+pub(crate) struct OtherFiles {
+    /// The server file.
+    pub(crate) server: FileText,
+    /// The contexts. There are none if the server file has a fault.
+    pub(crate) contexts: Listed<ContextTexts>,
+}
+
+/// Reads the accepting file, then the file of lines, and then the other server file with the files of its contexts.
 pub(crate) fn read_further<S: FileStore>(
     alloc: Global,
     store: &mut S,
@@ -30,7 +43,63 @@ pub(crate) fn read_further<S: FileStore>(
 {
     let accept = read_asked(alloc, store, options.accept)?;
     let lines = read_asked(alloc, store, options.lines)?;
-    Ok(FurtherFiles { accept, lines })
+    let other = read_other(alloc, store, other_name(options))?;
+    Ok(FurtherFiles {
+        accept,
+        lines,
+        other,
+    })
+}
+
+/// Returns the name of the other server file. It is not read if the report is on one request.
+pub(crate) fn other_name<'a>(options: &AccessOptions<'a>) -> Option<&'a str>
+    ensures { option_copied result ≡ spec.other_name options.now }
+{
+    match options.path {
+        Some(_) => None,
+        None => options.diff,
+    }
+}
+
+/// Reads another server file, and then the files of its contexts, unless it has a fault. Without a name no file is read.
+fn read_other<S: FileStore>(
+    alloc: Global,
+    store: &mut S,
+    name: Option<&str>,
+) -> Result<OtherFiles, NoMemory>
+    ensures { IfOk result (λ other. spec.ReadsOther S.gives_text (option_copied name.entry) store.old other store.new) }
+{
+    match name {
+        Some(name) => read_server(alloc, store, name),
+        None => Ok(without_contexts(alloc, Err(Unavailable::Missing))),
+    }
+}
+
+fn read_server<S: FileStore>(
+    alloc: Global,
+    store: &mut S,
+    name: &str,
+) -> Result<OtherFiles, NoMemory>
+    ensures { IfOk result (λ other. spec.ReadsOther S.gives_text (Some name.now) store.old other store.new) }
+{
+    let server = store.read_text(alloc, name)?;
+    match server_in(alloc, name, &server) {
+        Ok(read) => Ok(OtherFiles {
+            contexts: read_contexts(alloc, store, name, read.contexts)?,
+            server,
+        }),
+        Err(CommandFault::NoMemory) => Err(NoMemory),
+        Err(_) => Ok(without_contexts(alloc, server)),
+    }
+}
+
+fn without_contexts(alloc: Global, server: FileText) -> OtherFiles
+    ensures { result ≡ record { server = server; contexts = [] } }
+{
+    OtherFiles {
+        server,
+        contexts: Listed::from_vec(Vec::new(alloc)),
+    }
 }
 
 /// Reads the file of this name. Without a name no file is read, and none is available.

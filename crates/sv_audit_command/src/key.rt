@@ -1,8 +1,9 @@
 //! The keys of findings, by which an accepting file names them.
 
-ghost use Rattle.std.specs.Prelude.{◌≡◌, ◌++◌, IfOk, OnOk, map, option_copied};
+ghost use Rattle.std.specs.Prelude.{◌≡◌, ◌++◌, List, IfOk, OnOk, map, option_copied};
 ghost use Rattle.std.specs.String.{string_bytes};
-ghost use Rattle.sv_constraints.specs.Covering.{lists};
+ghost use Rattle.sv_constraints.specs.declared.constraint.Constraint.{Constraint};
+ghost use Rattle.sv_policy.specs.Groups.{IsGrouped};
 ghost use Rattle.sv_program.specs.Uncovered.{methods_text, names_text, omission_text, others_text};
 ghost use Rattle.sv_text.specs.Gives.{GivesAnswer};
 ghost use Rattle.sv_audit_command.specs.Key as spec;
@@ -11,6 +12,7 @@ use std::alloc::Global;
 use sv_findings::Finding;
 use sv_constraints::{Constraint, Methods};
 use sv_mapping::Pattern;
+use sv_policy::Groups;
 use sv_report::escaped::escaped;
 use sv_report::kind_name;
 use sv_text::{NoMemory, Text};
@@ -174,13 +176,13 @@ fn push_pattern_words(
 
 /// Returns the number of the constraint to change: that of the finding, or the first one that has its pattern. A
 /// role that is not held or not used has none.
-pub(crate) fn constraint_of(constraints: &[Constraint], finding: &Finding) -> Option<u64>
-    ensures { result ≡ spec.constraint_of constraints.now finding.now }
+pub(crate) fn constraint_of(groups: &Groups<'_>, finding: &Finding) -> Option<u64>
+    ensures { (constraints : List Constraint) → IsGrouped constraints groups.now → result ≡ spec.constraint_of constraints finding.now }
 {
     match finding {
         Finding::Opened(_, number, _) => Some(*number),
-        Finding::Uncovered(pattern, _) => first_with(constraints, pattern.as_str()),
-        Finding::HeadDiffers(pattern) => first_with(constraints, pattern.as_str()),
+        Finding::Uncovered(pattern, _) => first_with(groups, pattern.as_str()),
+        Finding::HeadDiffers(pattern) => first_with(groups, pattern.as_str()),
         Finding::Dead(number) => Some(*number),
         Finding::DeadPattern(number, _) => Some(*number),
         Finding::Escaped(number, _) => Some(*number),
@@ -190,27 +192,19 @@ pub(crate) fn constraint_of(constraints: &[Constraint], finding: &Finding) -> Op
     }
 }
 
-/// Returns the number of the first constraint that has the pattern.
-fn first_with(constraints: &[Constraint], pattern: &str) -> Option<u64>
-    ensures { result ≡ spec.first_with constraints.now pattern.now }
+/// Returns the number of the first constraint that lists the pattern.
+fn first_with(groups: &Groups<'_>, pattern: &str) -> Option<u64>
+    ensures { (constraints : List Constraint) → IsGrouped constraints groups.now → result ≡ spec.first_with constraints pattern.now }
 {
-    let constraint = constraints
-        .iter()
-        .find(|constraint| has_pattern(constraint, pattern))?;
-    Some(constraint.number)
+    match groups.on(pattern) {
+        Some(members) => first_number(members.as_slice()),
+        None => None,
+    }
 }
 
-fn has_pattern(constraint: &Constraint, pattern: &str) -> bool
-    ensures { result ≡ spec.has_pattern pattern.now constraint.now }
+fn first_number(members: &[&Constraint]) -> Option<u64>
+    ensures { result ≡ spec.first_number (map (λ member. member.now) members.now) }
 {
-    constraint.collections.as_slice().iter().any(|collection| are_among(
-        collection.patterns.as_slice(),
-        pattern,
-    ))
-}
-
-fn are_among(patterns: &[Pattern], text: &str) -> bool
-    ensures { result ≡ lists patterns.now text.now }
-{
-    patterns.iter().any(|pattern| pattern.text() == text)
+    let member = members.first()?;
+    Some(member.number)
 }

@@ -66,7 +66,7 @@ fn source_from(alloc: Global, text: &str, path: Text) -> Result<Source, NoMemory
 }
 
 /// Returns the lines of a text, without their line feeds.
-fn parts(alloc: Global, text: &str) -> Result<Vec<&str>, NoMemory>
+pub(crate) fn parts(alloc: Global, text: &str) -> Result<Vec<&str>, NoMemory>
     ensures { IfOk result (λ parts. map (λ part. part.now) parts.items ≡ lines_of text.now) }
 {
     Ok(text.split('\n').collect(alloc)?)

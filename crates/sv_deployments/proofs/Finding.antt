@@ -34,7 +34,7 @@ module _ {S : Type 0} (gives_text : Giving S) (gives_files : FolderGiving S) (co
           (Err f, (h.0, [], (after, rw failed refl, (after, h.1, refl), refl), rw failed refl), refl)
 
   -- the files were read in order
-  are_given : (file : FileText) (server : Server) (texts : List ContextTexts) (found : List FoundContext) (a b c d : S)
+  pub are_given : (file : FileText) (server : Server) (texts : List ContextTexts) (found : List FoundContext) (a b c d : S)
       → gives_text a config file b → server_in config file ≡ Ok server
       → ReadsContexts gives_text config server.contexts b texts c → ReadsFolders gives_files config texts c found d
       → AreGiven gives_text gives_files config file found a d

@@ -11,15 +11,19 @@ use sv_text::{Listed, NoMemory};
 
 /// A context of a server file, with everything that the store gave for it.
 #[derive(Drop)]
-pub(crate) struct FoundContext {
+pub struct FoundContext {
     /// The context and the texts of its files.
-    pub(crate) texts: ContextTexts,
+    pub texts: ContextTexts,
     /// Its static files, or why their folder is not available. They are ignored if the context names no folder.
-    pub(crate) files: FolderFiles,
+    pub files: FolderFiles,
 }
 
-/// Reads the folder of each context of the server file `config` that names one, in order.
-pub(crate) fn read_folders<S: FolderStore>(
+/// Reads the folder of each context of the server file `config` that names one, in order. The name of a folder is
+/// relative to the folder of the server file.
+///
+/// # Errors
+/// `NoMemory` if memory runs out. A folder that is not available is no error.
+pub fn read_folders<S: FolderStore>(
     alloc: Global,
     store: &mut S,
     config: &str,

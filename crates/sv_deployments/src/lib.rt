@@ -39,7 +39,7 @@ pub use deployments::{ProgramDeployment, both};
 pub use error::ErrorCode;
 pub use fail::Fail;
 pub use files::files_of;
-pub use folders::{FolderFiles, FolderStore};
+pub use folders::{FolderFiles, FolderStore, FoundContext, read_folders};
 pub use go::Go;
 pub use gone::Gone;
 pub use halt::Halt;

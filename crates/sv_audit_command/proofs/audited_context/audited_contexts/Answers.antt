@@ -3,7 +3,7 @@ use Rattle.sv_audit_command.specs.Audited.{audited_context}
 use Rattle.sv_audit_command.proofs.Steps.{one_more}
 use Rattle.sv_audit_command.proofs.audited_context.audited_contexts.Goals as goal
 
-pub loop-texts-preserved : goal.loop-texts-preserved
-loop-texts-preserved c =
-    one_more (audited_context c.args.is_secure) c.args.texts.now c.loop-texts.texts-index c.texts-item.result c.in_ok-context.context c.loop-texts.contexts.items c.push.new.self.items
-    (each (audited_context c.args.is_secure) c.args.texts.now) c.loop-texts-test.true c.texts-item.is c.in_ok-context.ensures c.in_ok-push.ensures.items c.loop-texts.invariant
+pub loop-found-preserved : goal.loop-found-preserved
+loop-found-preserved c =
+    one_more (audited_context c.args.is_secure) c.args.found.now c.loop-found.found-index c.found-item.result c.in_ok-context.context c.loop-found.contexts.items c.push.new.self.items
+    (each (audited_context c.args.is_secure) c.args.found.now) c.loop-found-test.true c.found-item.is c.in_ok-context.ensures c.in_ok-push.ensures.items c.loop-found.invariant

@@ -5,6 +5,6 @@ use Rattle.sv_program.specs.Configuration.{each}
 use Rattle.sv_audit_command.proofs.audited_context.audited_contexts.Given as goal
 
 -- the remaining texts give the remaining contexts
-abbrev pub invariant-loop-texts : goal.invariant-loop-texts
-invariant-loop-texts l =
-    (each (audited_context l.is_secure) (drop l.texts-index l.texts) >>= λ rest. Ok (l.contexts.items ++ rest)) ≡ each (audited_context l.is_secure) l.texts
+abbrev pub invariant-loop-found : goal.invariant-loop-found
+invariant-loop-found l =
+    (each (audited_context l.is_secure) (drop l.found-index l.found) >>= λ rest. Ok (l.contexts.items ++ rest)) ≡ each (audited_context l.is_secure) l.found
