@@ -1,7 +1,7 @@
 //! Theorems about access tables and their differences, each the contract of a function that only calls other theorems.
 
 ghost use Rattle.sv_audit.specs.DifferenceLaws.{DifferencesAreComplete, DifferencesAreRight};
-ghost use Rattle.sv_audit.specs.Examples.{ExamplesAreRight};
+ghost use Rattle.sv_audit.specs.Examples.{CanonicalIsReadBack, ExamplesAreRight};
 ghost use Rattle.sv_audit.specs.Narrower.{NarrowerAreComplete, NarrowerAreSound};
 ghost use Rattle.sv_audit.specs.Reading.{NumbersAreRight, ServedPathsAreRooted, TablesAreRight};
 ghost use Rattle.sv_audit.specs.Representatives.{EachPathIsRepresented};
@@ -9,7 +9,7 @@ ghost use Rattle.sv_audit.specs.Secure.{OnlyTransportChanges};
 
 use sv_mapping::laws::{best_exists, best_is_a_match};
 use sv_policy::best_is_of_texts;
-use sv_uri::laws::canonical_has_shape;
+use sv_uri::laws::{canonical_has_shape, location_is_read_back};
 
 /// For every path that is empty or begins with a slash, every method and every caller, a table has exactly one cell, and
 /// it says what the constraints decide. The number in the cell is that of the constraint that decides the request
@@ -34,11 +34,14 @@ pub fn served_paths_are_rooted()
     ensures { ServedPathsAreRooted }
 {}
 
-/// An example is its own canonical path, begins with a slash, and has the pattern as its best match, or none.
+/// The location of an example leads to it; it begins with a slash, and has the pattern as its best match, or none. The
+/// location of each path that a request can have leads to it.
 pub fn examples_are_right()
-    ensures { ExamplesAreRight }
+    ensures right { ExamplesAreRight }
+    ensures reachable { CanonicalIsReadBack }
 {
     canonical_has_shape();
+    location_is_read_back();
 }
 
 /// If a pattern matches a path whose best match is another one, that one is among the narrower patterns. Each narrower
