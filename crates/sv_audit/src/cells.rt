@@ -87,7 +87,7 @@ pub fn copied_cell(alloc: Global, cell: &Cell) -> Result<Cell, NoMemory>
     })
 }
 
-fn copied_access(alloc: Global, access: &Access) -> Result<Access, NoMemory>
+pub(crate) fn copied_access(alloc: Global, access: &Access) -> Result<Access, NoMemory>
     ensures { GivesAnswer result access.now }
 {
     match access {
