@@ -30,7 +30,7 @@ mod visitors;
 
 pub use access::{Access, Cell};
 pub use caller_comparison::same_callers;
-pub use cells::covering_findings;
+pub use cells::{copied_access, covering_findings};
 pub use coverage::covering;
 pub use difference::{Difference, DifferenceKind, Side};
 pub use examples::example_of;
