@@ -81,7 +81,7 @@ record IsFree (named : List (List ℕ)) (directory ending path : List ℕ) : Typ
 filed : (directory name ending : List ℕ) → file_path directory name ending ≡ directory ++ 47 ∷ (name ++ ending)
 filed directory name ending = append_assoc (directory ++ 47 ∷ []) name ending ∙ append_assoc directory (47 ∷ []) (name ++ ending)
 
-longer : (named : List (List ℕ)) (directory ending : List ℕ) → lists named (file_path directory (long_name named) ending) ≡ false
+pub longer : (named : List (List ℕ)) (directory ending : List ℕ) → lists named (file_path directory (long_name named) ending) ≡ false
 longer named directory ending =
     false_from_ne_true _ (λ there.
     absurd (omega (arith, within_longest named 0 _ (in_listed named _ there), ap length (filed directory (long_name named) ending), length-append directory (47 ∷ (long_name named ++ ending)), length-append (long_name named) ending, length_long (longest named))))
