@@ -29,7 +29,7 @@ mod tables;
 
 pub use access::{Access, Cell};
 pub use caller_comparison::same_callers;
-pub use cells::covering_findings;
+pub use cells::{copied_access, covering_findings};
 pub use coverage::covering;
 pub use difference::Difference;
 pub use examples::example_of;
