@@ -58,20 +58,10 @@ fn push_other_contexts(
     ensures { OnOk result (string_bytes text.new ≡ string_bytes text.old ++ flat_map (λ other. codes "," ++ compact_text (spec.context_value other)) others.now) }
 {
     for other in others {
-        push_other_context(text, alloc, other)?;
+        text.push_str(",")?;
+        push_context(text, alloc, other)?;
     }
     Ok(())
-}
-
-fn push_other_context(
-    text: &mut String,
-    alloc: Global,
-    context: &ContextReport,
-) -> Result<(), NoMemory>
-    ensures { OnOk result (string_bytes text.new ≡ string_bytes text.old ++ (codes "," ++ compact_text (spec.context_value context.now))) }
-{
-    text.push_str(",")?;
-    push_context(text, alloc, context)
 }
 
 fn push_context(text: &mut String, alloc: Global, context: &ContextReport) -> Result<(), NoMemory>
@@ -160,21 +150,10 @@ fn push_other_findings(
     ensures { OnOk result (string_bytes text.new ≡ string_bytes text.old ++ flat_map (λ other. codes "," ++ compact_text (value_of lines.now other)) others.now) }
 {
     for other in others {
-        push_other_finding(text, alloc, lines, other)?;
+        text.push_str(",")?;
+        push_finding(text, alloc, lines, other)?;
     }
     Ok(())
-}
-
-fn push_other_finding(
-    text: &mut String,
-    alloc: Global,
-    lines: &[Option<u64>],
-    finding: &ReportedFinding,
-) -> Result<(), NoMemory>
-    ensures { OnOk result (string_bytes text.new ≡ string_bytes text.old ++ (codes "," ++ compact_text (value_of lines.now finding.now))) }
-{
-    text.push_str(",")?;
-    push_finding(text, alloc, lines, finding)
 }
 
 fn push_finding(
@@ -216,21 +195,10 @@ fn push_other_rows(
     ensures { OnOk result (string_bytes text.new ≡ string_bytes text.old ++ flat_map (λ other. codes "," ++ compact_text (spec.row_value context.now other)) others.now) }
 {
     for other in others {
-        push_other_row(text, alloc, context, other)?;
+        text.push_str(",")?;
+        push_row(text, alloc, context, other)?;
     }
     Ok(())
-}
-
-fn push_other_row(
-    text: &mut String,
-    alloc: Global,
-    context: &ContextReport,
-    row: &ReportedRow,
-) -> Result<(), NoMemory>
-    ensures { OnOk result (string_bytes text.new ≡ string_bytes text.old ++ (codes "," ++ compact_text (spec.row_value context.now row.now))) }
-{
-    text.push_str(",")?;
-    push_row(text, alloc, context, row)
 }
 
 fn push_row(
