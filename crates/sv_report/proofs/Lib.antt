@@ -1,1 +1,2 @@
 pub mod JsonLemmas
+pub mod JsonTexts
