@@ -1,0 +1,5 @@
+pub mod Listed
+pub mod Servlets
+pub mod Treatment
+pub mod Explanation
+pub mod Laws
