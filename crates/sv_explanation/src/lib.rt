@@ -2,15 +2,19 @@
 //! (Jakarta Servlet 6.0, sections 3.5, 10.5, 10.9, 12.1, 13.6.3 and 13.8).
 #![tactic(auto)]
 
+mod answer_lines;
 mod explanation;
 mod laws;
 mod listed_constraint;
 mod listing;
+mod reason_lines;
 mod requests;
+mod sentences;
 mod servlets;
 mod site_context;
 mod statuses;
 mod treatments;
+mod words;
 
 pub use explanation::{
     Answer, Explanation, JudgedRequest, LoginAnswers, MatchedServlet, ServedRequest, Treatment,
@@ -21,4 +25,5 @@ pub use laws::{
 };
 pub use listed_constraint::{Entrants, ListedConstraint};
 pub use requests::explain;
+pub use sentences::explanation_text;
 pub use site_context::{Asked, SiteContext};

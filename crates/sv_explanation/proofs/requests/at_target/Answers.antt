@@ -10,4 +10,4 @@ returns c =
     let method = c.args.method.now in
     subst (λ found. GivesAnswer c.at_path.result (at_canon contexts method found)) (sym c.in-Ok.ensures)
     (subst (λ path. GivesAnswer c.at_path.result (in_context method path (option_and_then (slice_get contexts) (context_place contexts path))))
-      c.as_str.ensures c.at_path.ensures)
+    c.as_str.ensures c.at_path.ensures)
