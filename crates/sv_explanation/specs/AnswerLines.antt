@@ -29,7 +29,7 @@ entry_line (Some servlet) = servlet_line (escaped servlet.name) (pattern_text (S
 -- Whether the target is saved.
 abbrev pub saving_line : Bool → List ℕ
 saving_line is_saved =
-    if is_saved then codes "It saves the target for after the login.\n" else codes "It saves no target, since the method is not GET.\n"
+    if is_saved then codes "It saves the target for after the login, if a session is available.\n" else codes "It saves no target, since the method is not GET.\n"
 
 abbrev pub login_page_lines : List ℕ → Bool → List ℕ
 login_page_lines page is_saved = joined (codes "The server answers 200 with the login page " ∷ escaped page ∷ codes ".\n" ∷ saving_line is_saved ∷ [])

@@ -20,13 +20,13 @@ use Rattle.sv_explanation.specs.declared.listed_constraint.ListedConstraint.{Lis
 -- The callers that a constraint admits.
 abbrev pub entrants_text : Entrants → List ℕ
 entrants_text Everyone = codes "everyone may enter"
-entrants_text AnyLogin = codes "every caller who logs in may enter"
-entrants_text (WithRole []) = codes "nobody may enter, since no role is declared"
+entrants_text AnyLogin = codes "callers who log in may enter"
+entrants_text (WithRole []) = codes "nobody may enter (no such role)"
 entrants_text (WithRole (name ∷ names)) = joined (codes "callers with the role " ∷ names_text (name ∷ names) ∷ codes " may enter" ∷ [])
 entrants_text Nobody = codes "nobody may enter"
 
 abbrev pub transport_text : Bool → List ℕ
-transport_text needs_tls = if needs_tls then codes ", over TLS only" else []
+transport_text needs_tls = if needs_tls then codes "; it needs TLS" else []
 
 -- Whether a constraint covers the method, and whom it then admits.
 abbrev pub coverage_text : List ℕ → ListedConstraint → List ℕ

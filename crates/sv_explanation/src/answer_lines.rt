@@ -128,7 +128,7 @@ fn saving_line(is_saved: bool) -> &'static str
     ensures { result.now ≡ spec.saving_line is_saved }
 {
     if is_saved {
-        "It saves the target for after the login.\n"
+        "It saves the target for after the login, if a session is available.\n"
     } else {
         "It saves no target, since the method is not GET.\n"
     }

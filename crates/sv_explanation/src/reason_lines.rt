@@ -109,7 +109,7 @@ fn coverage_text(alloc: Global, method: &str, listed: &ListedConstraint) -> Resu
 fn transport_text(needs_tls: bool) -> &'static str
     ensures { result.now ≡ spec.transport_text needs_tls }
 {
-    if needs_tls { ", over TLS only" } else { "" }
+    if needs_tls { "; it needs TLS" } else { "" }
 }
 
 /// Returns the text of the callers that a constraint admits.
@@ -118,7 +118,7 @@ fn entrants_text(alloc: Global, entrants: &Entrants) -> Result<Text, NoMemory>
 {
     match entrants {
         Entrants::Everyone => Text::copy_of(alloc, "everyone may enter"),
-        Entrants::AnyLogin => Text::copy_of(alloc, "every caller who logs in may enter"),
+        Entrants::AnyLogin => Text::copy_of(alloc, "callers who log in may enter"),
         Entrants::WithRole(roles) => roles_text(alloc, roles.as_slice()),
         Entrants::Nobody => Text::copy_of(alloc, "nobody may enter"),
     }
@@ -128,7 +128,7 @@ fn roles_text(alloc: Global, roles: &[Text]) -> Result<Text, NoMemory>
     ensures { GivesAnswer result (spec.entrants_text (entrants.WithRole roles.now)) }
 {
     if roles.is_empty() {
-        return Text::copy_of(alloc, "nobody may enter, since no role is declared");
+        return Text::copy_of(alloc, "nobody may enter (no such role)");
     }
     let names = names_text(alloc, roles)?;
     let text = ["callers with the role ", names.as_str(), " may enter"].concat(alloc)?;

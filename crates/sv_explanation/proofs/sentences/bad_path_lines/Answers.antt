@@ -6,5 +6,5 @@ pub returns : goal.returns
 returns c =
     c.from_string.ensures ∙ c.in_ok-text.ensures.ok
     ∙ ap (λ (shown : List ℕ). joined (
-      codes "The target " ∷ shown ∷ codes " has no canonical path: " ∷ c.args.name.now ∷ codes ".\nThe server answers 400.\n" ∷ []
+    codes "The target " ∷ shown ∷ codes " has no canonical path: " ∷ c.args.name.now ∷ codes ".\nThe server answers 400.\n" ∷ []
     )) (c.as_str.ensures ∙ c.in_ok-target.ensures)
