@@ -1,17 +1,16 @@
 -- The constraints that are listed as covering.
-use Rattle.std.proofs.Common.{◌≡◌, ℕ, Bool, true, false, not, ◌&&◌, ◌||◌, ◌==◌, List, [], ◌∷◌, length, map, Option, Some, None, refl, sym, ap, ◌∙◌, cond}
+use Rattle.std.proofs.Common.{◌≡◌, ℕ, Bool, true, false, not, ◌&&◌, ◌||◌, ◌==◌, List, [], ◌∷◌, length, map, Option, Some, None, refl, ap, ◌∙◌, cond}
 use Rattle.std.specs.Prelude.{filter, is_none, unwrap_or}
 use Rattle.std.specs.List.{list_any}
 use Rattle.std.proofs.lemmas.List.Elements.{filter_agree}
 use Rattle.sv_audit.proofs.Filters.{filter_map, filter_twice}
-use Rattle.sv_constraints.specs.Covering.{all_patterns, covering, covers, covers_method, lists}
+use Rattle.sv_constraints.specs.Covering.{covering, covers, covers_method, lists}
 use Rattle.sv_constraints.specs.Decision.{why_of}
 use Rattle.sv_constraints.specs.Verdict.{verdict_at, is_open, permits_plain, precludes, admits_caller}
 use Rattle.sv_constraints.specs.declared.constraint.Collection.{Collection}
 use Rattle.sv_constraints.specs.declared.constraint.Constraint.{Constraint}
 use Rattle.sv_constraints.specs.declared.constraint.Rules.{Rules}
 use Rattle.sv_constraints.specs.declared.owned_decision.OwnedDecision.{OwnedDecision}
-use Rattle.sv_mapping.specs.BestMatch.{best_pattern}
 use Rattle.sv_realm.specs.declared.caller.Caller.{Caller}
 use Rattle.sv_explanation.specs.Laws.{covering_listed}
 use Rattle.sv_explanation.specs.Listed.{has_pattern, listed_constraint, listed_on}

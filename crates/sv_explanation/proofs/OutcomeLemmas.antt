@@ -1,5 +1,5 @@
 -- The outcome that a treatment names.
-use Rattle.std.proofs.Common.{◌≡◌, ℕ, Bool, true, false, not, ◌&&◌, List, Option, Some, None, refl, sym, ap, ◌∙◌, cond}
+use Rattle.std.proofs.Common.{◌≡◌, ℕ, Bool, true, false, not, ◌&&◌, List, Option, Some, None, refl, ap, ◌∙◌, cond}
 use Rattle.std.specs.Prelude.{is_some, unwrap_or, option_and_then}
 use Rattle.std.specs.Option.{option_map}
 use Rattle.sv_constraints.specs.Decision.{why_of}
@@ -10,7 +10,6 @@ use Rattle.sv_constraints.specs.declared.owned_decision.OwnedWhy.{OwnedWhy}
 use Rattle.sv_descriptor.specs.declared.login.FormLogin.{FormLogin}
 use Rattle.sv_descriptor.specs.declared.web_app.WebApp.{WebApp}
 use Rattle.sv_login.specs.Outcome.{login_outcome, outcome, verdict_outcome}
-use Rattle.sv_login.specs.declared.outcome.Outcome.{Outcome}
 use Rattle.sv_login.specs.declared.step.LoginOutcome.TheVariants.{NotLogin}
 use Rattle.sv_mapping.specs.Protected.{is_protected}
 use Rattle.sv_explanation.specs.Laws.{findings, is_login_post, outcome_by, outcome_named}
