@@ -6,29 +6,12 @@ use Rattle.serde_json.specs.Written.{has_float, items_have_float}
 use Rattle.sv_policy.specs.Covering.{method_names}
 use Rattle.sv_audit.specs.declared.access.Access.{Access}
 use Rattle.sv_audit.specs.declared.difference.Difference.{Difference}
+use Rattle.sv_report.proofs.JsonLemmas.{in_strings, in_text, in_truth, no_floats}
 use Rattle.sv_report.specs.JsonParts.{roles_in, strings, text_value, truth_value}
 use Rattle.sv_difference.specs.DifferenceJson.{access_value, context_value, difference_value, file_in, login_in, report_value}
 use Rattle.sv_difference.specs.DifferenceText.{has_login}
 use Rattle.sv_difference.specs.declared.contexts.ContextDifference.{ContextDifference}
 use Rattle.sv_difference.specs.declared.contexts.ServerDifference.{ServerDifference}
-
-either : (a b : Bool) → a ≡ false → b ≡ false → (a || b) ≡ false
-either a b p q = ap₂ (λ x y. x || y) p q
-
-no_floats : {A : Type 0} (value : A → Data) → ((x : A) → has_float (value x) ≡ false) → (xs : List A) → items_have_float (items_of (map value xs)) ≡ false
-no_floats value none [] = refl
-no_floats value none (x ∷ xs) = either (has_float (value x)) (items_have_float (items_of (map value xs))) (none x) (no_floats value none xs)
-
-in_strings : (texts : List (List ℕ)) → has_float (strings texts) ≡ false
-in_strings texts = no_floats string (λ text. refl) texts
-
-in_text : (text : Option (List ℕ)) → has_float (text_value text) ≡ false
-in_text None = refl
-in_text (Some text) = refl
-
-in_truth : (holds : Option Bool) → has_float (truth_value holds) ≡ false
-in_truth None = refl
-in_truth (Some holds) = refl
 
 in_access : (can_log_in : Bool) (access : Access) → has_float (access_value can_log_in access) ≡ false
 unfolding access_value

@@ -4,11 +4,12 @@ ghost use Rattle.std.specs.Prelude.{◌≡◌, ◌++◌, IfOk, OnOk, filter, fin
 ghost use Rattle.std.specs.Option.{option_copied, option_map};
 ghost use Rattle.std.specs.Str.{bytes_eq};
 ghost use Rattle.sv_text.specs.Gives.{GivesAnswer};
-ghost use Rattle.sv_audit.specs.Differences.{of_kind};
+ghost use Rattle.sv_audit.specs.Differences.{differences, of_kind};
 ghost use Rattle.sv_audit.specs.declared.difference.DifferenceKind.TheVariants.{Opened};
 ghost use Rattle.sv_difference.specs.ServerDifference as spec;
 
 use crate::contexts::{ComparedContext, ContextDifference, ContextSide, ServerDifference};
+use crate::reached_rows::{only_reached, paths_of};
 use std::alloc::Global;
 use sv_audit::{Difference, DifferenceKind, Side, differences, table_of};
 use sv_text::{Listed, NoMemory, Text};
@@ -91,7 +92,7 @@ fn difference_at(
         path: Text::copy_of(alloc, path)?,
         before: shown_side(alloc, before)?,
         after: shown_side(alloc, after)?,
-        differences: differences_between(alloc, before, after)?,
+        differences: differences_between(alloc, befores, afters, path, before, after)?,
     })
 }
 
@@ -110,13 +111,16 @@ fn shown_side(
     }
 }
 
-/// Returns the differences of two contexts, if both sides have one.
+/// Returns the differences of two contexts that requests may reach, if both sides have such a context.
 fn differences_between(
     alloc: Global,
+    befores: &[ComparedContext],
+    afters: &[ComparedContext],
+    path: &str,
     before: Option<&ComparedContext>,
     after: Option<&ComparedContext>,
 ) -> Result<Listed<Difference>, NoMemory>
-    ensures { GivesAnswer result (spec.differences_between (option_copied before.entry) (option_copied after.entry)) }
+    ensures { GivesAnswer result (spec.differences_between befores.now afters.now path.now (option_copied before.entry) (option_copied after.entry)) }
 {
     let Some(before) = before else {
         return Ok(Listed::from_vec(Vec::new(alloc)));
@@ -124,7 +128,29 @@ fn differences_between(
     let Some(after) = after else {
         return Ok(Listed::from_vec(Vec::new(alloc)));
     };
-    differences(alloc, &side_of(alloc, before)?, &side_of(alloc, after)?)
+    let found = found_between(alloc, before, after)?;
+    let before_paths = paths_of(alloc, befores)?;
+    let after_paths = paths_of(alloc, afters)?;
+    only_reached(
+        alloc,
+        before_paths.as_slice(),
+        after_paths.as_slice(),
+        path,
+        found,
+    )
+}
+
+/// Returns the differences of two contexts.
+fn found_between(
+    alloc: Global,
+    before: &ComparedContext,
+    after: &ComparedContext,
+) -> Result<Listed<Difference>, NoMemory>
+    ensures { GivesAnswer result (differences (spec.side_of before.now) (spec.side_of after.now)) }
+{
+    let before = side_of(alloc, before)?;
+    let after = side_of(alloc, after)?;
+    differences(alloc, &before, &after)
 }
 
 fn side_of(alloc: Global, context: &ComparedContext) -> Result<Side, NoMemory>

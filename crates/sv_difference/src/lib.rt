@@ -5,6 +5,7 @@
 mod comparison;
 mod contexts;
 mod lines;
+mod reached_rows;
 mod values;
 
 pub use comparison::server_difference;
