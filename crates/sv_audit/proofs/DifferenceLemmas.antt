@@ -83,7 +83,7 @@ some_method (Only (name ∷ names)) some = (name, or_left _ _ ((bytes_eq-Decides
 some_method (Except names) some = (file_path [] (long_name names) [], ap not (longer names [] []))
 
 -- ---- Differences by kind.
-kept_in : {X : Type 0} (test : X → Bool) (x : X) (xs : List X) → In x (filter test xs) → In x xs
+pub kept_in : {X : Type 0} (test : X → Bool) (x : X) (xs : List X) → In x (filter test xs) → In x xs
 kept_in test x [] there = absurd there
 kept_in test x (y ∷ ys) there = go (test y) there (λ later. kept_in test x ys later)
   where
@@ -92,7 +92,7 @@ kept_in test x (y ∷ ys) there = go (test y) there (λ later. kept_in test x ys
     go true (inr later) below = inr (below later)
     go false later below = inr (below later)
 
-in_kept : {X : Type 0} (test : X → Bool) (x : X) (xs : List X) → In x xs → test x ≡ true → In x (filter test xs)
+pub in_kept : {X : Type 0} (test : X → Bool) (x : X) (xs : List X) → In x xs → test x ≡ true → In x (filter test xs)
 in_kept test x [] there passes = absurd there
 in_kept test x (y ∷ ys) (inl same) passes = in_along (y ∷ filter test ys) (filter test (y ∷ ys)) x (sym (ap (λ b. cond b (y ∷ filter test ys) (filter test ys)) (ap test (sym same) ∙ passes))) (inl same)
 in_kept test x (y ∷ ys) (inr later) passes = go (test y) (in_kept test x ys later passes)
@@ -139,13 +139,13 @@ module _ (logins : Logins) where
       go false false is was is_in = absurd is_in
 
 -- ---- Kinds of decisions.
-abbrev same_decision : Kind → Kind → Bool
+abbrev pub same_decision : Kind → Kind → Bool
 same_decision Passes Passes = true
 same_decision NeedsLogin NeedsLogin = true
 same_decision IsDenied IsDenied = true
 same_decision one other = false
 
-decisions_same : (one other : Kind) → same_decision one other ≡ true → one ≡ other
+pub decisions_same : (one other : Kind) → same_decision one other ≡ true → one ≡ other
 decisions_same Passes Passes same = refl
 decisions_same NeedsLogin NeedsLogin same = refl
 decisions_same IsDenied IsDenied same = refl
@@ -161,7 +161,7 @@ decision_itself Passes = refl
 decision_itself NeedsLogin = refl
 decision_itself IsDenied = refl
 
-decisions_apart : (one other : Kind) → same_decision one other ≡ false → one ≢ other
+pub decisions_apart : (one other : Kind) → same_decision one other ≡ false → one ≢ other
 decisions_apart one other differ same = false≢true (sym differ ∙ (ap (same_decision one) (sym same) ∙ decision_itself one))
 
 -- The fate by what an access says is that by the effective access.

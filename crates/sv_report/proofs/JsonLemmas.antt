@@ -20,22 +20,22 @@ use Rattle.sv_audit.specs.declared.rows.Group.{Group}
 either : (a b : Bool) → a ≡ false → b ≡ false → (a || b) ≡ false
 either a b p q = ap₂ (λ x y. x || y) p q
 
-no_floats : {A : Type 0} (value : A → Data) → ((x : A) → has_float (value x) ≡ false) → (xs : List A) → items_have_float (items_of (map value xs)) ≡ false
+pub no_floats : {A : Type 0} (value : A → Data) → ((x : A) → has_float (value x) ≡ false) → (xs : List A) → items_have_float (items_of (map value xs)) ≡ false
 no_floats value none [] = refl
 no_floats value none (x ∷ xs) = either (has_float (value x)) (items_have_float (items_of (map value xs))) (none x) (no_floats value none xs)
 
-in_strings : (texts : List (List ℕ)) → has_float (strings texts) ≡ false
+pub in_strings : (texts : List (List ℕ)) → has_float (strings texts) ≡ false
 in_strings texts = no_floats string (λ text. refl) texts
 
 in_number : (n : Option ℕ) → has_float (number_value n) ≡ false
 in_number None = refl
 in_number (Some n) = refl
 
-in_text : (text : Option (List ℕ)) → has_float (text_value text) ≡ false
+pub in_text : (text : Option (List ℕ)) → has_float (text_value text) ≡ false
 in_text None = refl
 in_text (Some text) = refl
 
-in_truth : (holds : Option Bool) → has_float (truth_value holds) ≡ false
+pub in_truth : (holds : Option Bool) → has_float (truth_value holds) ≡ false
 in_truth None = refl
 in_truth (Some holds) = refl
 

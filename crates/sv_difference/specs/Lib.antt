@@ -1,0 +1,3 @@
+pub mod ServerDifference
+pub mod DifferenceText
+pub mod DifferenceJson
