@@ -6,6 +6,7 @@ pub mod escaped;
 mod finding_lines;
 mod finding_values;
 mod finding_words;
+mod folded_lines;
 mod json_text;
 mod json_words;
 mod keys;
@@ -20,6 +21,9 @@ mod words;
 
 pub use details::detail_text;
 pub use finding_words::{heading, kind_name, problem_text, remedy};
+pub use folded_lines::{
+    LATER_WIDTH, LINE_WIDTH, folded, lines_of, parts_fit, parts_keep_characters,
+};
 pub use json_text::audit_json;
 pub use json_words::{are_excepted, enters, names_in, roles_in};
 pub use keys::keys_text;
