@@ -1,0 +1,5 @@
+use Rattle.sv_explanation.proofs.OutcomeLemmas.{login_posts}
+use Rattle.sv_explanation.proofs.laws.login_posts_are_explained.Goals as goal
+
+pub returns : goal.returns
+returns c context method path content_type body = login_posts context method path

@@ -1,0 +1,85 @@
+-- Laws of explanations (Jakarta Servlet 6.0, sections 10.5, 12.1, 13.6.3 and 13.8).
+use Rattle.std.specs.Prelude.{◌≡◌, ◌==◌, ℕ, Bool, true, false, not, ◌&&◌, List, [], filter, map, Option, None, Some, is_some, unwrap_or}
+use Rattle.std.specs.List.{list_any}
+use Rattle.std.specs.Option.{option_map}
+use Rattle.sv_constraints.specs.Covering.{all_patterns, covering}
+use Rattle.sv_constraints.specs.Decision.{why_of}
+use Rattle.sv_constraints.specs.Verdict.{verdict}
+use Rattle.sv_constraints.specs.declared.owned_decision.OwnedWhy.{OwnedWhy}
+use Rattle.sv_login.specs.Outcome.{Findings, outcome}
+use Rattle.sv_login.specs.Post.{is_login, post_of}
+use Rattle.sv_login.specs.declared.outcome.Outcome.{Outcome}
+use Rattle.sv_login.specs.declared.outcome.Outcome.TheVariants as outcomes
+use Rattle.sv_login.specs.declared.step.LoginOutcome.TheVariants.{NotLogin}
+use Rattle.sv_mapping.specs.BestMatch.{best_pattern}
+use Rattle.sv_mapping.specs.Protected.{is_protected}
+use Rattle.sv_explanation.specs.Listed.{listed_constraint}
+use Rattle.sv_explanation.specs.Treatment.{judged, treatment}
+use Rattle.sv_explanation.specs.declared.explanation.Answer.{Answer}
+use Rattle.sv_explanation.specs.declared.explanation.Answer.TheVariants as answers
+use Rattle.sv_explanation.specs.declared.explanation.Treatment.{Treatment}
+use Rattle.sv_explanation.specs.declared.explanation.Treatment.TheVariants.{Hidden, LoginPost, Judged}
+use Rattle.sv_explanation.specs.declared.listed_constraint.ListedConstraint.{ListedConstraint}
+use Rattle.sv_explanation.specs.declared.site_context.SiteContext.{SiteContext}
+
+-- The outcome that an answer names, for this reason.
+abbrev pub outcome_by : OwnedWhy → Answer → Outcome
+outcome_by why (answers.Enters servlet) = outcomes.Entered
+outcome_by why (answers.LoginPage page is_saved) = outcomes.SentToLogin why
+outcome_by why (answers.NoLogin page) = outcomes.NoLogin why
+outcome_by why (answers.Denied page) = outcomes.Denied why
+
+-- The outcome that a treatment names; none for a login post, whose outcome depends on its body and the sessions.
+abbrev pub outcome_named : Treatment → Option Outcome
+outcome_named (Hidden page) = Some outcomes.Protected
+outcome_named (LoginPost its_answers) = None
+outcome_named (Judged request) = Some (outcome_by (why_of request.decision) request.answer)
+
+abbrev pub is_login_post : Treatment → Bool
+is_login_post (Hidden page) = false
+is_login_post (LoginPost its_answers) = true
+is_login_post (Judged request) = false
+
+-- The findings about a message that is no login post.
+abbrev pub findings : SiteContext → List ℕ → List ℕ → Findings
+findings context method path = record {
+  is_protected = is_protected path;
+  login = option_map (λ pages. NotLogin) context.descriptor.login;
+  verdict = verdict context.constraints context.descriptor.rules method path context.caller;
+}
+
+-- Whether a message is a login post, whatever its body, and its context has form login.
+abbrev pub takes_login : SiteContext → List ℕ → List ℕ → Option (List ℕ) → List ℕ → Bool
+takes_login context method path content_type body = is_some context.descriptor.login && is_login (post_of method path content_type body)
+
+-- The treatment of each message that is no login post names the server's outcome.
+abbrev pub OutcomesAreTheServers : Type 0
+OutcomesAreTheServers = (context : SiteContext) (method path : List ℕ) (content_type : Option (List ℕ)) (body : List ℕ)
+    → takes_login context method path content_type body ≡ false
+    → outcome_named (treatment context method path) ≡ Some (outcome (findings context method path))
+
+-- A message is explained as a login post exactly if it is one, its context has form login, and its path is not hidden.
+abbrev pub LoginPostsAreExplained : Type 0
+LoginPostsAreExplained = (context : SiteContext) (method path : List ℕ) (content_type : Option (List ℕ)) (body : List ℕ)
+    → is_login_post (treatment context method path) ≡ (not (is_protected path) && takes_login context method path content_type body)
+
+-- The pattern of the decision is the best pattern of the path.
+abbrev pub PatternsAreBest : Type 0
+PatternsAreBest = (context : SiteContext) (method path : List ℕ)
+    → (why_of (judged context method path).decision).pattern ≡ best_pattern (all_patterns context.constraints) path
+
+-- The constraints that are listed as covering.
+abbrev pub covering_listed : List ListedConstraint → List ListedConstraint
+covering_listed listed = filter (λ constraint. constraint.is_covering) listed
+
+-- They are the constraints that cover the method at the best pattern, in order.
+abbrev pub CoveringIsExact : Type 0
+CoveringIsExact = (context : SiteContext) (method path : List ℕ) → let pattern = best_pattern (all_patterns context.constraints) path in
+    covering_listed (judged context method path).constraints
+    ≡ map (listed_constraint context (unwrap_or pattern []) method) (covering context.constraints pattern method)
+
+-- If a constraint decides, it is listed as covering.
+abbrev pub DecidingIsListed : Type 0
+DecidingIsListed = (context : SiteContext) (method path : List ℕ) (number : ℕ)
+    → (why_of (judged context method path).decision).number ≡ Some number
+    → list_any (λ listed. listed.number == number) (covering_listed (judged context method path).constraints) ≡ true

@@ -1,0 +1,101 @@
+//! What the server does with a request, and why.
+
+use crate::listed_constraint::ListedConstraint;
+use sv_constraints::OwnedDecision;
+use sv_text::{Listed, Text};
+use sv_uri::fault::PathFault;
+use sv_wire::WireFault;
+
+/// What the server does with a request.
+#[derive(Drop)]
+pub enum Explanation {
+    /// The request is refused before any context sees it, with the status of the fault: `BadHead` if a request line
+    /// cannot hold the target, `BadTarget` if its form is not served (RFC 9112, sections 3 and 3.2).
+    Unread(WireFault),
+    /// The target is `*` of OPTIONS: the server itself answers, with status 200 and no body.
+    OfServer,
+    /// The target has no canonical path. The status is 400.
+    BadPath(PathFault),
+    /// No context serves this canonical path. The status is 404.
+    NoContext(Text),
+    /// A context serves the path.
+    InContext(ServedRequest),
+}
+
+/// What a context does with a request.
+#[derive(Drop)]
+pub struct ServedRequest {
+    /// The canonical path of the target.
+    pub canonical: Text,
+    /// The context path, empty for the root context.
+    pub context: Text,
+    /// The name of the file of the context's descriptor.
+    pub file: Text,
+    /// The path within the context.
+    pub path: Text,
+    /// What becomes of the request.
+    pub treatment: Treatment,
+}
+
+/// What becomes of a request in its context. The tests are made in the order of the variants.
+#[derive(Drop)]
+pub enum Treatment {
+    /// The path is in a folder that is served to no client (Jakarta Servlet 6.0, section 10.5). The status is 404, with
+    /// this error page.
+    Hidden(Option<Text>),
+    /// The request is a login post (section 13.6.3).
+    LoginPost(LoginAnswers),
+    /// The constraints decide (section 13.8).
+    Judged(JudgedRequest),
+}
+
+/// The answers to a login post. Which of them is given depends on its body and the sessions.
+#[derive(Drop)]
+pub struct LoginAnswers {
+    /// The location of the 303 if the name and the password fit, and no target was saved in the session.
+    pub root: Text,
+    /// The login error page, with status 200, if they do not fit.
+    pub failure_page: Text,
+    /// The page of the error 503, if they fit and no session is available.
+    pub unavailable_page: Option<Text>,
+}
+
+/// A request that the constraints decide.
+#[derive(Drop)]
+pub struct JudgedRequest {
+    /// The name of the caller, if there is one.
+    pub caller: Option<Text>,
+    /// The constraints on the best pattern of the path, in order.
+    pub constraints: Listed<ListedConstraint>,
+    /// The decision, with the best pattern and the number of the constraint that decides.
+    pub decision: OwnedDecision,
+    /// The answer.
+    pub answer: Answer,
+}
+
+/// The answer to a request that the constraints decide.
+#[derive(Drop)]
+pub enum Answer {
+    /// The request enters, and this servlet answers it, or files do.
+    Enters(Option<MatchedServlet>),
+    /// The login page, with status 200.
+    LoginPage {
+        /// The page.
+        page: Text,
+        /// Whether the target is saved for after the login, if a session is available.
+        is_saved: bool,
+    },
+    /// A login is needed, and the context has no login configuration. The status is 403, with this error page.
+    NoLogin(Option<Text>),
+    /// The status is 403, with this error page.
+    Denied(Option<Text>),
+}
+
+/// A servlet that takes a path.
+#[derive(Drop)]
+pub struct MatchedServlet {
+    /// The name of the servlet.
+    pub name: Text,
+    /// Its pattern that is the best match of the path.
+    pub pattern: Text,
+}

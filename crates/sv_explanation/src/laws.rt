@@ -1,0 +1,38 @@
+//! The laws of explanations, each the contract of a function that at most cites laws of lower crates.
+
+ghost use Rattle.std.specs.Prelude.{◌≡◌};
+ghost use Rattle.sv_explanation.specs.Laws.{CoveringIsExact, DecidingIsListed, LoginPostsAreExplained, OutcomesAreTheServers, PatternsAreBest};
+
+use crate::statuses::{FORBIDDEN, NOT_FOUND, SERVICE_UNAVAILABLE};
+
+/// The explanation of each message that is no login post names the outcome that the server's definition gives.
+pub fn outcomes_are_the_servers()
+    ensures { OutcomesAreTheServers }
+{}
+
+/// A message is explained as a login post exactly if it is one, its context has form login, and its path is not hidden.
+pub fn login_posts_are_explained()
+    ensures { LoginPostsAreExplained }
+{}
+
+/// The pattern of an explanation is the best match of the path among the patterns of all constraints.
+pub fn patterns_are_best()
+    ensures { PatternsAreBest }
+{}
+
+/// The constraints that are listed as covering are those that cover the method at the best pattern.
+pub fn covering_is_exact()
+    ensures { CoveringIsExact }
+{}
+
+/// The constraint that decides, if any, is one of those that are listed as covering.
+pub fn deciding_is_listed()
+    ensures { DecidingIsListed }
+{}
+
+/// The values of this crate's constants, which both the definitions and the code use.
+pub fn limits_are_as_stated()
+    ensures forbidden { FORBIDDEN ≡ 403 }
+    ensures not_found { NOT_FOUND ≡ 404 }
+    ensures unavailable { SERVICE_UNAVAILABLE ≡ 503 }
+{}
