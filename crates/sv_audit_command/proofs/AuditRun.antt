@@ -35,7 +35,7 @@ unless (Err e) fact is = by (command_fault e)
     by None = tt
     by (Some f) = is
 
-no_files : FurtherFiles
+abbrev no_files : FurtherFiles
 no_files = record { accept = Err Missing; lines = Err Missing; other = record { server = Err Missing; contexts = [] } }
 
 no_others : (name : Option (List ℕ)) → other_contexts name (Err Missing) ≡ []

@@ -7,3 +7,4 @@ mod Steps
 mod FilesFaults
 mod AuditRun
 mod Collected
+mod OtherServer

@@ -1,15 +1,18 @@
 //! The files that the arguments of the command `audit` name, besides the server file.
 
-ghost use Rattle.std.specs.Prelude.{◌≡◌, [], IfOk, Some, option_copied};
-ghost use Rattle.sv_text.specs.Gives.{Gives};
+ghost use Rattle.std.specs.Prelude.{◌≡◌, ℕ, List, IfOk, Ok, Some, option_copied};
+ghost use Rattle.sv_text.specs.Gives.{Gives, GivesAnswer};
 ghost use Rattle.sv_program.specs.CommandFault.{command_fault};
+ghost use Rattle.sv_program.specs.Configuration.{server_in};
+ghost use Rattle.sv_program.specs.ConfigurationFiles.{contexts_in};
 ghost use Rattle.sv_program.specs.FileStore.{AreRead};
 ghost use Rattle.sv_audit_command.specs.Report as spec;
 
 use crate::access_options::AccessOptions;
 use std::alloc::Global;
+use sv_descriptor::{ContextEntry, LocatedReadFault, read_located_server};
 use sv_program::{
-    CommandFault, ContextTexts, FileStore, FileText, Unavailable, read_contexts, server_in,
+    CommandFault, ContextTexts, FileStore, FileText, Unavailable, read_contexts,
 };
 use sv_text::{Listed, NoMemory, Text};
 
@@ -71,7 +74,10 @@ fn read_other<S: FileStore>(
 {
     match name {
         Some(name) => read_server(alloc, store, name),
-        None => Ok(without_contexts(alloc, Err(Unavailable::Missing))),
+        None => Ok(OtherFiles {
+            server: Err(Unavailable::Missing),
+            contexts: Listed::from_vec(Vec::new(alloc)),
+        }),
     }
 }
 
@@ -83,22 +89,28 @@ fn read_server<S: FileStore>(
     ensures { IfOk result (λ other. spec.ReadsOther S.gives_text (Some name.now) store.old other store.new) }
 {
     let server = store.read_text(alloc, name)?;
-    match server_in(alloc, name, &server) {
-        Ok(read) => Ok(OtherFiles {
-            contexts: read_contexts(alloc, store, name, read.contexts)?,
-            server,
-        }),
-        Err(CommandFault::NoMemory) => Err(NoMemory),
-        Err(_) => Ok(without_contexts(alloc, server)),
+    let entries = entries_in(alloc, &server)?;
+    let contexts = read_contexts(alloc, store, name, entries)?;
+    Ok(OtherFiles { server, contexts })
+}
+
+/// Returns the contexts of a server file. There are none if it has a fault.
+fn entries_in(alloc: Global, file: &FileText) -> Result<Listed<ContextEntry>, NoMemory>
+    ensures { (name : List ℕ) → GivesAnswer result (contexts_in (server_in name file.now)) }
+{
+    match file {
+        Ok(text) => entries_of(alloc, text.as_str()),
+        Err(_) => Ok(Listed::from_vec(Vec::new(alloc))),
     }
 }
 
-fn without_contexts(alloc: Global, server: FileText) -> OtherFiles
-    ensures { result ≡ record { server = server; contexts = [] } }
+fn entries_of(alloc: Global, text: &str) -> Result<Listed<ContextEntry>, NoMemory>
+    ensures { (name : List ℕ) → GivesAnswer result (contexts_in (server_in name (Ok text.now))) }
 {
-    OtherFiles {
-        server,
-        contexts: Listed::from_vec(Vec::new(alloc)),
+    match read_located_server(alloc, text) {
+        Ok(server) => Ok(server.contexts),
+        Err(LocatedReadFault::Fault(_)) => Ok(Listed::from_vec(Vec::new(alloc))),
+        Err(LocatedReadFault::NoMemory) => Err(NoMemory),
     }
 }
 

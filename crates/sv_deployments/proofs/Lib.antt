@@ -2,6 +2,6 @@ pub mod DeployingSteps
 pub mod Ending
 mod Fitting
 mod Steps
-mod Finding
+pub mod Finding
 mod FolderReadings
 mod InTurn

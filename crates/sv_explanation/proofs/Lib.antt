@@ -1,2 +1,3 @@
 pub mod OutcomeLemmas
 pub mod ListingLemmas
+pub mod DecidingLemmas

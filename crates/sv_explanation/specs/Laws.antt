@@ -1,5 +1,6 @@
 -- Laws of explanations (Jakarta Servlet 6.0, sections 10.5, 12.1, 13.6.3 and 13.8).
-use Rattle.std.specs.Prelude.{◌≡◌, ℕ, Bool, true, false, not, ◌&&◌, List, [], filter, map, Option, None, Some, is_some, unwrap_or}
+use Rattle.std.specs.Prelude.{◌≡◌, ◌==◌, ℕ, Bool, true, false, not, ◌&&◌, List, [], filter, map, Option, None, Some, is_some, unwrap_or}
+use Rattle.std.specs.List.{list_any}
 use Rattle.std.specs.Option.{option_map}
 use Rattle.sv_constraints.specs.Covering.{all_patterns, covering}
 use Rattle.sv_constraints.specs.Decision.{why_of}
@@ -76,3 +77,9 @@ abbrev pub CoveringIsExact : Type 0
 CoveringIsExact = (context : SiteContext) (method path : List ℕ) → let pattern = best_pattern (all_patterns context.constraints) path in
     covering_listed (judged context method path).constraints
     ≡ map (listed_constraint context (unwrap_or pattern []) method) (covering context.constraints pattern method)
+
+-- If a constraint decides, it is listed as covering.
+abbrev pub DecidingIsListed : Type 0
+DecidingIsListed = (context : SiteContext) (method path : List ℕ) (number : ℕ)
+    → (why_of (judged context method path).decision).number ≡ Some number
+    → list_any (λ listed. listed.number == number) (covering_listed (judged context method path).constraints) ≡ true

@@ -19,7 +19,9 @@ pub fn answer_lines(alloc: Global, answer: &Answer) -> Result<Text, NoMemory>
 {
     match answer {
         Answer::Enters(servlet) => entry_line(alloc, servlet),
-        Answer::LoginPage(page, is_saved) => login_page_lines(alloc, page.as_str(), *is_saved),
+        Answer::LoginPage { page, is_saved } => {
+            login_page_lines(alloc, page.as_str(), *is_saved)
+        }
         Answer::NoLogin(page) => no_login_lines(alloc, page),
         Answer::Denied(page) => error_line(alloc, FORBIDDEN, page),
     }

@@ -78,8 +78,13 @@ pub struct JudgedRequest {
 pub enum Answer {
     /// The request enters, and this servlet answers it, or files do.
     Enters(Option<MatchedServlet>),
-    /// This login page, with status 200. The target is saved or not, for after the login.
-    LoginPage(Text, bool),
+    /// The login page, with status 200.
+    LoginPage {
+        /// The page.
+        page: Text,
+        /// Whether the target is saved for after the login, if a session is available.
+        is_saved: bool,
+    },
     /// A login is needed, and the context has no login configuration. The status is 403, with this error page.
     NoLogin(Option<Text>),
     /// The status is 403, with this error page.

@@ -1,7 +1,7 @@
 //! The laws of explanations, each the contract of a function that at most cites laws of lower crates.
 
 ghost use Rattle.std.specs.Prelude.{◌≡◌};
-ghost use Rattle.sv_explanation.specs.Laws.{CoveringIsExact, LoginPostsAreExplained, OutcomesAreTheServers, PatternsAreBest};
+ghost use Rattle.sv_explanation.specs.Laws.{CoveringIsExact, DecidingIsListed, LoginPostsAreExplained, OutcomesAreTheServers, PatternsAreBest};
 
 use crate::statuses::{FORBIDDEN, NOT_FOUND, SERVICE_UNAVAILABLE};
 
@@ -23,6 +23,11 @@ pub fn patterns_are_best()
 /// The constraints that are listed as covering are those that cover the method at the best pattern.
 pub fn covering_is_exact()
     ensures { CoveringIsExact }
+{}
+
+/// The constraint that decides, if any, is one of those that are listed as covering.
+pub fn deciding_is_listed()
+    ensures { DecidingIsListed }
 {}
 
 /// The values of this crate's constants, which both the definitions and the code use.

@@ -20,8 +20,8 @@ pub use explanation::{
     Answer, Explanation, JudgedRequest, LoginAnswers, MatchedServlet, ServedRequest, Treatment,
 };
 pub use laws::{
-    covering_is_exact, limits_are_as_stated, login_posts_are_explained, outcomes_are_the_servers,
-    patterns_are_best,
+    covering_is_exact, deciding_is_listed, limits_are_as_stated, login_posts_are_explained,
+    outcomes_are_the_servers, patterns_are_best,
 };
 pub use listed_constraint::{Entrants, ListedConstraint};
 pub use requests::explain;

@@ -25,8 +25,8 @@ use sv_uri::canon;
 use sv_uri::fault::CanonFault;
 use sv_wire::WireFault;
 
-/// Explains what the server does with a request, in whatever context it is served. The target may be in any form. No
-/// other part of the request matters: it is taken to be well-formed, and to come without a session.
+/// Explains what the server does with a request. The target may be in any form. The rest of the request is taken to be
+/// well-formed, and to be made by the caller of its context, if there is one.
 ///
 /// # Errors
 /// [`ExplainFault::BadMethod`] if the method is not a token.

@@ -191,9 +191,9 @@ fn login_answer(alloc: Global, descriptor: &Descriptor, method: &str) -> Result<
 {
     match &descriptor.web_app().login {
         None => Ok(Answer::NoLogin(error_page(alloc, descriptor, FORBIDDEN)?)),
-        Some(pages) => Ok(Answer::LoginPage(
-            Text::copy_of(alloc, pages.login_page.text())?,
-            method == "GET",
-        )),
+        Some(pages) => Ok(Answer::LoginPage {
+            page: Text::copy_of(alloc, pages.login_page.text())?,
+            is_saved: method == "GET",
+        }),
     }
 }
