@@ -1,13 +1,11 @@
 -- The JSON of a report has no floats.
-use Rattle.std.proofs.Common.{◌≡◌, ℕ, Bool, false, ◌||◌, List, [], ◌∷◌, map, refl, ap, ap₂, Option, None, Some}
-use Rattle.serde_json.specs.Data.{Data, string}
-use Rattle.serde_json.specs.View.{items_of}
-use Rattle.serde_json.specs.Written.{has_float, items_have_float}
+use Rattle.std.proofs.Common.{◌≡◌, Bool, false, ◌||◌, ap, ap₂}
+use Rattle.serde_json.specs.Written.{has_float}
 use Rattle.sv_policy.specs.Covering.{method_names}
 use Rattle.sv_audit.specs.declared.access.Access.{Access}
 use Rattle.sv_audit.specs.declared.difference.Difference.{Difference}
 use Rattle.sv_report.proofs.JsonLemmas.{in_strings, in_text, in_truth, no_floats}
-use Rattle.sv_report.specs.JsonParts.{roles_in, strings, text_value, truth_value}
+use Rattle.sv_report.specs.JsonParts.{roles_in}
 use Rattle.sv_difference.specs.DifferenceJson.{access_value, context_value, difference_value, file_in, login_in, report_value}
 use Rattle.sv_difference.specs.DifferenceText.{has_login}
 use Rattle.sv_difference.specs.declared.contexts.ContextDifference.{ContextDifference}

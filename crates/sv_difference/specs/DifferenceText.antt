@@ -8,6 +8,7 @@ use Rattle.sv_audit.specs.declared.difference.Difference.{Difference}
 use Rattle.sv_audit.specs.declared.difference.DifferenceKind.{DifferenceKind}
 use Rattle.sv_audit.specs.declared.difference.DifferenceKind.TheVariants.{Changed, Closed, Opened}
 use Rattle.sv_report.specs.Escaped.{escaped}
+use Rattle.sv_report.specs.Folded.{folded}
 use Rattle.sv_report.specs.Parts.{joined}
 use Rattle.sv_report.specs.Words.{methods_text, pattern_text, who_text}
 use Rattle.sv_difference.specs.declared.contexts.ContextDifference.{ContextDifference}
@@ -72,6 +73,10 @@ context_lines context None after = heading_of context.path (codes " only in the 
 context_lines context (Some before) None = heading_of context.path (codes " only in the first\n")
 context_lines context (Some before) (Some after) = heading_of context.path (files_text before after) ++ or_none (lines_of context)
 
--- The text of a report.
+-- The lines of a report.
+abbrev pub report_lines : ServerDifference → List ℕ
+report_lines report = flat_map (λ context. context_lines context context.before context.after) report.contexts
+
+-- The text of a report, in lines of at most 100 characters.
 abbrev pub difference_text : ServerDifference → List ℕ
-difference_text report = flat_map (λ context. context_lines context context.before context.after) report.contexts
+difference_text report = folded (report_lines report)

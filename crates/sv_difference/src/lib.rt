@@ -4,11 +4,13 @@
 
 mod comparison;
 mod contexts;
+mod laws;
 mod lines;
 mod reached_rows;
 mod values;
 
 pub use comparison::server_difference;
 pub use contexts::{ComparedContext, ContextDifference, ContextSide, ServerDifference};
+pub use laws::{reported_differences_are_right, unchanged_have_same_outcomes};
 pub use lines::difference_text;
 pub use values::difference_json;

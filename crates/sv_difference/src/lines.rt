@@ -10,20 +10,28 @@ use crate::contexts::{ContextDifference, ContextSide, ServerDifference};
 use std::alloc::Global;
 use sv_audit::{Difference, DifferenceKind};
 use sv_report::escaped::escaped;
-use sv_report::{joined, methods_text, pattern_text, push_all, who_text};
+use sv_report::{folded, joined, methods_text, pattern_text, push_all, who_text};
 use sv_text::{NoMemory, Text};
 use sv_uri::{location, shown_context};
 
 /// Returns the text of a report: a heading for each context path, a line if its login configuration came or went, and
-/// one for each difference, or `no difference`. Control characters are escaped.
+/// one for each difference, or `no difference`. Control characters are escaped, and lines of more than 100 characters are
+/// broken.
 ///
 /// # Errors
 /// `NoMemory` if memory runs out.
 pub fn difference_text(alloc: Global, report: &ServerDifference) -> Result<Text, NoMemory>
     ensures { GivesAnswer result (spec.difference_text report.now) }
 {
+    let text = report_lines(alloc, report.contexts.as_slice())?;
+    folded(alloc, text.as_str())
+}
+
+fn report_lines(alloc: Global, contexts: &[ContextDifference]) -> Result<Text, NoMemory>
+    ensures { GivesAnswer result (flat_map (λ context. spec.context_lines context context.before context.after) contexts.now) }
+{
     let mut text = String::new(alloc);
-    for context in report.contexts.as_slice() {
+    for context in contexts {
         push_context(&mut text, alloc, context)?;
     }
     Ok(Text::from_string(text))
