@@ -7,10 +7,14 @@ abbrev pub is_comma : ℕ → Bool
 is_comma b = b == byte ","
 
 abbrev pub is_kind_of_access : List ℕ → Bool
-is_kind_of_access part = bytes_eq part (codes "opened") || bytes_eq part (codes "uncovered") || bytes_eq part (codes "head-differs")
+is_kind_of_access part =
+    bytes_eq part (codes "opened") || bytes_eq part (codes "uncovered") || bytes_eq part (codes "read-otherwise") || bytes_eq part (codes "head-differs")
+    || bytes_eq part (codes "login-needs")
 
 abbrev pub is_kind_of_pattern : List ℕ → Bool
-is_kind_of_pattern part = bytes_eq part (codes "dead") || bytes_eq part (codes "dead-pattern") || bytes_eq part (codes "escaped")
+is_kind_of_pattern part =
+    bytes_eq part (codes "dead") || bytes_eq part (codes "dead-pattern") || bytes_eq part (codes "unreached") || bytes_eq part (codes "unserved")
+    || bytes_eq part (codes "escaped")
 
 abbrev pub is_kind_of_role : List ℕ → Bool
 is_kind_of_role part = bytes_eq part (codes "unknown-role") || bytes_eq part (codes "unheld-role") || bytes_eq part (codes "unused-role")

@@ -34,13 +34,19 @@ fn is_kind_of_access(part: &[u8]) -> bool
 {
     part == "opened".as_bytes()
         || part == "uncovered".as_bytes()
+        || part == "read-otherwise".as_bytes()
         || part == "head-differs".as_bytes()
+        || part == "login-needs".as_bytes()
 }
 
 fn is_kind_of_pattern(part: &[u8]) -> bool
     ensures { result ≡ spec.is_kind_of_pattern part.now }
 {
-    part == "dead".as_bytes() || part == "dead-pattern".as_bytes() || part == "escaped".as_bytes()
+    part == "dead".as_bytes()
+        || part == "dead-pattern".as_bytes()
+        || part == "unreached".as_bytes()
+        || part == "unserved".as_bytes()
+        || part == "escaped".as_bytes()
 }
 
 fn is_kind_of_role(part: &[u8]) -> bool
