@@ -264,7 +264,7 @@ module _ (right : TablesAreRight) (best_same : BestIsOfTexts) (one other : Confi
   are_met =
       of_each (url_patterns befores) (url_patterns afters) IsMet (representatives patterns) [] (λ meeting none. absurd none)
       (λ path there. record {
-        rooted = or_right _ _ (kept_passes is_slashed path (named_paths patterns ++ free_paths (named_paths patterns) (endings patterns) (directories patterns)) there);
+        rooted = or_right _ _ (kept_passes is_slashed path (free_paths (named_paths patterns) (endings patterns) (directories patterns) ++ named_paths patterns) there);
         before = sym (best_url one best_same one_url path);
         after = sym (best_url other best_same other_url path);
       })
