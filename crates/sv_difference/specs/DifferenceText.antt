@@ -3,6 +3,8 @@ use Rattle.std.specs.Prelude.{ℕ, Bool, true, false, List, [], ◌∷◌, ◌++
 use Rattle.std.specs.List.{flat_map}
 use Rattle.sv_uri.specs.ContextPath.{shown_context}
 use Rattle.sv_uri.specs.LocationField.{location}
+use Rattle.sv_constraints.specs.declared.constraint.Methods.{Methods}
+use Rattle.sv_constraints.specs.declared.constraint.Methods.TheVariants.{All, Only, Except}
 use Rattle.sv_audit.specs.Reading.{is_same}
 use Rattle.sv_audit.specs.declared.difference.Difference.{Difference}
 use Rattle.sv_audit.specs.declared.difference.DifferenceKind.{DifferenceKind}
@@ -10,7 +12,7 @@ use Rattle.sv_audit.specs.declared.difference.DifferenceKind.TheVariants.{Change
 use Rattle.sv_report.specs.Escaped.{escaped}
 use Rattle.sv_report.specs.Folded.{folded}
 use Rattle.sv_report.specs.Parts.{joined}
-use Rattle.sv_report.specs.Words.{methods_text, pattern_text, who_text}
+use Rattle.sv_report.specs.Words.{names_text, pattern_text, who_text}
 use Rattle.sv_difference.specs.declared.contexts.ContextDifference.{ContextDifference}
 use Rattle.sv_difference.specs.declared.contexts.ContextSide.{ContextSide}
 use Rattle.sv_difference.specs.declared.contexts.ServerDifference.{ServerDifference}
@@ -35,9 +37,16 @@ place_text difference =
     if is_same difference.before difference.after then pattern_text difference.after
     else joined (pattern_text difference.after ∷ codes " (before " ∷ pattern_text difference.before ∷ codes ")" ∷ [])
 
+-- The methods of a difference, each by its name or by those of the others.
+abbrev pub methods_words : Methods → List ℕ
+methods_words All = codes "all methods"
+methods_words (Only names) = names_text names
+methods_words (Except []) = codes "all methods"
+methods_words (Except (name ∷ names)) = joined (codes "all methods but " ∷ names_text (name ∷ names) ∷ [])
+
 -- The requests of a difference: the methods at the pattern, and a path.
 abbrev pub requests_text : List ℕ → Difference → List ℕ
-requests_text context difference = joined (methods_text difference.methods ∷ codes " at " ∷ place_text difference ∷ codes ", such as " ∷ example_of context difference ∷ [])
+requests_text context difference = joined (methods_words difference.methods ∷ codes " at " ∷ place_text difference ∷ codes ", such as " ∷ example_of context difference ∷ [])
 
 -- Who may make them, before and after.
 abbrev pub callers_text : ContextDifference → Difference → List ℕ

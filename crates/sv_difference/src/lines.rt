@@ -9,8 +9,9 @@ ghost use Rattle.sv_difference.specs.DifferenceText as spec;
 use crate::contexts::{ContextDifference, ContextSide, ServerDifference};
 use std::alloc::Global;
 use sv_audit::{Difference, DifferenceKind};
+use sv_constraints::Methods;
 use sv_report::escaped::escaped;
-use sv_report::{folded, joined, methods_text, pattern_text, push_all, who_text};
+use sv_report::{folded, joined, names_text, pattern_text, push_all, who_text};
 use sv_text::{NoMemory, Text};
 use sv_uri::{location, shown_context};
 
@@ -160,10 +161,31 @@ pub(crate) fn kind_word(kind: DifferenceKind) -> &'static str
     }
 }
 
+/// Returns the methods of a difference, each by its name or by those of the others.
+fn methods_words(alloc: Global, methods: &Methods) -> Result<Text, NoMemory>
+    ensures { GivesAnswer result (spec.methods_words methods.now) }
+{
+    match methods {
+        Methods::All => Text::copy_of(alloc, "all methods"),
+        Methods::Only(names) => names_text(alloc, names.as_slice()),
+        Methods::Except(names) => exceptions_words(alloc, names.as_slice()),
+    }
+}
+
+fn exceptions_words(alloc: Global, names: &[Text]) -> Result<Text, NoMemory>
+    ensures { GivesAnswer result (spec.methods_words (Methods.Except names.now)) }
+{
+    if names.is_empty() {
+        return Text::copy_of(alloc, "all methods");
+    }
+    let names = names_text(alloc, names)?;
+    joined(alloc, &["all methods but ", names.as_str()])
+}
+
 fn requests_text(alloc: Global, context: &str, difference: &Difference) -> Result<Text, NoMemory>
     ensures { GivesAnswer result (spec.requests_text context.now difference.now) }
 {
-    let methods = methods_text(alloc, &difference.methods)?;
+    let methods = methods_words(alloc, &difference.methods)?;
     let place = place_text(alloc, difference)?;
     let example = example_of(alloc, context, difference)?;
     joined(

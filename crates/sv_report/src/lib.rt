@@ -33,4 +33,4 @@ pub use parts::{joined, push_all};
 pub use places::{constraint_text, number_text, place_text};
 pub use report::{ContextReport, ReportedFinding, ReportedRow, Viewer};
 pub use viewers::{entry_text, hidden_text, viewer_title};
-pub use words::{methods_text, pattern_text, who_text};
+pub use words::{methods_text, names_text, pattern_text, who_text};

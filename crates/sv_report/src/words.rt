@@ -49,7 +49,8 @@ fn exceptions_text(names: &[Text]) -> &'static str
     if names.is_empty() { "all" } else { "others" }
 }
 
-fn names_text(alloc: Global, names: &[Text]) -> Result<Text, NoMemory>
+/// Returns names, separated by commas.
+pub fn names_text(alloc: Global, names: &[Text]) -> Result<Text, NoMemory>
     ensures { GivesAnswer result (spec.names_text names.now) }
 {
     let mut text = String::new(alloc);
