@@ -19,7 +19,7 @@ mod values;
 mod viewers;
 mod words;
 
-pub use details::detail_text;
+pub use details::{detail_text, example_location};
 pub use finding_words::{heading, kind_name, problem_text, remedy};
 pub use folded_lines::{
     LATER_WIDTH, LINE_WIDTH, folded, lines_of, parts_fit, parts_keep_characters,
@@ -30,5 +30,5 @@ pub use lines::{METHODS_WIDTH, PATTERN_WIDTH, WHO_WIDTH, audit_text};
 pub use parts::joined;
 pub use places::{constraint_text, number_text, place_text};
 pub use report::{ContextReport, ReportedFinding, ReportedRow, Viewer};
-pub use viewers::{entry_text, hidden_text, viewer_title};
+pub use viewers::{context_text, entry_text, hidden_text, viewer_title};
 pub use words::{methods_text, pattern_text};
