@@ -81,18 +81,10 @@ fn push_start(text: &mut String, alloc: Global, context: &ContextReport) -> Resu
     ensures { OnOk result (string_bytes text.new ≡ string_bytes text.old ++ (codes "{\"context\":" ++ compact_text (string (shown_context context.now.path))
         ++ codes ",\"file\":" ++ compact_text (string context.now.file) ++ codes ",\"findings\":")) }
 {
-    let path = shown_context(context.path.as_str());
-    push_places(text, alloc, path, context.file.as_str())
-}
-
-fn push_places(text: &mut String, alloc: Global, path: &str, file: &str) -> Result<(), NoMemory>
-    ensures { OnOk result (string_bytes text.new ≡ string_bytes text.old ++ (codes "{\"context\":" ++ compact_text (string path.now)
-        ++ codes ",\"file\":" ++ compact_text (string file.now) ++ codes ",\"findings\":")) }
-{
     text.push_str("{\"context\":")?;
-    push_text(text, alloc, path)?;
+    push_text(text, alloc, shown_context(context.path.as_str()))?;
     text.push_str(",\"file\":")?;
-    push_text(text, alloc, file)?;
+    push_text(text, alloc, context.file.as_str())?;
     Ok(text.push_str(",\"findings\":")?)
 }
 
