@@ -8,6 +8,7 @@ pub mod Shapes
 pub mod Callers
 pub mod CellLemmas
 pub mod Made
+pub mod FocusLemmas
 pub mod SecureLemmas
 pub mod ExampleLemmas
 pub mod NarrowerLemmas

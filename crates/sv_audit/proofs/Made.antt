@@ -32,7 +32,7 @@ use Rattle.sv_audit.specs.declared.rows.NamedCell.{NamedCell}
 use Rattle.sv_audit.specs.declared.rows.Row.{Row}
 use Rattle.sv_audit.specs.declared.rows.Table.{Table}
 
-abbrev row_with : List ℕ → List Group → Row
+abbrev pub row_with : List ℕ → List Group → Row
 row_with its_pattern its_groups = record { pattern = Some its_pattern; groups = its_groups }
 
 abbrev pub group_made : Methods → Cell → Group
@@ -132,7 +132,7 @@ pub named_of_all : (pattern : List ℕ) (constraints : List Constraint) → name
 named_of_all pattern [] = refl
 named_of_all pattern (c ∷ constraints) = named_at pattern c (filter (λ x. lists_pattern x pattern) constraints) (named_methods constraints pattern) (lists_pattern c pattern) refl (named_of_all pattern constraints)
 
-map_agree : {A B : Type 0} (f g : A → B) → ((x : A) → f x ≡ g x) → (xs : List A) → map f xs ≡ map g xs
+pub map_agree : {A B : Type 0} (f g : A → B) → ((x : A) → f x ≡ g x) → (xs : List A) → map f xs ≡ map g xs
 map_agree f g same [] = refl
 map_agree f g same (x ∷ xs) = ap₂ (λ y ys. y ∷ ys) (same x) (map_agree f g same xs)
 

@@ -2,6 +2,7 @@ pub mod Shapes
 pub mod Same
 pub mod Access
 pub mod Rows
+pub mod Focus
 pub mod Reading
 pub mod Secure
 pub mod Examples

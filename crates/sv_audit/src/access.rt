@@ -88,5 +88,5 @@ fn same_access(access: &Access, other: &Access) -> bool
 pub(crate) fn same_cell(cell: &Cell, other: &Cell) -> bool
     ensures { result ≡ same_cell cell.now other.now }
 {
-    same_access(&cell.access, &other.access) && same_number(cell.constraint, other.constraint)
+    same_number(cell.constraint, other.constraint) && same_access(&cell.access, &other.access)
 }

@@ -10,6 +10,7 @@ mod cells;
 mod coverage;
 mod difference;
 mod examples;
+mod focus;
 mod forms;
 mod groups;
 mod laws;
@@ -34,6 +35,7 @@ pub use cells::{copied_access, covering_findings};
 pub use coverage::covering;
 pub use difference::{Difference, DifferenceKind, Side};
 pub use examples::example_of;
+pub use focus::focused;
 pub use forms::form_of;
 pub use laws::{
     differences_are_complete, differences_are_right, each_path_is_represented, examples_are_right,

@@ -9,6 +9,7 @@ ghost use Rattle.sv_text.specs.Gives.{GivesAnswer};
 ghost use Rattle.sv_audit.specs.Rows.{in_row_order, match_every_path, other_paths, row_at, table_of};
 
 use crate::access::{Access, Cell};
+use crate::focus::focused;
 use crate::groups::row_at;
 use crate::order::sorted;
 use crate::patterns::{all_patterns, is_among, is_extension_pattern};
@@ -109,9 +110,23 @@ fn row_among(
         GivesAnswer result (row_at constraints rules.now pattern.now) }
 {
     match groups.on(pattern) {
-        Some(members) => row_at(alloc, rules, pattern, members.as_slice()),
+        Some(members) => focused_row(alloc, rules, pattern, members.as_slice()),
         None => row_at(alloc, rules, pattern, &[]),
     }
+}
+
+/// Returns the row of a pattern by copies of the constraints on it, which have no other patterns.
+fn focused_row(
+    alloc: Global,
+    rules: &Rules,
+    pattern: &str,
+    members: &[&Constraint],
+) -> Result<Row, NoMemory>
+    ensures { GivesAnswer result (row_at (map (λ member. member.now) members.now) rules.now pattern.now) }
+{
+    let copies = focused(alloc, pattern, members)?;
+    let borrowed: Vec<&Constraint> = copies.iter().collect(alloc)?;
+    row_at(alloc, rules, pattern, borrowed.as_slice())
 }
 
 /// Appends the row of the paths that no pattern matches, unless each path matches one of the patterns.

@@ -2,9 +2,9 @@
 
 ghost use Rattle.std.specs.Prelude.{◌≡◌, ◌++◌, ◌∷◌, [], IfOk, List, OnOk, filter, if◌then◌else◌, map};
 ghost use Rattle.std.specs.Bool.{then_some};
-ghost use Rattle.std.specs.List.{flat_map};
+ghost use Rattle.std.specs.List.{flat_map, list_any};
 ghost use Rattle.std.specs.Option.{option_copied};
-ghost use Rattle.sv_constraints.specs.Verdict.{least_where};
+ghost use Rattle.sv_constraints.specs.Verdict.{is_open, least_where};
 ghost use Rattle.sv_constraints.specs.declared.constraint.Constraint.{Constraint};
 ghost use Rattle.sv_policy.specs.Covering.{named_methods};
 ghost use Rattle.sv_policy.specs.Groups.{IsGrouped};
@@ -14,7 +14,7 @@ ghost use Rattle.sv_findings.specs.Opened as spec;
 
 use crate::finding::Finding;
 use std::alloc::Global;
-use sv_audit::{Row, covering, covering_findings, sorted};
+use sv_audit::{Row, covering, covering_findings, focused, sorted};
 use sv_constraints::{Auth, Constraint, Methods, Rules, lesser};
 use sv_policy::{Groups, grouped, named_methods};
 use sv_text::{Listed, NoMemory, Text};
@@ -64,9 +64,36 @@ fn push_opened_among(
         OnOk result (findings.new.items ≡ findings.old.items ++ spec.opened_on constraints pattern.now) }
 {
     match groups.on(pattern) {
-        Some(members) => push_opened_on(findings, alloc, rules, pattern, members.as_slice()),
+        Some(members) => push_opened_by(findings, alloc, rules, pattern, members.as_slice()),
         None => push_opened_on(findings, alloc, rules, pattern, &[]),
     }
+}
+
+/// Appends what is opened at a pattern, by copies of the constraints on it, which have no other patterns.
+fn push_opened_by(
+    findings: &mut Vec<Finding>,
+    alloc: Global,
+    rules: &Rules,
+    pattern: &str,
+    members: &[&Constraint],
+) -> Result<(), NoMemory>
+    ensures { OnOk result (findings.new.items ≡ findings.old.items ++ spec.opened_on (map (λ member. member.now) members.now) pattern.now) }
+{
+    if !is_any_open(members) {
+        return Ok(());
+    }
+    let copies = focused(alloc, pattern, members)?;
+    let borrowed: Vec<&Constraint> = copies.iter().collect(alloc)?;
+    push_opened_on(findings, alloc, rules, pattern, borrowed.as_slice())
+}
+
+/// Returns whether one of the constraints has no authorization constraint.
+fn is_any_open(members: &[&Constraint]) -> bool
+    ensures { result ≡ list_any (λ member. is_open member.now) members.now }
+{
+    members
+        .iter()
+        .any(|member| matches!(member.auth, Auth::Absent))
 }
 
 /// Appends a pattern with its opened methods and the least numbers of two such constraints, if there are any.

@@ -7,10 +7,10 @@ use Rattle.sv_audit.proofs.tables.row_among.Goals as goal
 
 pub returns-in-Some : goal.returns-in-Some
 returns-in-Some c = λ constraints are.
-    gives_along c.row_at.result (row_at (map (λ (member : Bor Constraint). member.now) c.as_slice.result.now) c.args.rules.now c.args.pattern.now) (row_at constraints c.args.rules.now c.args.pattern.now)
-    (row_of_all constraints (map (λ (member : Bor Constraint). member.now) c.as_slice.result.now) c.args.rules.now c.args.pattern.now (ap (map (λ (member : Bor Constraint). member.now)) c.as_slice.ensures.value ∙ c.in-Some.ensures constraints are)) c.row_at.ensures
+    gives_along c.focused_row.result (row_at (map (λ (member : Bor Constraint). member.now) c.as_slice.result.now) c.args.rules.now c.args.pattern.now) (row_at constraints c.args.rules.now c.args.pattern.now)
+    (row_of_all constraints (map (λ (member : Bor Constraint). member.now) c.as_slice.result.now) c.args.rules.now c.args.pattern.now (ap (map (λ (member : Bor Constraint). member.now)) c.as_slice.ensures.value ∙ c.in-Some.ensures constraints are)) c.focused_row.ensures
 
 pub returns-in-None : goal.returns-in-None
 returns-in-None c = λ constraints are.
-    gives_along c.row_at-in-None.result (row_at [] c.args.rules.now c.args.pattern.now) (row_at constraints c.args.rules.now c.args.pattern.now)
-    (row_of_all constraints [] c.args.rules.now c.args.pattern.now (sym (c.in-None.ensures constraints are))) c.row_at-in-None.ensures
+    gives_along c.row_at.result (row_at [] c.args.rules.now c.args.pattern.now) (row_at constraints c.args.rules.now c.args.pattern.now)
+    (row_of_all constraints [] c.args.rules.now c.args.pattern.now (sym (c.in-None.ensures constraints are))) c.row_at.ensures

@@ -9,12 +9,12 @@ seen members = map (λ (member : Bor Constraint). member.now) members
 
 pub returns-in-Some : goal.returns-in-Some
 returns-in-Some c = λ constraints are.
-    on_ok_map c.push_opened_on.result
+    on_ok_map c.push_opened_by.result
     (λ pushed. pushed ∙ ap (λ more. c.args.findings.now.items ++ more) (opened_of_all constraints c.args.pattern.now (seen c.as_slice.result.now) (ap seen c.as_slice.ensures.value ∙ c.in-Some.ensures constraints are)))
-    c.push_opened_on.ensures
+    c.push_opened_by.ensures
 
 pub returns-in-None : goal.returns-in-None
 returns-in-None c = λ constraints are.
-    on_ok_map c.push_opened_on-in-None.result
+    on_ok_map c.push_opened_on.result
     (λ pushed. pushed ∙ ap (λ more. c.args.findings.now.items ++ more) (opened_of_all constraints c.args.pattern.now [] (sym (c.in-None.ensures constraints are))))
-    c.push_opened_on-in-None.ensures
+    c.push_opened_on.ensures
