@@ -20,10 +20,10 @@ use Rattle.sv_audit.specs.declared.access.Access.{Access}
 use Rattle.sv_audit.specs.declared.access.Access.TheVariants.{Unconstrained, Uncovered, UncoveredDenied, Precluded, NeedsTls, Everyone, AnyLogin, Roles}
 
 module _ (caller : Option Caller) where
-  abbrev kind : Access → Kind
+  abbrev pub kind : Access → Kind
   kind access = (said_to caller access).0
 
-  opened : (access : Access) → is_open access ≡ true → kind access ≡ Passes
+  pub opened : (access : Access) → is_open access ≡ true → kind access ≡ Passes
   opened Unconstrained is = refl
   opened Uncovered is = refl
   opened UncoveredDenied is = absurd (false≢true is)
@@ -43,7 +43,7 @@ module _ (caller : Option Caller) where
   closed AnyLogin is = absurd (false≢true is)
   closed (Roles names) is = absurd (false≢true is)
 
-within_others : (names others : List (List ℕ)) (text : List ℕ) → list_all (lists others) names ≡ true → lists names text ≡ true → lists others text ≡ true
+pub within_others : (names others : List (List ℕ)) (text : List ℕ) → list_all (lists others) names ≡ true → lists names text ≡ true → lists others text ≡ true
 within_others names others text all there =
     found (lists others text ≡ true) (λ listed. bytes_eq listed text) names there
     (λ k d within same. ap (lists others) (sym ((bytes_eq-Decides (slice_index_or names k d) text).0 same)) ∙ AllPass-from_list_all (lists others) names all k d within)
@@ -87,7 +87,7 @@ logins_alike caller Everyone other same = absurd (false≢true same)
 logins_alike caller AnyLogin other same = any_alike caller other same
 logins_alike caller (Roles names) other same = named_alike caller names other same
 
-alike_at : (caller : Option Caller) (access other : Access) (open_both closed_both : Bool) → (is_open access && is_open other) ≡ open_both → (is_closed access && is_closed other) ≡ closed_both
+pub alike_at : (caller : Option Caller) (access other : Access) (open_both closed_both : Bool) → (is_open access && is_open other) ≡ open_both → (is_closed access && is_closed other) ≡ closed_both
     → (open_both || closed_both || same_logins access other) ≡ true → kind caller access ≡ kind caller other
 alike_at caller access other true closed_both is was same =
     opened caller access (and_left (is_open access) (is_open other) is) ∙ sym (opened caller other (and_right (is_open access) (is_open other) is))

@@ -17,7 +17,7 @@ use Rattle.sv_audit.specs.Reading.{Kind, Passes, NeedsLogin, IsDenied, said_to}
 use Rattle.sv_audit.specs.declared.access.Access.{Access}
 use Rattle.sv_audit.specs.declared.access.Access.TheVariants.{Unconstrained, Uncovered, UncoveredDenied, Precluded, NeedsTls, Everyone, AnyLogin, Roles}
 
-abbrev passes : Kind → Bool
+abbrev pub passes : Kind → Bool
 passes Passes = true
 passes NeedsLogin = false
 passes IsDenied = false
@@ -28,7 +28,7 @@ denies NeedsLogin = false
 denies IsDenied = true
 
 -- The kind of a request without a caller.
-abbrev alone : Access → Kind
+abbrev pub alone : Access → Kind
 alone access = (said_to None access).0
 
 -- A caller who decides differently.
@@ -39,7 +39,7 @@ abbrev with_roles : List (List ℕ) → Option Caller
 with_roles its_roles = Some (record { number = 0; name = []; roles = its_roles })
 
 -- ---- Without a caller.
-opens : (access : Access) → alone access ≡ Passes → is_open access ≡ true
+pub opens : (access : Access) → alone access ≡ Passes → is_open access ≡ true
 opens Unconstrained is = refl
 opens Uncovered is = refl
 opens UncoveredDenied is = absurd (false≢true (ap passes is))
@@ -60,21 +60,21 @@ closes AnyLogin is = absurd (false≢true (ap denies is))
 closes (Roles names) is = absurd (false≢true (ap denies is))
 
 -- ---- With a caller of some roles.
-held : (role : List ℕ) (names : List (List ℕ)) → list_any (lists (role ∷ [])) names ≡ lists names role
+pub held : (role : List ℕ) (names : List (List ℕ)) → list_any (lists (role ∷ [])) names ≡ lists names role
 held role names = any_same (lists (role ∷ [])) (λ listed. bytes_eq listed role) (λ name. or_none (bytes_eq role name) ∙ turned role name) names
 
-none_held : (names : List (List ℕ)) → list_any (lists []) names ≡ false
+pub none_held : (names : List (List ℕ)) → list_any (lists []) names ≡ false
 none_held [] = refl
 none_held (name ∷ names) = none_held names
 
-abbrev by_holding : Bool → Kind
+abbrev pub by_holding : Bool → Kind
 by_holding holds = (cond {A = Kind × Cause} holds (Passes, cause.Role) (IsDenied, cause.NoRole)).0
 
 holding_differs : (first second : Bool) → first ≡ true → second ≡ false → by_holding first ≢ by_holding second
 holding_differs first second holds lacks same = false≢true (sym (ap passes (ap by_holding (sym holds) ∙ same ∙ ap by_holding lacks)))
 
 -- A role that is among the first texts only.
-abbrev IsOutside : List (List ℕ) → List (List ℕ) → Type 0
+abbrev pub IsOutside : List (List ℕ) → List (List ℕ) → Type 0
 IsOutside names others = (role : List ℕ) × (lists names role ≡ true) × (lists others role ≡ false)
 
 outside_at : (others : List (List ℕ)) (name : List ℕ) (names : List (List ℕ)) (there : Bool) → lists others name ≡ there → (there && list_all (lists others) names) ≡ false → (list_all (lists others) names ≡ false → IsOutside names others) → IsOutside (name ∷ names) others
@@ -83,7 +83,7 @@ outside_at others name names true is fails below =
     (rest.0, or_right (bytes_eq name rest.0) (lists names rest.0) rest.1, rest.2)
 outside_at others name names false is fails below = (name, ap (λ b. b || lists names name) ((bytes_eq-Decides name name).1 refl), is)
 
-outside : (names others : List (List ℕ)) → list_all (lists others) names ≡ false → IsOutside names others
+pub outside : (names others : List (List ℕ)) → list_all (lists others) names ≡ false → IsOutside names others
 outside [] others fails = absurd (false≢true (sym fails))
 outside (name ∷ names) others fails = outside_at others name names (lists others name) refl fails (outside names others)
 

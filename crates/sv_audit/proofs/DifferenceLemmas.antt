@@ -1,6 +1,7 @@
 -- Each difference is right, and none is missed.
 use Rattle.std.proofs.lemmas.Bool.{and_from, and_parts, false≢true, ne_eqb, not-true, not_from_false, or_left, or_right}
 use Rattle.std.proofs.lemmas.List.Folds.{list_any-append}
+use Rattle.std.proofs.lemmas.Slice.Eq.{bytes_eq-Decides}
 use Rattle.std.proofs.Math.Bool.{and_comm}
 use Rattle.std.proofs.Common.{◌≡◌, ℕ, Bool, true, false, not, ◌&&◌, ◌||◌, ◌==◌, List, [], ◌∷◌, ◌++◌, length, refl, ap, ap₂, sym, ◌∙◌, arith, cond, inl, inr, Option}
 use Rattle.std.specs.Prelude.{◌≢◌, All, filter}
@@ -8,7 +9,7 @@ use Rattle.std.specs.List.{flat_map, list_any}
 use Rattle.std.specs.Str.{bytes_eq}
 use Rattle.sv_mapping.specs.BestMatch.{best_pattern}
 use Rattle.sv_mapping.specs.Segments.{is_rooted, is_slashed}
-use Rattle.sv_mapping.proofs.Tried.{In}
+use Rattle.sv_mapping.proofs.Tried.{In, In-cases, In-left, In-right}
 use Rattle.sv_realm.specs.declared.caller.Caller.{Caller}
 use Rattle.sv_constraints.specs.Covering.{covers_method, lists}
 use Rattle.sv_constraints.specs.declared.cause.Cause.{Cause}
@@ -20,18 +21,24 @@ use Rattle.sv_policy.specs.Patterns.{BestIsOfTexts}
 use Rattle.sv_policy.specs.Uncovered.{has_methods}
 use Rattle.sv_audit.proofs.Callers.{apart}
 use Rattle.sv_audit.specs.Callers.{has_method, same_callers}
-use Rattle.sv_audit.specs.Reading.{Kind, TablesAreRight, is_same, said_to}
+use Rattle.sv_audit.specs.Reading.{Kind, Passes, NeedsLogin, IsDenied, TablesAreRight, is_same, said_to}
 use Rattle.sv_audit.specs.Rows.{table_of}
 use Rattle.sv_audit.specs.declared.rows.Group.{Group}
 use Rattle.sv_audit.specs.declared.rows.Row.{Row}
 use Rattle.sv_audit.proofs.Alikes.{differ_at}
 use Rattle.sv_audit.proofs.DifferentCells.{all_from, any_found, best_url, found_any, groups_say, in_along, joined_from, only_all, only_some}
 use Rattle.sv_audit.proofs.MeetingLemmas.{of_each, path_met, same_decides, same_itself}
-use Rattle.sv_audit.proofs.Represented.{in_joined, in_listed, represented}
-use Rattle.sv_audit.specs.DifferenceLaws.{Configuration, DifferencesAreComplete, DifferencesAreRight, HasUrlPatterns, IsOf, IsRight, best_of, is_of, said_by}
-use Rattle.sv_audit.specs.Differences.{between, difference_of, differences, differences_at, groups_at, meet, meeting_of, meetings, same_rows, url_patterns}
-use Rattle.sv_audit.specs.Representatives.{free_paths, directories, endings, named_paths, representatives}
+use Rattle.sv_audit.proofs.Represented.{in_joined, in_listed, longer, represented}
+use Rattle.sv_audit.specs.DifferenceLaws.{Configuration, DifferencesAreComplete, DifferencesAreRight, HasUrlPatterns, HaveSameFates, IsOf, IsOfKind, IsRight, LetsIn, LetsNobodyIn, NoneExactlyIfSame, best_of, differences_of, fate_of, is_of, said_by}
+use Rattle.sv_audit.specs.Differences.{between, by_kind, difference_of, differences_at, groups_at, meet, meeting_of, meetings, met_after, met_before, of_kind, same_kind, same_rows, url_patterns}
+use Rattle.sv_audit.specs.Representatives.{free_paths, directories, endings, file_path, long_name, named_paths, representatives}
+use Rattle.sv_audit.proofs.VisitorLemmas.{Letting, effective_is_met, letting_at, letting_in_exact}
+use Rattle.sv_audit.specs.Visitors.{answered, decided_by, effective, known, lets_in}
+use Rattle.sv_audit.specs.declared.access.Access.{Access}
 use Rattle.sv_audit.specs.declared.difference.Difference.{Difference}
+use Rattle.sv_audit.specs.declared.difference.DifferenceKind.{DifferenceKind}
+use Rattle.sv_audit.specs.declared.difference.DifferenceKind.TheVariants.{Changed, Closed, Opened}
+use Rattle.sv_audit.specs.declared.difference.Logins.{Logins}
 use Rattle.sv_audit.specs.declared.meetings.Meeting.{Meeting}
 
 -- ---- Methods.
@@ -68,21 +75,101 @@ has_some methods.All method there = refl
 has_some (Only names) method there = some_names names method there
 has_some (Except names) method there = refl
 
--- ---- The difference of two groups.
-between_from : (meeting : Meeting) (first second : Group) → same_callers first.cell.access second.cell.access ≡ false → has_methods (meet first.methods second.methods) ≡ true → between meeting first second ≡ difference_of meeting first second ∷ []
-between_from meeting first second apart_is some = ap₂ (λ a b. cond (a || not b) [] (difference_of meeting first second ∷ [])) apart_is some
+-- A set that is not empty has a method.
+some_method : (one : Methods) → has_methods one ≡ true → (method : List ℕ) × (covers_method one method ≡ true)
+some_method methods.All some = ([], refl)
+some_method (Only []) some = absurd (false≢true some)
+some_method (Only (name ∷ names)) some = (name, or_left _ _ ((bytes_eq-Decides name name).1 refl))
+some_method (Except names) some = (file_path [] (long_name names) [], ap not (longer names [] []))
 
--- What a member of these differences shows.
-between_shows : (meeting : Meeting) (first second : Group) (difference : Difference) → In difference (between meeting first second)
-    → (difference ≡ difference_of meeting first second) × (same_callers first.cell.access second.cell.access ≡ false) × (has_methods (meet first.methods second.methods) ≡ true)
-between_shows meeting first second difference there = go (same_callers first.cell.access second.cell.access) (has_methods (meet first.methods second.methods)) refl refl there
+-- ---- Differences by kind.
+pub kept_in : {X : Type 0} (test : X → Bool) (x : X) (xs : List X) → In x (filter test xs) → In x xs
+kept_in test x [] there = absurd there
+kept_in test x (y ∷ ys) there = go (test y) there (λ later. kept_in test x ys later)
   where
-    go : (same some : Bool) → same_callers first.cell.access second.cell.access ≡ same → has_methods (meet first.methods second.methods) ≡ some → In difference (cond (same || not some) [] (difference_of meeting first second ∷ []))
-        → (difference ≡ difference_of meeting first second) × (same_callers first.cell.access second.cell.access ≡ false) × (has_methods (meet first.methods second.methods) ≡ true)
-    go true some is was is_in = absurd is_in
-    go false true is was (inl same) = (same, is, was)
-    go false true is was (inr none) = absurd none
-    go false false is was is_in = absurd is_in
+    go : (b : Bool) → In x (cond b (y ∷ filter test ys) (filter test ys)) → (In x (filter test ys) → In x ys) → In x (y ∷ ys)
+    go true (inl same) below = inl same
+    go true (inr later) below = inr (below later)
+    go false later below = inr (below later)
+
+pub in_kept : {X : Type 0} (test : X → Bool) (x : X) (xs : List X) → In x xs → test x ≡ true → In x (filter test xs)
+in_kept test x [] there passes = absurd there
+in_kept test x (y ∷ ys) (inl same) passes = in_along (y ∷ filter test ys) (filter test (y ∷ ys)) x (sym (ap (λ b. cond b (y ∷ filter test ys) (filter test ys)) (ap test (sym same) ∙ passes))) (inl same)
+in_kept test x (y ∷ ys) (inr later) passes = go (test y) (in_kept test x ys later passes)
+  where
+    go : (b : Bool) → In x (filter test ys) → In x (cond b (y ∷ filter test ys) (filter test ys))
+    go true below = inr below
+    go false below = below
+
+of_some_kind : (difference : Difference) (found : List Difference) → In difference (by_kind found) → In difference found
+of_some_kind difference found there =
+    elim (In-cases difference (of_kind Opened found ++ of_kind Closed found) (of_kind Changed found) there) [
+      | inl front ↦ elim (In-cases difference (of_kind Opened found) (of_kind Closed found) front) [
+        | inl here ↦ kept_in (λ d. same_kind Opened d.kind) difference found here
+        | inr here ↦ kept_in (λ d. same_kind Closed d.kind) difference found here
+      ]
+      | inr last ↦ kept_in (λ d. same_kind Changed d.kind) difference found last
+    ]
+
+in_kind : (kind : DifferenceKind) (difference : Difference) (found : List Difference) → difference.kind ≡ kind → In difference found → In difference (by_kind found)
+in_kind Opened difference found is there =
+    In-left difference (of_kind Opened found ++ of_kind Closed found) (of_kind Changed found)
+    (In-left difference (of_kind Opened found) (of_kind Closed found) (in_kept (λ d. same_kind Opened d.kind) difference found there (ap (same_kind Opened) is)))
+in_kind Closed difference found is there =
+    In-left difference (of_kind Opened found ++ of_kind Closed found) (of_kind Changed found)
+    (In-right difference (of_kind Opened found) (of_kind Closed found) (in_kept (λ d. same_kind Closed d.kind) difference found there (ap (same_kind Closed) is)))
+in_kind Changed difference found is there =
+    In-right difference (of_kind Opened found ++ of_kind Closed found) (of_kind Changed found) (in_kept (λ d. same_kind Changed d.kind) difference found there (ap (same_kind Changed) is))
+
+-- ---- The difference of two groups.
+module _ (logins : Logins) where
+  between_from : (meeting : Meeting) (first second : Group) → same_callers (met_before logins first) (met_after logins second) ≡ false → has_methods (meet first.methods second.methods) ≡ true → between logins meeting first second ≡ difference_of logins meeting first second ∷ []
+  between_from meeting first second apart_is some = ap₂ (λ a b. cond (a || not b) [] (difference_of logins meeting first second ∷ [])) apart_is some
+
+  -- What a member of these differences shows.
+  between_shows : (meeting : Meeting) (first second : Group) (difference : Difference) → In difference (between logins meeting first second)
+      → (difference ≡ difference_of logins meeting first second) × (same_callers (met_before logins first) (met_after logins second) ≡ false) × (has_methods (meet first.methods second.methods) ≡ true)
+  between_shows meeting first second difference there = go (same_callers (met_before logins first) (met_after logins second)) (has_methods (meet first.methods second.methods)) refl refl there
+    where
+      go : (same some : Bool) → same_callers (met_before logins first) (met_after logins second) ≡ same → has_methods (meet first.methods second.methods) ≡ some → In difference (cond (same || not some) [] (difference_of logins meeting first second ∷ []))
+          → (difference ≡ difference_of logins meeting first second) × (same_callers (met_before logins first) (met_after logins second) ≡ false) × (has_methods (meet first.methods second.methods) ≡ true)
+      go true some is was is_in = absurd is_in
+      go false true is was (inl same) = (same, is, was)
+      go false true is was (inr none) = absurd none
+      go false false is was is_in = absurd is_in
+
+-- ---- Kinds of decisions.
+abbrev pub same_decision : Kind → Kind → Bool
+same_decision Passes Passes = true
+same_decision NeedsLogin NeedsLogin = true
+same_decision IsDenied IsDenied = true
+same_decision one other = false
+
+pub decisions_same : (one other : Kind) → same_decision one other ≡ true → one ≡ other
+decisions_same Passes Passes same = refl
+decisions_same NeedsLogin NeedsLogin same = refl
+decisions_same IsDenied IsDenied same = refl
+decisions_same Passes NeedsLogin same = absurd (false≢true same)
+decisions_same Passes IsDenied same = absurd (false≢true same)
+decisions_same NeedsLogin Passes same = absurd (false≢true same)
+decisions_same NeedsLogin IsDenied same = absurd (false≢true same)
+decisions_same IsDenied Passes same = absurd (false≢true same)
+decisions_same IsDenied NeedsLogin same = absurd (false≢true same)
+
+decision_itself : (one : Kind) → same_decision one one ≡ true
+decision_itself Passes = refl
+decision_itself NeedsLogin = refl
+decision_itself IsDenied = refl
+
+pub decisions_apart : (one other : Kind) → same_decision one other ≡ false → one ≢ other
+decisions_apart one other differ same = false≢true (sym differ ∙ (ap (same_decision one) (sym same) ∙ decision_itself one))
+
+-- The fate by what an access says is that by the effective access.
+abbrev met_fate : Bool → Access → Option Caller → Kind
+met_fate has_login access visitor = decided_by (effective has_login access) visitor
+
+fate_by : (it : Configuration) (method path : List ℕ) (visitor : Option Caller) (access : Access) → said_by it method path (known it.has_login visitor) ≡ said_to (known it.has_login visitor) access → fate_of it method path visitor ≡ met_fate it.has_login access visitor
+fate_by it method path visitor access is = ap (λ (said : Kind × Cause). answered it.has_login said.0) is ∙ effective_is_met it.has_login access visitor
 
 module _ (right : TablesAreRight) (best_same : BestIsOfTexts) (one other : Configuration) (one_url : HasUrlPatterns one) (other_url : HasUrlPatterns other) where
   abbrev befores : List Row
@@ -119,26 +206,36 @@ module _ (right : TablesAreRight) (best_same : BestIsOfTexts) (one other : Confi
         },
       )
 
-  module _ (method path : List ℕ) (caller : Option Caller) (rooted : is_rooted path ≡ true) (apart_is : (said_by one method path caller).0 ≢ (said_by other method path caller).0) where
-    in_differences : (meeting : Meeting) → Meets path meeting → (first second : Group) → In first (groups_at befores meeting.before) → In second (groups_at afters meeting.after)
-        → same_callers first.cell.access second.cell.access ≡ false → has_methods (meet first.methods second.methods) ≡ true
-        → In (difference_of meeting first second) (differences (table_of one.constraints one.rules) (table_of other.constraints other.rules))
-    in_differences meeting meets first second is_first is_second differ some =
-        in_joined (differences_at befores afters) meeting (difference_of meeting first second) (meetings (url_patterns befores) (url_patterns afters)) meets.is_one
-        (in_joined (λ group. flat_map (between meeting group) (groups_at afters meeting.after)) first (difference_of meeting first second) (groups_at befores meeting.before) is_first
-        (in_joined (between meeting first) second (difference_of meeting first second) (groups_at afters meeting.after) is_second
-        (in_along (difference_of meeting first second ∷ []) (between meeting first second) (difference_of meeting first second) (sym (between_from meeting first second differ some)) (inl refl))))
+  abbrev logins : Logins
+  logins = record { before = one.has_login; after = other.has_login }
 
-    complete : list_any (is_of one other method path) (differences (table_of one.constraints one.rules) (table_of other.constraints other.rules)) ≡ true
+  abbrev all_found : List Difference
+  all_found = flat_map (differences_at logins befores afters) (meetings (url_patterns befores) (url_patterns afters))
+
+  module _ (method path : List ℕ) (visitor : Option Caller) (rooted : is_rooted path ≡ true) (apart_is : fate_of one method path visitor ≢ fate_of other method path visitor) where
+    in_differences : (meeting : Meeting) → Meets path meeting → (first second : Group) → In first (groups_at befores meeting.before) → In second (groups_at afters meeting.after)
+        → same_callers (met_before logins first) (met_after logins second) ≡ false → has_methods (meet first.methods second.methods) ≡ true
+        → In (difference_of logins meeting first second) (differences_of one other)
+    in_differences meeting meets first second is_first is_second differ some =
+        in_kind (difference_of logins meeting first second).kind (difference_of logins meeting first second) all_found refl
+        (in_joined (differences_at logins befores afters) meeting (difference_of logins meeting first second) (meetings (url_patterns befores) (url_patterns afters)) meets.is_one
+        (in_joined (λ group. flat_map (between logins meeting group) (groups_at afters meeting.after)) first (difference_of logins meeting first second) (groups_at befores meeting.before) is_first
+        (in_joined (between logins meeting first) second (difference_of logins meeting first second) (groups_at afters meeting.after) is_second
+        (in_along (difference_of logins meeting first second ∷ []) (between logins meeting first second) (difference_of logins meeting first second) (sym (between_from logins meeting first second differ some)) (inl refl)))))
+
+    abbrev caller_of : Configuration → Option Caller
+    caller_of it = known it.has_login visitor
+
+    complete : list_any (is_of one other method path) (differences_of one other) ≡ true
     complete =
         let meets = meeting_for path rooted in
-        let first = only_some (λ (group : Group). said_to caller group.cell.access) (has_method method) (said_by one method path caller) (groups_at befores (best_of one path)) (groups_say one right best_same method path caller rooted) in
-        let second = only_some (λ (group : Group). said_to caller group.cell.access) (has_method method) (said_by other method path caller) (groups_at afters (best_of other path)) (groups_say other right best_same method path caller rooted) in
+        let first = only_some (λ (group : Group). said_to (caller_of one) group.cell.access) (has_method method) (said_by one method path (caller_of one)) (groups_at befores (best_of one path)) (groups_say one right best_same method path (caller_of one) rooted) in
+        let second = only_some (λ (group : Group). said_to (caller_of other) group.cell.access) (has_method method) (said_by other method path (caller_of other)) (groups_at afters (best_of other path)) (groups_say other right best_same method path (caller_of other) rooted) in
         let covered : covers_method (meet first.0.methods second.0.methods) method ≡ true = meet_covers first.0.methods second.0.methods method ∙ and_from (has_method method first.0) (has_method method second.0) first.2 second.2 in
-        let differ : same_callers first.0.cell.access second.0.cell.access ≡ false =
-        not-true _ (differ_at caller first.0.cell.access second.0.cell.access (same_callers first.0.cell.access second.0.cell.access) refl
-        (λ same. apart_is (ap (λ (said : Kind × Cause). said.0) (sym first.3) ∙ (same ∙ ap (λ (said : Kind × Cause). said.0) second.3)))) in
-        any_found (is_of one other method path) (difference_of meets.0 first.0 second.0) (differences (table_of one.constraints one.rules) (table_of other.constraints other.rules))
+        let differ : same_callers (met_before logins first.0) (met_after logins second.0) ≡ false =
+        not-true _ (differ_at visitor (met_before logins first.0) (met_after logins second.0) (same_callers (met_before logins first.0) (met_after logins second.0)) refl
+        (λ same. apart_is (fate_by one method path visitor first.0.cell.access (sym first.3) ∙ (same ∙ sym (fate_by other method path visitor second.0.cell.access (sym second.3)))))) in
+        any_found (is_of one other method path) (difference_of logins meets.0 first.0 second.0) (differences_of one other)
         (in_differences meets.0 meets.1 first.0 second.0
         (in_along (groups_at befores (best_of one path)) (groups_at befores meets.0.before) first.0 (ap (groups_at befores) (sym meets.1.before)) first.1)
         (in_along (groups_at afters (best_of other path)) (groups_at afters meets.0.after) second.0 (ap (groups_at afters) (sym meets.1.after)) second.1)
@@ -167,15 +264,15 @@ module _ (right : TablesAreRight) (best_same : BestIsOfTexts) (one other : Confi
   are_met =
       of_each (url_patterns befores) (url_patterns afters) IsMet (representatives patterns) [] (λ meeting none. absurd none)
       (λ path there. record {
-        rooted = or_right _ _ (kept_passes is_slashed path (named_paths patterns ++ free_paths (named_paths patterns) (endings patterns) (directories patterns)) there);
+        rooted = or_right _ _ (kept_passes is_slashed path (free_paths (named_paths patterns) (endings patterns) (directories patterns) ++ named_paths patterns) there);
         before = sym (best_url one best_same one_url path);
         after = sym (best_url other best_same other_url path);
       })
 
   module _ (meeting : Meeting) (is_met : IsMet meeting) (first second : Group) (is_first : In first (groups_at befores meeting.before)) (is_second : In second (groups_at afters meeting.after))
-      (differ : same_callers first.cell.access second.cell.access ≡ false) (some : has_methods (meet first.methods second.methods) ≡ true) where
+      (differ : same_callers (met_before logins first) (met_after logins second) ≡ false) (some : has_methods (meet first.methods second.methods) ≡ true) where
     abbrev it : Difference
-    it = difference_of meeting first second
+    it = difference_of logins meeting first second
 
     both_cover : (method path : List ℕ) → IsOf one other it method path → (has_method method first ≡ true) × (has_method method second ≡ true)
     both_cover method path of = and_parts (has_method method first) (has_method method second) (sym (meet_covers first.methods second.methods method) ∙ of.covered)
@@ -190,9 +287,40 @@ module _ (right : TablesAreRight) (best_same : BestIsOfTexts) (one other : Confi
         sym (only_all (λ (group : Group). said_to caller group.cell.access) (has_method method) (said_by other method path caller) (groups_at afters (best_of other path)) (groups_say other right best_same method path caller of.rooted)
         second (in_along (groups_at afters meeting.after) (groups_at afters (best_of other path)) second (ap (groups_at afters) (sym of.after)) is_second) (both_cover method path of).1)
 
+    fate_before : (method path : List ℕ) (visitor : Option Caller) → IsOf one other it method path → fate_of one method path visitor ≡ decided_by (met_before logins first) visitor
+    fate_before method path visitor of = fate_by one method path visitor first.cell.access (was_said method path (known one.has_login visitor) of)
+
+    fate_after : (method path : List ℕ) (visitor : Option Caller) → IsOf one other it method path → fate_of other method path visitor ≡ decided_by (met_after logins second) visitor
+    fate_after method path visitor of = fate_by other method path visitor second.cell.access (becomes_said method path (known other.has_login visitor) of)
+
+    opens_to : lets_in (met_before logins first) (met_after logins second) ≡ true → LetsIn one other (IsOf one other it)
+    opens_to lets =
+        let visitor = (letting_in_exact (met_before logins first) (met_after logins second)).0 lets in
+        (visitor.0, λ method path of. (λ same. visitor.1 (sym (fate_before method path visitor.0 of) ∙ same), fate_after method path visitor.0 of ∙ visitor.2))
+
+    closes_to : lets_in (met_after logins second) (met_before logins first) ≡ true → LetsIn other one (IsOf one other it)
+    closes_to lets =
+        let visitor = (letting_in_exact (met_after logins second) (met_before logins first)).0 lets in
+        (visitor.0, λ method path of. (λ same. visitor.1 (sym (fate_after method path visitor.0 of) ∙ same), fate_before method path visitor.0 of ∙ visitor.2))
+
+    opens_to_none : lets_in (met_before logins first) (met_after logins second) ≡ false → LetsNobodyIn one other (IsOf one other it)
+    opens_to_none none visitor method path of pass =
+        fate_before method path visitor of
+        ∙ (letting_in_exact (met_before logins first) (met_after logins second)).1 (not_from_false _ none) visitor (sym (fate_after method path visitor of) ∙ pass)
+
+    closes_to_none : lets_in (met_after logins second) (met_before logins first) ≡ false → LetsNobodyIn other one (IsOf one other it)
+    closes_to_none none visitor method path of pass =
+        fate_after method path visitor of
+        ∙ (letting_in_exact (met_after logins second) (met_before logins first)).1 (not_from_false _ none) visitor (sym (fate_before method path visitor of) ∙ pass)
+
+    right_kind : (kind : DifferenceKind) → Letting (met_before logins first) (met_after logins second) kind → IsOfKind one other (IsOf one other it) kind
+    right_kind Opened lets = opens_to lets
+    right_kind Closed lets = (closes_to lets.0, opens_to_none lets.1)
+    right_kind Changed lets = (closes_to_none lets.0, opens_to_none lets.1)
+
     is_right : IsRight one other it
     is_right =
-        let caller = apart first.cell.access second.cell.access (not_from_false _ differ) in
+        let visitor = apart (met_before logins first) (met_after logins second) (not_from_false _ differ) in
         record {
           rooted = is_met.rooted;
           before = is_met.before;
@@ -200,29 +328,50 @@ module _ (right : TablesAreRight) (best_same : BestIsOfTexts) (one other : Confi
           some = some;
           was = was_said;
           becomes = becomes_said;
-          differs = (
-            caller.0,
-            λ method path of same.
-                caller.1 (ap (λ (said : Kind × Cause). said.0) (sym (was_said method path caller.0 of)) ∙ (same ∙ ap (λ (said : Kind × Cause). said.0) (becomes_said method path caller.0 of))),
-          );
+          differs = (visitor.0, λ method path of same. visitor.1 (sym (fate_before method path visitor.0 of) ∙ (same ∙ fate_after method path visitor.0 of)));
+          of_kind = right_kind it.kind (letting_at (met_before logins first) (met_after logins second));
         }
 
-  right_at : (difference : Difference) → In difference (differences (table_of one.constraints one.rules) (table_of other.constraints other.rules)) → IsRight one other difference
+  right_at : (difference : Difference) → In difference (differences_of one other) → IsRight one other difference
   right_at difference there =
-      let meeting = joined_from (differences_at befores afters) difference (meetings (url_patterns befores) (url_patterns afters)) there in
-      let first = joined_from (λ group. flat_map (between meeting.0 group) (groups_at afters meeting.0.after)) difference (groups_at befores meeting.0.before) meeting.2 in
-      let second = joined_from (between meeting.0 first.0) difference (groups_at afters meeting.0.after) first.2 in
-      let shown = between_shows meeting.0 first.0 second.0 difference second.2 in
-      along difference (difference_of meeting.0 first.0 second.0) shown.0 (is_right meeting.0 (are_met meeting.0 meeting.1) first.0 second.0 first.1 second.1 shown.1 shown.2)
+      let meeting = joined_from (differences_at logins befores afters) difference (meetings (url_patterns befores) (url_patterns afters)) (of_some_kind difference all_found there) in
+      let first = joined_from (λ group. flat_map (between logins meeting.0 group) (groups_at afters meeting.0.after)) difference (groups_at befores meeting.0.before) meeting.2 in
+      let second = joined_from (between logins meeting.0 first.0) difference (groups_at afters meeting.0.after) first.2 in
+      let shown = between_shows logins meeting.0 first.0 second.0 difference second.2 in
+      along difference (difference_of logins meeting.0 first.0 second.0) shown.0 (is_right meeting.0 (are_met meeting.0 meeting.1) first.0 second.0 first.1 second.1 shown.1 shown.2)
     where
       along : (a b : Difference) → a ≡ b → IsRight one other b → IsRight one other a
-      along a b same it = rw same it
+      along a b same shown = rw same shown
 
-  all_right : All (IsRight one other) (differences (table_of one.constraints one.rules) (table_of other.constraints other.rules))
-  all_right = all_from (IsRight one other) (differences (table_of one.constraints one.rules) (table_of other.constraints other.rules)) right_at
+  all_right : All (IsRight one other) (differences_of one other)
+  all_right = all_from (IsRight one other) (differences_of one other) right_at
+
+  -- ---- There is none exactly if each request has the same fate.
+  same_if_none : differences_of one other ≡ [] → HaveSameFates one other
+  same_if_none none method path visitor rooted = go (same_decision (fate_of one method path visitor) (fate_of other method path visitor)) refl
+    where
+      go : (same : Bool) → same_decision (fate_of one method path visitor) (fate_of other method path visitor) ≡ same → fate_of one method path visitor ≡ fate_of other method path visitor
+      go true is = decisions_same (fate_of one method path visitor) (fate_of other method path visitor) is
+      go false is =
+          absurd (false≢true (sym (ap (list_any (is_of one other method path)) none) ∙ complete method path visitor rooted (decisions_apart (fate_of one method path visitor) (fate_of other method path visitor) is)))
+
+  none_right : HaveSameFates one other → (difference : Difference) → IsRight one other difference → ⊥
+  none_right same difference is =
+      let method = some_method difference.methods is.some in
+      is.differs.1 method.0 difference.path (record { rooted = is.rooted; before = is.before; after = is.after; covered = method.1 }) (same method.0 difference.path is.differs.0 is.rooted)
+
+  none_in : HaveSameFates one other → (found : List Difference) → ((difference : Difference) → In difference found → IsRight one other difference) → found ≡ []
+  none_in same [] each = refl
+  none_in same (difference ∷ found) each = absurd (none_right same difference (each difference (inl refl)))
+
+  none_if_same : HaveSameFates one other → differences_of one other ≡ []
+  none_if_same same = none_in same (differences_of one other) right_at
 
 pub are_right : TablesAreRight → BestIsOfTexts → DifferencesAreRight
 are_right right best_same one other one_url other_url = all_right right best_same one other one_url other_url
 
 pub are_complete : TablesAreRight → BestIsOfTexts → DifferencesAreComplete
-are_complete right best_same one other method path caller one_url other_url rooted apart_is = complete right best_same one other one_url other_url method path caller rooted apart_is
+are_complete right best_same one other method path visitor one_url other_url rooted apart_is = complete right best_same one other one_url other_url method path visitor rooted apart_is
+
+pub none_exactly : TablesAreRight → BestIsOfTexts → NoneExactlyIfSame
+none_exactly right best_same one other one_url other_url = (same_if_none right best_same one other one_url other_url, none_if_same right best_same one other one_url other_url)

@@ -1,15 +1,16 @@
--- An example is canonical as it is written, and its best match is the pattern.
-use Rattle.std.proofs.lemmas.Bool.{and_parts, false≢true}
+-- The location of an example leads to it, and its best match is the pattern.
+use Rattle.std.proofs.lemmas.Bool.{and_from, and_parts, false≢true}
 use Rattle.std.proofs.lemmas.Slice.Eq.{bytes_eq-Decides}
-use Rattle.std.proofs.Common.{◌≡◌, ℕ, true, List, refl, ap, ap₂, sym, is_none, Option, None, Some, Result, Ok, Err}
+use Rattle.std.proofs.Common.{◌≡◌, ℕ, true, List, refl, ap, ap₂, sym, ◌∙◌, is_none, Option, None, Some, Result, Ok, Err}
 use Rattle.std.specs.Str.{bytes_eq}
 use Rattle.sv_mapping.proofs.FirstBest.{found_passes}
 use Rattle.sv_mapping.specs.BestMatch.{best_pattern}
 use Rattle.sv_uri.specs.Canonical.{canonical}
+use Rattle.sv_uri.specs.LocationField.{LocationIsReadBack, location}
 use Rattle.sv_uri.specs.Shape.{CanonicalHasShape, IsCanonicalPath}
 use Rattle.sv_uri.specs.declared.fault.PathFault.{PathFault}
 use Rattle.sv_uri.specs.declared.path.Canon.{Canon}
-use Rattle.sv_audit.specs.Examples.{ExamplesAreRight, candidates, gives_only, is_example, is_its_own}
+use Rattle.sv_audit.specs.Examples.{CanonicalIsReadBack, ExamplesAreRight, candidates, gives_only, is_example, is_read_back}
 use Rattle.sv_audit.specs.Reading.{is_same}
 
 abbrev plain : List ℕ → Canon
@@ -25,9 +26,16 @@ own_at path (Ok canon) is =
     let parts : (bytes_eq canon.path path ≡ true) × (is_none canon.query ≡ true) = and_parts (bytes_eq canon.path path) (is_none canon.query) is in
     ap₂ (λ p q. let made : Canon = record { path = p; query = q } in Ok made) ((bytes_eq-Decides canon.path path).0 parts.0) (without_query canon.query parts.1)
 
-own : (path : List ℕ) → is_its_own path ≡ true → canonical path ≡ Ok (plain path)
-unfolding is_its_own
-own path is = own_at path (canonical path) is
+own : (path : List ℕ) → is_read_back path ≡ true → canonical (location path) ≡ Ok (plain path)
+unfolding is_read_back
+own path is = own_at path (canonical (location path)) is
+
+itself : (path : List ℕ) → gives_only path (Ok (plain path)) ≡ true
+itself path = and_from (bytes_eq path path) true ((bytes_eq-Decides path path).1 refl) refl
+
+pub all_read_back : LocationIsReadBack → CanonicalIsReadBack
+unfolding is_read_back
+all_read_back reads target canon given = ap (gives_only canon.path) (reads target canon given) ∙ itself canon.path
 
 same_is : (pattern other : Option (List ℕ)) → is_same pattern other ≡ true → other ≡ pattern
 same_is None None is = refl
@@ -37,8 +45,8 @@ same_is (Some pattern) None is = absurd (false≢true is)
 
 pub examples_right : CanonicalHasShape → ExamplesAreRight
 examples_right shapes patterns pattern path is =
-    let parts : (is_its_own path ≡ true) × (is_same pattern (best_pattern patterns path) ≡ true) =
-    and_parts (is_its_own path) (is_same pattern (best_pattern patterns path)) (found_passes (is_example patterns pattern) (candidates pattern) path is) in
-    let given : canonical path ≡ Ok (plain path) = own path parts.0 in
-    let shape : IsCanonicalPath path = shapes path (plain path) given in
+    let parts : (is_read_back path ≡ true) × (is_same pattern (best_pattern patterns path) ≡ true) =
+    and_parts (is_read_back path) (is_same pattern (best_pattern patterns path)) (found_passes (is_example patterns pattern) (candidates pattern) path is) in
+    let given : canonical (location path) ≡ Ok (plain path) = own path parts.0 in
+    let shape : IsCanonicalPath path = shapes (location path) (plain path) given in
     (given, same_is pattern (best_pattern patterns path) parts.1, shape.rooted)

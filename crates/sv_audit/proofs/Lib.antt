@@ -19,4 +19,5 @@ pub mod Represented
 pub mod MeetingLemmas
 pub mod Alikes
 pub mod DifferentCells
+pub mod VisitorLemmas
 pub mod DifferenceLemmas

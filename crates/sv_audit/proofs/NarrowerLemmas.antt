@@ -93,7 +93,7 @@ cuts_from Default (Extension wanted) path one two above = absurd (false≢true a
 cuts_from Default Default path one two above = absurd (false≢true above)
 
 -- ---- A best match that is another pattern is narrower.
-contains : (texts : List (List ℕ)) (text : List ℕ) → lists texts text ≡ true → Contains texts text
+pub contains : (texts : List (List ℕ)) (text : List ℕ) → lists texts text ≡ true → Contains texts text
 contains [] text there = absurd (false≢true there)
 contains (x ∷ texts) text there =
     elim (or_cases (bytes_eq x text) (lists texts text) there) [

@@ -81,7 +81,7 @@ record IsFree (named : List (List ℕ)) (directory ending path : List ℕ) : Typ
 filed : (directory name ending : List ℕ) → file_path directory name ending ≡ directory ++ 47 ∷ (name ++ ending)
 filed directory name ending = append_assoc (directory ++ 47 ∷ []) name ending ∙ append_assoc directory (47 ∷ []) (name ++ ending)
 
-longer : (named : List (List ℕ)) (directory ending : List ℕ) → lists named (file_path directory (long_name named) ending) ≡ false
+pub longer : (named : List (List ℕ)) (directory ending : List ℕ) → lists named (file_path directory (long_name named) ending) ≡ false
 longer named directory ending =
     false_from_ne_true _ (λ there.
     absurd (omega (arith, within_longest named 0 _ (in_listed named _ there), ap length (filed directory (long_name named) ending), length-append directory (47 ∷ (long_name named ++ ending)), length-append (long_name named) ending, length_long (longest named))))
@@ -262,8 +262,8 @@ new_path : (patterns : List (List ℕ)) (directory ending : List ℕ) → In dir
 new_path patterns directory ending there here rooted =
     let named = named_paths patterns in
     listed_in (representatives patterns) (free_path named directory ending)
-    (in_kept is_slashed (free_path named directory ending) (named ++ free_paths named (endings patterns) (directories patterns))
-    (In-right (free_path named directory ending) named _
+    (in_kept is_slashed (free_path named directory ending) (free_paths named (endings patterns) (directories patterns) ++ named)
+    (In-left (free_path named directory ending) (free_paths named (endings patterns) (directories patterns)) named
     (in_joined (λ one. map (free_path named one) (endings patterns)) directory (free_path named directory ending) (directories patterns) there (In-map (free_path named directory) ending (endings patterns) here)))
     rooted)
 
@@ -352,7 +352,8 @@ slash_represented patterns path rest is =
       | inl named ↦ (
         path,
         listed_in (representatives patterns) path
-            (in_kept is_slashed path (named_paths patterns ++ free_paths (named_paths patterns) (endings patterns) (directories patterns)) (In-left path (named_paths patterns) _ (in_listed (named_paths patterns) path named)) (slashed path rest is)),
+            (in_kept is_slashed path (free_paths (named_paths patterns) (endings patterns) (directories patterns) ++ named_paths patterns)
+            (In-right path (free_paths (named_paths patterns) (endings patterns) (directories patterns)) (named_paths patterns) (in_listed (named_paths patterns) path named)) (slashed path rest is)),
         λ part within. refl,
       )
       | inr new ↦

@@ -1,5 +1,5 @@
--- What differences say of the verdicts (Jakarta Servlet 6.0, sections 12.1 and 13.8).
-use Rattle.std.specs.Prelude.{◌≡◌, ◌≢◌, ℕ, Bool, ◌&&◌, List, Option, All, IsTrue}
+-- What differences say of the fates of visitors (Jakarta Servlet 6.0, sections 12.1, 13.6 and 13.8).
+use Rattle.std.specs.Prelude.{◌≡◌, ◌≢◌, ℕ, Bool, ◌&&◌, List, [], Option, All, IsTrue}
 use Rattle.std.specs.List.{list_all, list_any}
 use Rattle.sv_mapping.specs.BestMatch.{best_pattern}
 use Rattle.sv_mapping.specs.Pattern.{is_pattern}
@@ -11,15 +11,20 @@ use Rattle.sv_constraints.specs.declared.cause.Cause.{Cause}
 use Rattle.sv_constraints.specs.declared.constraint.Constraint.{Constraint}
 use Rattle.sv_constraints.specs.declared.constraint.Rules.{Rules}
 use Rattle.sv_policy.specs.Uncovered.{has_methods}
-use Rattle.sv_audit.specs.Reading.{Kind, is_same, kind_and_cause, said_to}
+use Rattle.sv_audit.specs.Reading.{Kind, Passes, is_same, kind_and_cause, said_to}
 use Rattle.sv_audit.specs.Rows.{table_of}
 use Rattle.sv_audit.specs.Differences.{differences}
+use Rattle.sv_audit.specs.Visitors.{fate}
 use Rattle.sv_audit.specs.declared.difference.Difference.{Difference}
+use Rattle.sv_audit.specs.declared.difference.DifferenceKind.{DifferenceKind}
+use Rattle.sv_audit.specs.declared.difference.DifferenceKind.TheVariants.{Changed, Closed, Opened}
+use Rattle.sv_audit.specs.declared.difference.Side.{Side}
 
--- The constraints and rules of a context.
+-- The constraints and rules of a context, and whether it has a login configuration.
 pub record Configuration : Type 0 where
   pub constraints : List Constraint
   pub rules : Rules
+  pub has_login : Bool
 
 -- Each pattern is a URL pattern, as those of every `Constraint` are.
 abbrev pub HasUrlPatterns : Configuration → Type 0
@@ -31,6 +36,16 @@ best_of it path = best_pattern (all_patterns it.constraints) path
 abbrev pub said_by : Configuration → List ℕ → List ℕ → Option Caller → Kind × Cause
 said_by it method path caller = kind_and_cause (verdict it.constraints it.rules method path caller)
 
+-- The fate of a visitor's request by the verdicts of a configuration.
+abbrev pub fate_of : Configuration → List ℕ → List ℕ → Option Caller → Kind
+fate_of it method path visitor = fate it.has_login (λ caller. (said_by it method path caller).0) visitor
+
+abbrev pub side_of : Configuration → Side
+side_of it = record { table = table_of it.constraints it.rules; has_login = it.has_login }
+
+abbrev pub differences_of : Configuration → Configuration → List Difference
+differences_of one other = differences (side_of one) (side_of other)
+
 -- The request has a method of the difference and a path of both of its rows.
 pub record IsOf (one other : Configuration) (difference : Difference) (method path : List ℕ) : Type 0 where
   pub rooted : IsTrue (is_rooted path)
@@ -38,8 +53,22 @@ pub record IsOf (one other : Configuration) (difference : Difference) (method pa
   pub after : best_of other path ≡ difference.after
   pub covered : IsTrue (covers_method difference.methods method)
 
+-- Some visitor passes in the second configuration with each of these requests, and in the first with none.
+abbrev pub LetsIn : Configuration → Configuration → (List ℕ → List ℕ → Type 0) → Type 0
+LetsIn one other These = (visitor : Option Caller) × ((method path : List ℕ) → These method path → (fate_of one method path visitor ≢ Passes) × (fate_of other method path visitor ≡ Passes))
+
+-- A visitor who passes in the second configuration with one of these requests passes in the first, too.
+abbrev pub LetsNobodyIn : Configuration → Configuration → (List ℕ → List ℕ → Type 0) → Type 0
+LetsNobodyIn one other These = (visitor : Option Caller) (method path : List ℕ) → These method path → fate_of other method path visitor ≡ Passes → fate_of one method path visitor ≡ Passes
+
+-- What a kind says of these requests.
+abbrev pub IsOfKind : Configuration → Configuration → (List ℕ → List ℕ → Type 0) → DifferenceKind → Type 0
+IsOfKind one other These Opened = LetsIn one other These
+IsOfKind one other These Closed = LetsIn other one These × LetsNobodyIn one other These
+IsOfKind one other These Changed = LetsNobodyIn other one These × LetsNobodyIn one other These
+
 -- The path of the difference is in both rows, and it has methods. The accesses say what the verdicts are on all requests
--- of the difference. There is a caller, or none, for whom the verdicts on all of them differ.
+-- of the difference. There is a visitor whose fate with all of them differs, and the kind is right.
 pub record IsRight (one other : Configuration) (difference : Difference) : Type 0 where
   pub rooted : IsTrue (is_rooted difference.path)
   pub before : best_of one difference.path ≡ difference.before
@@ -47,19 +76,27 @@ pub record IsRight (one other : Configuration) (difference : Difference) : Type 
   pub some : IsTrue (has_methods difference.methods)
   pub was : (method path : List ℕ) (caller : Option Caller) → IsOf one other difference method path → said_by one method path caller ≡ said_to caller difference.was
   pub becomes : (method path : List ℕ) (caller : Option Caller) → IsOf one other difference method path → said_by other method path caller ≡ said_to caller difference.becomes
-  pub differs : (caller : Option Caller) × ((method path : List ℕ) → IsOf one other difference method path → (said_by one method path caller).0 ≢ (said_by other method path caller).0)
+  pub differs : (visitor : Option Caller) × ((method path : List ℕ) → IsOf one other difference method path → fate_of one method path visitor ≢ fate_of other method path visitor)
+  pub of_kind : IsOfKind one other (IsOf one other difference) difference.kind
 
--- Each difference of the tables of two configurations is right.
+-- Each difference of two configurations is right.
 abbrev pub DifferencesAreRight : Type 0
-DifferencesAreRight = (one other : Configuration) → HasUrlPatterns one → HasUrlPatterns other →
-    All (IsRight one other) (differences (table_of one.constraints one.rules) (table_of other.constraints other.rules))
+DifferencesAreRight = (one other : Configuration) → HasUrlPatterns one → HasUrlPatterns other → All (IsRight one other) (differences_of one other)
 
 -- Whether the difference is of the rows of the path, and has the method.
 abbrev pub is_of : Configuration → Configuration → List ℕ → List ℕ → Difference → Bool
 is_of one other method path difference = is_same difference.before (best_of one path) && is_same difference.after (best_of other path) && covers_method difference.methods method
 
--- A request whose verdicts differ in kind, for some caller or without one, is among the differences.
+-- A request whose fate differs for some visitor is among the differences.
 abbrev pub DifferencesAreComplete : Type 0
-DifferencesAreComplete = (one other : Configuration) (method path : List ℕ) (caller : Option Caller) → HasUrlPatterns one → HasUrlPatterns other → IsTrue (is_rooted path) →
-    (said_by one method path caller).0 ≢ (said_by other method path caller).0 →
-    IsTrue (list_any (is_of one other method path) (differences (table_of one.constraints one.rules) (table_of other.constraints other.rules)))
+DifferencesAreComplete = (one other : Configuration) (method path : List ℕ) (visitor : Option Caller) → HasUrlPatterns one → HasUrlPatterns other → IsTrue (is_rooted path) →
+    fate_of one method path visitor ≢ fate_of other method path visitor → IsTrue (list_any (is_of one other method path) (differences_of one other))
+
+-- Each request of each visitor has the same fate.
+abbrev pub HaveSameFates : Configuration → Configuration → Type 0
+HaveSameFates one other = (method path : List ℕ) (visitor : Option Caller) → IsTrue (is_rooted path) → fate_of one method path visitor ≡ fate_of other method path visitor
+
+-- There is no difference exactly if each request of each visitor has the same fate.
+abbrev pub NoneExactlyIfSame : Type 0
+NoneExactlyIfSame = (one other : Configuration) → HasUrlPatterns one → HasUrlPatterns other →
+    (differences_of one other ≡ [] → HaveSameFates one other) × (HaveSameFates one other → differences_of one other ≡ [])

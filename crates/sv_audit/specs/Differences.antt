@@ -1,5 +1,5 @@
--- The requests that two access tables decide differently (Jakarta Servlet 6.0, sections 12.1 and 13.8).
-use Rattle.std.specs.Prelude.{ℕ, Bool, not, ◌&&◌, ◌||◌, List, [], ◌∷◌, ◌++◌, filter, fold, Option, if◌then◌else◌}
+-- The requests whose fates differ between two sides: access tables with or without a login configuration (Jakarta Servlet 6.0, sections 12.1 and 13.8).
+use Rattle.std.specs.Prelude.{ℕ, Bool, true, false, not, ◌&&◌, ◌||◌, List, [], ◌∷◌, ◌++◌, filter, fold, Option, if◌then◌else◌}
 use Rattle.std.specs.List.{flat_map, list_any}
 use Rattle.std.specs.Option.{option_to_list}
 use Rattle.sv_mapping.specs.BestMatch.{best_pattern}
@@ -9,12 +9,17 @@ use Rattle.sv_constraints.specs.declared.constraint.Methods.{Methods}
 use Rattle.sv_constraints.specs.declared.constraint.Methods.TheVariants.{All, Only, Except}
 use Rattle.sv_policy.specs.Uncovered.{has_methods}
 use Rattle.sv_audit.specs.Callers.{same_callers}
+use Rattle.sv_audit.specs.Visitors.{effective, kind_of}
 use Rattle.sv_audit.specs.Reading.{is_same}
 use Rattle.sv_audit.specs.declared.rows.Group.{Group}
 use Rattle.sv_audit.specs.declared.rows.Row.{Row}
-use Rattle.sv_audit.specs.declared.rows.Table.{Table}
 use Rattle.sv_audit.specs.Representatives.{representatives}
+use Rattle.sv_audit.specs.declared.access.Access.{Access}
 use Rattle.sv_audit.specs.declared.difference.Difference.{Difference}
+use Rattle.sv_audit.specs.declared.difference.DifferenceKind.{DifferenceKind}
+use Rattle.sv_audit.specs.declared.difference.DifferenceKind.TheVariants.{Changed, Closed, Opened}
+use Rattle.sv_audit.specs.declared.difference.Logins.{Logins}
+use Rattle.sv_audit.specs.declared.difference.Side.{Side}
 use Rattle.sv_audit.specs.declared.meetings.Meeting.{Meeting}
 
 -- The patterns of the rows whose texts are URL patterns.
@@ -56,8 +61,16 @@ groups_of_row pattern row = if is_same row.pattern pattern then row.groups else 
 abbrev pub groups_at : List Row → Option (List ℕ) → List Group
 groups_at rows pattern = flat_map (groups_of_row pattern) rows
 
-abbrev pub difference_of : Meeting → Group → Group → Difference
-difference_of meeting first second = record {
+-- The accesses of groups that visitors meet.
+abbrev pub met_before : Logins → Group → Access
+met_before logins group = effective logins.before group.cell.access
+
+abbrev pub met_after : Logins → Group → Access
+met_after logins group = effective logins.after group.cell.access
+
+abbrev pub difference_of : Logins → Meeting → Group → Group → Difference
+difference_of logins meeting first second = record {
+  kind = kind_of (met_before logins first) (met_after logins second);
   before = meeting.before;
   after = meeting.after;
   path = meeting.path;
@@ -66,14 +79,35 @@ difference_of meeting first second = record {
   becomes = second.cell.access;
 }
 
--- The methods of both groups, if there are any and other callers pass.
-abbrev pub between : Meeting → Group → Group → List Difference
-between meeting first second =
-    if same_callers first.cell.access second.cell.access || not (has_methods (meet first.methods second.methods)) then [] else difference_of meeting first second ∷ []
+-- The methods of both groups, if there are any and the fate of some visitor differs.
+abbrev pub between : Logins → Meeting → Group → Group → List Difference
+between logins meeting first second =
+    if same_callers (met_before logins first) (met_after logins second) || not (has_methods (meet first.methods second.methods)) then [] else difference_of logins meeting first second ∷ []
 
-abbrev pub differences_at : List Row → List Row → Meeting → List Difference
-differences_at befores afters meeting = flat_map (λ first. flat_map (between meeting first) (groups_at afters meeting.after)) (groups_at befores meeting.before)
+abbrev pub differences_at : Logins → List Row → List Row → Meeting → List Difference
+differences_at logins befores afters meeting = flat_map (λ first. flat_map (between logins meeting first) (groups_at afters meeting.after)) (groups_at befores meeting.before)
 
--- The differences of two tables.
-abbrev pub differences : Table → Table → List Difference
-differences before after = flat_map (differences_at before.rows after.rows) (meetings (url_patterns before.rows) (url_patterns after.rows))
+-- Whether visitors can log in on both sides.
+abbrev pub logins_of : Side → Side → Logins
+logins_of one other = record { before = one.has_login; after = other.has_login }
+
+-- The differences of two sides, in the order of the pairs of rows.
+abbrev pub all_differences : Side → Side → List Difference
+all_differences one other = flat_map (differences_at (logins_of one other) one.table.rows other.table.rows) (meetings (url_patterns one.table.rows) (url_patterns other.table.rows))
+
+abbrev pub same_kind : DifferenceKind → DifferenceKind → Bool
+same_kind Opened Opened = true
+same_kind Closed Closed = true
+same_kind Changed Changed = true
+same_kind kind other = false
+
+abbrev pub of_kind : DifferenceKind → List Difference → List Difference
+of_kind kind found = filter (λ difference. same_kind kind difference.kind) found
+
+-- Opened ones first, then closed ones, then changed ones.
+abbrev pub by_kind : List Difference → List Difference
+by_kind found = of_kind Opened found ++ of_kind Closed found ++ of_kind Changed found
+
+-- The differences of two sides.
+abbrev pub differences : Side → Side → List Difference
+differences one other = by_kind (all_differences one other)

@@ -4,6 +4,7 @@ use Rattle.std.specs.Str.{bytes_eq}
 use Rattle.sv_mapping.specs.BestMatch.{best_pattern}
 use Rattle.sv_mapping.specs.Pattern.{Form, Root, Default, Extension, Prefix, Exact, form}
 use Rattle.sv_uri.specs.Canonical.{begins_with_slash, canonical}
+use Rattle.sv_uri.specs.LocationField.{location}
 use Rattle.sv_uri.specs.declared.fault.PathFault.{PathFault}
 use Rattle.sv_uri.specs.declared.path.Canon.{Canon}
 use Rattle.sv_audit.specs.Reading.{is_same}
@@ -31,19 +32,23 @@ abbrev pub gives_only : List ℕ → Result Canon PathFault → Bool
 gives_only path (Ok canon) = bytes_eq canon.path path && is_none canon.query
 gives_only path (Err fault) = false
 
--- Whether the path, read as a target, is its own canonical path and has no query.
-unfoldable pub is_its_own : List ℕ → Bool
-is_its_own path = gives_only path (canonical path)
+-- Whether reading the location of the path gives the same path, without a query.
+unfoldable pub is_read_back : List ℕ → Bool
+is_read_back path = gives_only path (canonical (location path))
 
--- Whether the path is its own canonical path, and the pattern is its best match, or there is none.
+-- Whether the location of the path leads to it, and the pattern is its best match, or there is none.
 abbrev pub is_example : List (List ℕ) → Option (List ℕ) → List ℕ → Bool
-is_example patterns pattern path = is_its_own path && is_same pattern (best_pattern patterns path)
+is_example patterns pattern path = is_read_back path && is_same pattern (best_pattern patterns path)
 
 -- The first such path of those to try.
 abbrev pub example : List (List ℕ) → Option (List ℕ) → Option (List ℕ)
 example patterns pattern = find (is_example patterns pattern) (candidates pattern)
 
--- An example is its own canonical path, begins with a slash, and has the pattern as its best match.
+-- The location of an example leads to it; it begins with a slash, and has the pattern as its best match.
 abbrev pub ExamplesAreRight : Type 0
 ExamplesAreRight = (patterns : List (List ℕ)) (pattern : Option (List ℕ)) (path : List ℕ) → example patterns pattern ≡ Some path →
-    (canonical path ≡ Ok (record { path = path; query = None })) × (best_pattern patterns path ≡ pattern) × IsTrue (begins_with_slash path)
+    (canonical (location path) ≡ Ok (record { path = path; query = None })) × (best_pattern patterns path ≡ pattern) × IsTrue (begins_with_slash path)
+
+-- The canonical path of any target is such a path: none that a request can have is left out for its bytes.
+abbrev pub CanonicalIsReadBack : Type 0
+CanonicalIsReadBack = (target : List ℕ) (canon : Canon) → canonical target ≡ Ok canon → IsTrue (is_read_back canon.path)

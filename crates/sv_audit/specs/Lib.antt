@@ -7,6 +7,7 @@ pub mod Secure
 pub mod Examples
 pub mod Narrower
 pub mod Callers
+pub mod Visitors
 pub mod Representatives
 pub mod Differences
 pub mod DifferenceLaws

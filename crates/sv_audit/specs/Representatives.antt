@@ -61,9 +61,9 @@ free_path named directory ending =
 abbrev pub free_paths : List (List ℕ) → List (List ℕ) → List (List ℕ) → List (List ℕ)
 free_paths named its_endings its_directories = flat_map (λ directory. map (free_path named directory) its_endings) its_directories
 
--- The paths that represent all others: those that patterns name, and one for each directory and extension.
+-- The paths that represent all others: one for each directory and extension, and those that patterns name.
 abbrev pub representatives : List (List ℕ) → List (List ℕ)
-representatives patterns = filter is_slashed (named_paths patterns ++ free_paths (named_paths patterns) (endings patterns) (directories patterns))
+representatives patterns = filter is_slashed (free_paths (named_paths patterns) (endings patterns) (directories patterns) ++ named_paths patterns)
 
 -- Each path that is empty or begins with a slash has a representative with the same best match, among all of the
 -- patterns and among any part of them.

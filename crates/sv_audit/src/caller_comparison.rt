@@ -19,7 +19,7 @@ pub fn same_callers(access: &Access, other: &Access) -> bool
 }
 
 /// Returns whether everyone passes, without a caller.
-fn is_open(access: &Access) -> bool
+pub(crate) fn is_open(access: &Access) -> bool
     ensures { result ≡ spec.is_open access.now }
 {
     matches!(
@@ -58,7 +58,7 @@ fn same_roles(names: &[Text], others: &[Text]) -> bool
 }
 
 /// Returns whether each of the texts is among the others.
-fn are_among(others: &[Text], texts: &[Text]) -> bool
+pub(crate) fn are_among(others: &[Text], texts: &[Text]) -> bool
     ensures { result ≡ list_all (covering.lists others.now) texts.now }
 {
     texts.iter().all(|text| lists(others, text.as_str()))

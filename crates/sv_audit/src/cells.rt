@@ -87,7 +87,11 @@ pub fn copied_cell(alloc: Global, cell: &Cell) -> Result<Cell, NoMemory>
     })
 }
 
-fn copied_access(alloc: Global, access: &Access) -> Result<Access, NoMemory>
+/// Copies an access.
+///
+/// # Errors
+/// `NoMemory` if memory runs out.
+pub fn copied_access(alloc: Global, access: &Access) -> Result<Access, NoMemory>
     ensures { GivesAnswer result access.now }
 {
     match access {

@@ -1,13 +1,44 @@
-//! What two access tables decide differently.
+//! What differs between two configurations of a context.
 
 use crate::access::Access;
+use crate::rows::Table;
 use sv_constraints::Methods;
 use sv_text::Text;
 
-/// Requests that two configurations of a context decide differently, for some caller or without one (Jakarta Servlet
-/// 6.0, section 13.8): those with a path of both rows and one of the methods.
+/// A configuration of a context (Jakarta Servlet 6.0, sections 13.6 and 13.8).
+#[derive(Drop)]
+pub struct Side {
+    /// The table of its constraints.
+    pub table: Table,
+    /// Whether it has a login configuration. Without one nobody can log in, and requests that need a login are denied.
+    pub has_login: bool,
+}
+
+/// Whether visitors can log in, before and after.
+#[derive(Clone, Copy, Drop)]
+pub(crate) struct Logins {
+    pub(crate) before: bool,
+    pub(crate) after: bool,
+}
+
+/// How the fate of visitors differs. A visitor is a caller who logs in wherever the context has a login configuration,
+/// or one who cannot log in.
+#[derive(Clone, Copy, Drop)]
+pub enum DifferenceKind {
+    /// Some visitor passes after and not before.
+    Opened,
+    /// Some visitor passes before and not after, and none only after.
+    Closed,
+    /// The same visitors pass, but some visitor is asked to log in on one side and denied on the other.
+    Changed,
+}
+
+/// Requests whose fate differs between two configurations of a context, for some visitor (Jakarta Servlet 6.0, sections
+/// 13.6 and 13.8): those with a path of both rows and one of the methods.
 #[derive(Drop)]
 pub struct Difference {
+    /// Which visitors pass only on one side.
+    pub kind: DifferenceKind,
     /// The pattern of the row before, or none for the paths that no pattern matches.
     pub before: Option<Text>,
     /// The pattern of the row after, or none for the paths that no pattern matches.
@@ -16,8 +47,8 @@ pub struct Difference {
     pub path: Text,
     /// The methods: the listed ones, or all except the listed ones. There is at least one.
     pub methods: Methods,
-    /// Who may make the requests before.
+    /// Who may make the requests before, by the constraints.
     pub was: Access,
-    /// Who may make them after.
+    /// Who may make them after, by the constraints.
     pub becomes: Access,
 }

@@ -12,15 +12,15 @@ use crate::forms::form_of;
 use std::alloc::Global;
 use sv_mapping::{Form, PatternTable};
 use sv_text::{Listed, NoMemory, Text};
-use sv_uri::canon;
 use sv_uri::fault::CanonFault;
+use sv_uri::{canon, location};
 
 /// The paths to try for patterns that match every path, and for the paths that no pattern matches.
 const PLAIN_PATHS: [&str; 3] = ["/page", "/page.html", "/a/page"];
 
 /// Returns a path whose best match among the patterns is this one, or a path that no pattern matches (Jakarta Servlet
-/// 6.0, section 12.1). The path is canonical as it is written. Only a few paths are tried, so there may be others if
-/// there is no result.
+/// 6.0, section 12.1). The path is decoded: a request whose target is the location of the path has this canonical path.
+/// Only a few paths are tried, so there may be others if there is no result.
 ///
 /// # Errors
 /// `NoMemory` if memory runs out.
@@ -59,16 +59,17 @@ fn is_example(
 ) -> Result<bool, NoMemory>
     ensures { GivesAnswer result (spec.is_example patterns.now (option_copied pattern.entry) path.now) }
 {
-    let is_own = is_its_own(alloc, path)?;
-    Ok(is_own && is_same(pattern, best_of(patterns, path)))
+    let is_read_back = is_read_back(alloc, path)?;
+    Ok(is_read_back && is_same(pattern, best_of(patterns, path)))
 }
 
-/// Returns whether the path, read as a target, is its own canonical path and has no query.
-#[tactic(auto, unfolding(crate::specs::Examples::is_its_own))]
-fn is_its_own(alloc: Global, path: &str) -> Result<bool, NoMemory>
-    ensures { GivesAnswer result (spec.is_its_own path.now) }
+/// Returns whether reading the location of the path gives the same path, without a query.
+#[tactic(auto, unfolding(crate::specs::Examples::is_read_back))]
+fn is_read_back(alloc: Global, path: &str) -> Result<bool, NoMemory>
+    ensures { GivesAnswer result (spec.is_read_back path.now) }
 {
-    match canon(alloc, path.as_bytes()) {
+    let location = location(alloc, path)?;
+    match canon(alloc, location.as_bytes()) {
         Ok(canon) => Ok(canon.path.as_str() == path && canon.query.is_none()),
         Err(CanonFault::Path(_)) => Ok(false),
         Err(CanonFault::NoMemory) => Err(NoMemory),

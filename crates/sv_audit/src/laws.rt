@@ -1,15 +1,16 @@
 //! Theorems about access tables and their differences, each the contract of a function that only calls other theorems.
 
-ghost use Rattle.sv_audit.specs.DifferenceLaws.{DifferencesAreComplete, DifferencesAreRight};
-ghost use Rattle.sv_audit.specs.Examples.{ExamplesAreRight};
+ghost use Rattle.sv_audit.specs.DifferenceLaws.{DifferencesAreComplete, DifferencesAreRight, NoneExactlyIfSame};
+ghost use Rattle.sv_audit.specs.Examples.{CanonicalIsReadBack, ExamplesAreRight};
 ghost use Rattle.sv_audit.specs.Narrower.{NarrowerAreComplete, NarrowerAreSound};
 ghost use Rattle.sv_audit.specs.Reading.{NumbersAreRight, ServedPathsAreRooted, TablesAreRight};
 ghost use Rattle.sv_audit.specs.Representatives.{EachPathIsRepresented};
 ghost use Rattle.sv_audit.specs.Secure.{OnlyTransportChanges};
+ghost use Rattle.sv_audit.specs.Visitors.{EffectiveIsMet, LettingInIsExact, SameCallersAreExact};
 
 use sv_mapping::laws::{best_exists, best_is_a_match};
 use sv_policy::best_is_of_texts;
-use sv_uri::laws::canonical_has_shape;
+use sv_uri::laws::{canonical_has_shape, location_is_read_back};
 
 /// For every path that is empty or begins with a slash, every method and every caller, a table has exactly one cell, and
 /// it says what the constraints decide. The number in the cell is that of the constraint that decides the request
@@ -34,11 +35,14 @@ pub fn served_paths_are_rooted()
     ensures { ServedPathsAreRooted }
 {}
 
-/// An example is its own canonical path, begins with a slash, and has the pattern as its best match, or none.
+/// The location of an example leads to it; it begins with a slash, and has the pattern as its best match, or none. The
+/// location of each path that a request can have leads to it.
 pub fn examples_are_right()
-    ensures { ExamplesAreRight }
+    ensures right { ExamplesAreRight }
+    ensures reachable { CanonicalIsReadBack }
 {
     canonical_has_shape();
+    location_is_read_back();
 }
 
 /// If a pattern matches a path whose best match is another one, that one is among the narrower patterns. Each narrower
@@ -55,9 +59,17 @@ pub fn each_path_is_represented()
     ensures { EachPathIsRepresented }
 {}
 
-/// Each difference of the tables of two configurations is right: its path is in both of its rows, it has methods, and its
-/// accesses say what the constraints decide on all requests with a path of both rows and one of the methods. There is a
-/// caller, or a request without one, for whom all of these decisions differ.
+/// The effective access decides the fate of every visitor. Accesses have the same callers exactly if they decide alike
+/// for every visitor, and one lets others in exactly if some visitor passes by it and not by the one before.
+pub fn visitors_are_decided()
+    ensures effective { EffectiveIsMet }
+    ensures callers { SameCallersAreExact }
+    ensures letting { LettingInIsExact }
+{}
+
+/// Each difference of two configurations is right: its path is in both of its rows, it has methods, and its accesses say
+/// what the constraints decide on all requests with a path of both rows and one of the methods. There is a visitor whose
+/// fate with all of them differs. Its kind says whether some visitor passes only after, or only before.
 pub fn differences_are_right()
     ensures { DifferencesAreRight }
 {
@@ -65,10 +77,11 @@ pub fn differences_are_right()
     best_is_of_texts();
 }
 
-/// No difference is missed: a request that passes, needs a login or is denied before, and does not so after, has the rows
-/// and the method of a difference.
+/// No difference is missed: a request that passes, leads to a login or is denied before, and does not so after, for some
+/// visitor, has the rows and the method of a difference. There is no difference exactly if there is no such request.
 pub fn differences_are_complete()
-    ensures { DifferencesAreComplete }
+    ensures complete { DifferencesAreComplete }
+    ensures exact { NoneExactlyIfSame }
 {
     tables_are_right();
     best_is_of_texts();

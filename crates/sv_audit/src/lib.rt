@@ -26,16 +26,19 @@ mod row_differences;
 mod rows;
 mod secure;
 mod tables;
+mod visitors;
 
 pub use access::{Access, Cell};
 pub use caller_comparison::same_callers;
-pub use cells::covering_findings;
+pub use cells::{copied_access, covering_findings};
 pub use coverage::covering;
-pub use difference::Difference;
+pub use difference::{Difference, DifferenceKind, Side};
 pub use examples::example_of;
+pub use forms::form_of;
 pub use laws::{
     differences_are_complete, differences_are_right, each_path_is_represented, examples_are_right,
     narrower_patterns_are_exact, only_transport_changes, served_paths_are_rooted, tables_are_right,
+    visitors_are_decided,
 };
 pub use narrower_patterns::Narrower;
 pub use narrowing::narrower;

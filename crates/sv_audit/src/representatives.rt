@@ -12,8 +12,8 @@ use sv_constraints::lists;
 use sv_mapping::{Form, Pattern};
 use sv_text::{NoMemory, Text};
 
-/// Returns paths of which one matches the same patterns as any path that is empty or begins with a slash: the paths that
-/// the patterns name, and one for each directory of a prefix pattern and each extension.
+/// Returns paths of which one matches the same patterns as any path that is empty or begins with a slash: one for each
+/// directory of a prefix pattern and each extension, and the paths that the patterns name.
 pub(crate) fn representatives(alloc: Global, patterns: &[Pattern]) -> Result<Vec<Text>, NoMemory>
     ensures { IfOk result (λ paths. paths.items ≡ spec.representatives patterns.now) }
 {
@@ -21,7 +21,6 @@ pub(crate) fn representatives(alloc: Global, patterns: &[Pattern]) -> Result<Vec
     let endings = endings(alloc, patterns)?;
     let directories = directories(alloc, patterns)?;
     let mut paths = Vec::new(alloc);
-    push_slashed(&mut paths, alloc, named.as_slice())?;
     for directory in directories.as_slice() {
         push_free(
             &mut paths,
@@ -31,6 +30,7 @@ pub(crate) fn representatives(alloc: Global, patterns: &[Pattern]) -> Result<Vec
             endings.as_slice(),
         )?;
     }
+    push_slashed(&mut paths, alloc, named.as_slice())?;
     Ok(paths)
 }
 

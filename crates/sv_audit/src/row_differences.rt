@@ -1,23 +1,24 @@
-//! The differences of two access tables.
+//! The differences of two configurations of a context.
 
 ghost use Rattle.std.specs.Prelude.{◌≡◌, ◌++◌, IfOk, OnOk, map};
 ghost use Rattle.std.specs.List.{flat_map};
 ghost use Rattle.sv_text.specs.Gives.{GivesAnswer};
 ghost use Rattle.sv_audit.specs.Differences as spec;
 
-use crate::access::Access;
-use crate::caller_comparison::same_callers;
-use crate::difference::Difference;
+use crate::cells::copied_access;
+use crate::difference::{Difference, DifferenceKind, Logins, Side};
 use crate::meetings::{Meeting, is_same, meetings};
 use crate::method_sets::{has_methods, meet};
-use crate::rows::{Group, Row, Table};
+use crate::rows::{Group, Row};
+use crate::visitors::{kind_between, same_fates};
 use std::alloc::Global;
 use sv_constraints::Methods;
-use sv_text::{Listed, NoMemory, Text, copied_texts};
+use sv_text::{Listed, NoMemory, Text};
 
-/// Returns what two access tables decide differently: for each pair of rows that share a path, the methods for which
-/// other callers pass, or are asked to log in (Jakarta Servlet 6.0, sections 12.1 and 13.8). Rows whose pattern is not
-/// a URL pattern have no paths.
+/// Returns what differs between two configurations of a context: for each pair of rows that share a path, the methods
+/// for which other visitors pass, or are asked to log in (Jakarta Servlet 6.0, sections 12.1, 13.6 and 13.8). Opened
+/// differences come first, then closed ones, then changed ones, each in the order of the rows before. Rows whose pattern
+/// is not a URL pattern have no paths.
 ///
 /// The time grows with the product of the number of prefix patterns and the number of extension patterns of both tables.
 ///
@@ -25,35 +26,68 @@ use sv_text::{Listed, NoMemory, Text, copied_texts};
 /// `NoMemory` if memory runs out.
 pub fn differences(
     alloc: Global,
-    before: &Table,
-    after: &Table,
+    before: &Side,
+    after: &Side,
 ) -> Result<Listed<Difference>, NoMemory>
     ensures { GivesAnswer result (spec.differences before.now after.now) }
 {
-    let befores = before.rows.as_slice();
-    let afters = after.rows.as_slice();
-    let meetings = meetings(alloc, befores, afters)?;
+    let found = all_differences(alloc, before, after)?;
+    by_kind(alloc, found)
+}
+
+/// Returns the differences in the order of the pairs of rows.
+fn all_differences(alloc: Global, before: &Side, after: &Side) -> Result<Vec<Difference>, NoMemory>
+    ensures { IfOk result (λ found. found.items ≡ spec.all_differences before.now after.now) }
+{
+    let meetings = meetings(
+        alloc,
+        before.table.rows.as_slice(),
+        after.table.rows.as_slice(),
+    )?;
     let mut found = Vec::new(alloc);
     for meeting in meetings.as_slice() {
-        push_at(&mut found, alloc, befores, afters, meeting)?;
+        push_at(&mut found, alloc, before, after, meeting)?;
     }
-    Ok(Listed::from_vec(found))
+    Ok(found)
+}
+
+/// Returns opened differences first, then closed ones, then changed ones.
+fn by_kind(alloc: Global, found: Vec<Difference>) -> Result<Listed<Difference>, NoMemory>
+    ensures { GivesAnswer result (spec.by_kind found.items) }
+{
+    let mut opened = Vec::new(alloc);
+    let mut closed = Vec::new(alloc);
+    let mut changed = Vec::new(alloc);
+    for difference in found {
+        match difference.kind {
+            DifferenceKind::Opened => opened.push(difference)?,
+            DifferenceKind::Closed => closed.push(difference)?,
+            DifferenceKind::Changed => changed.push(difference)?,
+        }
+    }
+    opened.append(&mut closed)?;
+    opened.append(&mut changed)?;
+    Ok(Listed::from_vec(opened))
 }
 
 /// Appends the differences of two rows that share a path.
 fn push_at(
     found: &mut Vec<Difference>,
     alloc: Global,
-    befores: &[Row],
-    afters: &[Row],
+    before: &Side,
+    after: &Side,
     meeting: &Meeting,
 ) -> Result<(), NoMemory>
-    ensures { OnOk result (found.new.items ≡ found.old.items ++ spec.differences_at befores.now afters.now meeting.now) }
+    ensures { OnOk result (found.new.items ≡ found.old.items ++ spec.differences_at (spec.logins_of before.now after.now) before.now.table.rows after.now.table.rows meeting.now) }
 {
-    let firsts = groups_at(alloc, befores, &meeting.before)?;
-    let seconds = groups_at(alloc, afters, &meeting.after)?;
+    let logins = Logins {
+        before: before.has_login,
+        after: after.has_login,
+    };
+    let firsts = groups_at(alloc, before.table.rows.as_slice(), &meeting.before)?;
+    let seconds = groups_at(alloc, after.table.rows.as_slice(), &meeting.after)?;
     for first in firsts.as_slice() {
-        push_against(found, alloc, meeting, *first, seconds.as_slice())?;
+        push_against(found, alloc, logins, meeting, *first, seconds.as_slice())?;
     }
     Ok(())
 }
@@ -101,14 +135,15 @@ fn push_all<'a>(groups: &mut Vec<&'a Group>, others: &'a [Group]) -> Result<(), 
 fn push_against(
     found: &mut Vec<Difference>,
     alloc: Global,
+    logins: Logins,
     meeting: &Meeting,
     first: &Group,
     seconds: &[&Group],
 ) -> Result<(), NoMemory>
-    ensures { OnOk result (found.new.items ≡ found.old.items ++ flat_map (spec.between meeting.now first.now) (map (λ second. second.now) seconds.now)) }
+    ensures { OnOk result (found.new.items ≡ found.old.items ++ flat_map (spec.between logins meeting.now first.now) (map (λ second. second.now) seconds.now)) }
 {
     for second in seconds {
-        push_between(found, alloc, meeting, first, *second)?;
+        push_between(found, alloc, logins, meeting, first, *second)?;
     }
     Ok(())
 }
@@ -117,18 +152,19 @@ fn push_against(
 fn push_between(
     found: &mut Vec<Difference>,
     alloc: Global,
+    logins: Logins,
     meeting: &Meeting,
     first: &Group,
     second: &Group,
 ) -> Result<(), NoMemory>
-    ensures { OnOk result (found.new.items ≡ found.old.items ++ spec.between meeting.now first.now second.now) }
+    ensures { OnOk result (found.new.items ≡ found.old.items ++ spec.between logins meeting.now first.now second.now) }
 {
-    if same_callers(&first.cell.access, &second.cell.access) {
+    if same_fates(logins, &first.cell.access, &second.cell.access) {
         return Ok(());
     }
     let methods = meet(alloc, &first.methods, &second.methods)?;
     if has_methods(&methods) {
-        found.push(difference_of(alloc, meeting, methods, first, second)?)?;
+        found.push(difference_of(alloc, logins, meeting, methods, first, second)?)?;
     }
     Ok(())
 }
@@ -136,14 +172,16 @@ fn push_between(
 /// Returns the difference in these methods.
 fn difference_of(
     alloc: Global,
+    logins: Logins,
     meeting: &Meeting,
     methods: Methods,
     first: &Group,
     second: &Group,
 ) -> Result<Difference, NoMemory>
-    ensures { methods ≡ spec.meet first.now.methods second.now.methods → GivesAnswer result (spec.difference_of meeting.now first.now second.now) }
+    ensures { methods ≡ spec.meet first.now.methods second.now.methods → GivesAnswer result (spec.difference_of logins meeting.now first.now second.now) }
 {
     Ok(Difference {
+        kind: kind_between(logins, &first.cell.access, &second.cell.access),
         before: copied_option(alloc, &meeting.before)?,
         after: copied_option(alloc, &meeting.after)?,
         path: Text::copy_of(alloc, meeting.path.as_str())?,
@@ -159,20 +197,5 @@ fn copied_option(alloc: Global, text: &Option<Text>) -> Result<Option<Text>, NoM
     match text {
         Some(text) => Ok(Some(Text::copy_of(alloc, text.as_str())?)),
         None => Ok(None),
-    }
-}
-
-fn copied_access(alloc: Global, access: &Access) -> Result<Access, NoMemory>
-    ensures { GivesAnswer result access.now }
-{
-    match access {
-        Access::Unconstrained => Ok(Access::Unconstrained),
-        Access::Uncovered => Ok(Access::Uncovered),
-        Access::UncoveredDenied => Ok(Access::UncoveredDenied),
-        Access::Precluded => Ok(Access::Precluded),
-        Access::NeedsTls => Ok(Access::NeedsTls),
-        Access::Everyone => Ok(Access::Everyone),
-        Access::AnyLogin => Ok(Access::AnyLogin),
-        Access::Roles(names) => Ok(Access::Roles(copied_texts(alloc, names.as_slice())?)),
     }
 }

@@ -1,3 +1,4 @@
+pub mod ReachLemmas
 pub mod OpenedLemmas
 pub mod OpenedSteps
 pub mod FindingLemmas

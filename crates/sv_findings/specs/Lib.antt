@@ -1,3 +1,4 @@
+pub mod Reach
 pub mod Dead
 pub mod Opened
 pub mod RoleFindings

@@ -1,5 +1,6 @@
 //! Theorems about findings, each the contract of a function that only calls other theorems.
 
+ghost use Rattle.sv_findings.specs.Reach.{ElsewhereIsForeign, HiddenIsProtected, ServedIsReached};
 ghost use Rattle.sv_findings.specs.FindingLaws.{DeadIsFound, FindingsAreRight, HeadIsFound, OpenedIsFound, UncoveredIsFound};
 
 use sv_mapping::laws::best_is_a_match;
@@ -28,3 +29,12 @@ pub fn findings_are_complete()
 {
     best_is_a_match();
 }
+
+/// Each path that a hidden pattern matches is protected. A target belongs to another context if its path within this one
+/// is matched by a pattern that is elsewhere. If the context serves a target and its path is not protected, each pattern
+/// that matches the path is reached.
+pub fn reach_is_right()
+    ensures hidden { HiddenIsProtected }
+    ensures elsewhere { ElsewhereIsForeign }
+    ensures reached { ServedIsReached }
+{}

@@ -8,8 +8,10 @@ mod findings;
 mod heads;
 mod laws;
 mod opened;
+mod reach;
 mod role_findings;
 
 pub use finding::Finding;
 pub use findings::findings_of;
-pub use laws::{findings_are_complete, findings_are_right};
+pub use laws::{findings_are_complete, findings_are_right, reach_is_right};
+pub use reach::{Reach, reach_by, reach_of};

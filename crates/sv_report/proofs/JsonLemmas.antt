@@ -6,7 +6,7 @@ use Rattle.serde_json.specs.Written.{has_float, items_have_float}
 use Rattle.sv_policy.specs.Covering.{method_names}
 use Rattle.sv_report.specs.FindingJson.{finding_members, finding_value}
 use Rattle.sv_report.specs.FindingWords.{kind_name}
-use Rattle.sv_report.specs.Json.{audit_value, context_value, group_value, named_viewer, row_value, viewer_enters, viewer_value}
+use Rattle.sv_report.specs.Json.{group_value, named_viewer, row_value, viewer_enters, viewer_value}
 use Rattle.sv_report.specs.JsonParts.{number_value, roles_in, strings, text_value, truth_value}
 use Rattle.sv_report.specs.Places.{line_of}
 use Rattle.sv_findings.specs.declared.finding.Finding.{Finding}
@@ -20,22 +20,22 @@ use Rattle.sv_audit.specs.declared.rows.Group.{Group}
 either : (a b : Bool) → a ≡ false → b ≡ false → (a || b) ≡ false
 either a b p q = ap₂ (λ x y. x || y) p q
 
-no_floats : {A : Type 0} (value : A → Data) → ((x : A) → has_float (value x) ≡ false) → (xs : List A) → items_have_float (items_of (map value xs)) ≡ false
+pub no_floats : {A : Type 0} (value : A → Data) → ((x : A) → has_float (value x) ≡ false) → (xs : List A) → items_have_float (items_of (map value xs)) ≡ false
 no_floats value none [] = refl
 no_floats value none (x ∷ xs) = either (has_float (value x)) (items_have_float (items_of (map value xs))) (none x) (no_floats value none xs)
 
-in_strings : (texts : List (List ℕ)) → has_float (strings texts) ≡ false
+pub in_strings : (texts : List (List ℕ)) → has_float (strings texts) ≡ false
 in_strings texts = no_floats string (λ text. refl) texts
 
 in_number : (n : Option ℕ) → has_float (number_value n) ≡ false
 in_number None = refl
 in_number (Some n) = refl
 
-in_text : (text : Option (List ℕ)) → has_float (text_value text) ≡ false
+pub in_text : (text : Option (List ℕ)) → has_float (text_value text) ≡ false
 in_text None = refl
 in_text (Some text) = refl
 
-in_truth : (holds : Option Bool) → has_float (truth_value holds) ≡ false
+pub in_truth : (holds : Option Bool) → has_float (truth_value holds) ≡ false
 in_truth None = refl
 in_truth (Some holds) = refl
 
@@ -47,7 +47,7 @@ in_group context group =
     (ap₂ (λ a b. a || b) (in_strings (method_names group.methods))
     (ap₂ (λ a b. a || (b || false)) (in_strings (roles_in group.cell.access)) (in_truth (viewer_enters context.viewer context.has_login group.cell.access)))))
 
-in_row : (context : ContextReport) (reported : ReportedRow) → has_float (row_value context reported) ≡ false
+pub in_row : (context : ContextReport) (reported : ReportedRow) → has_float (row_value context reported) ≡ false
 unfolding row_value
 in_row context reported =
     ap₂ (λ a b. a || b) (in_text reported.example)
@@ -55,7 +55,7 @@ in_row context reported =
     (ap₂ (λ a b. a || b) (in_strings reported.narrower.patterns)
     (ap₂ (λ a b. a || (b || false)) (in_text reported.row.pattern) (in_text reported.servlet))))
 
-in_viewer : (viewer : Option Viewer) → has_float (viewer_value viewer) ≡ false
+pub in_viewer : (viewer : Option Viewer) → has_float (viewer_value viewer) ≡ false
 unfolding named_viewer
 in_viewer None = refl
 in_viewer (Some viewer) = ap (λ a. a || false) (in_strings viewer.roles)
@@ -73,16 +73,6 @@ in_members is_accepted constraint line key kind (UnknownRole number role) = ap�
 in_members is_accepted constraint line key kind (UnheldRole role) = ap₂ (λ a b. a || (b || false)) (in_number constraint) (in_number line)
 in_members is_accepted constraint line key kind (UnusedRole role) = ap₂ (λ a b. a || (b || false)) (in_number constraint) (in_number line)
 
-in_finding : (lines : List (Option ℕ)) (reported : ReportedFinding) → has_float (finding_value lines reported) ≡ false
+pub in_finding : (lines : List (Option ℕ)) (reported : ReportedFinding) → has_float (finding_value lines reported) ≡ false
 unfolding finding_value
 in_finding lines reported = in_members reported.is_accepted reported.constraint (line_of lines reported.constraint) reported.key (kind_name reported.finding) reported.finding
-
-in_context : (context : ContextReport) → has_float (context_value context) ≡ false
-unfolding context_value
-in_context context =
-    ap₂ (λ a b. a || b) (no_floats (finding_value context.lines) (in_finding context.lines) context.findings)
-    (ap₂ (λ a b. a || (b || false)) (no_floats (row_value context) (in_row context) context.rows) (in_viewer context.viewer))
-
-pub in_audit : (contexts : List ContextReport) → has_float (audit_value contexts) ≡ false
-unfolding audit_value
-in_audit contexts = ap (λ a. a || false) (no_floats context_value in_context contexts)

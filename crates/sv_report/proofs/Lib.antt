@@ -1,1 +1,3 @@
 pub mod JsonLemmas
+pub mod JsonTexts
+pub mod FoldedLemmas

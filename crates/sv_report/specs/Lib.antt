@@ -1,6 +1,7 @@
 pub mod Escaped
 pub mod Parts
 pub mod Words
+pub mod Folded
 pub mod Places
 pub mod Viewers
 pub mod Details

@@ -1,9 +1,10 @@
 -- The text of access tables and their findings.
-use Rattle.std.specs.Prelude.{ℕ, ◌-◌, Bool, nat_lt, List, [], ◌∷◌, ◌++◌, codes, length, Option, replicate, if◌then◌else◌}
+use Rattle.std.specs.Prelude.{ℕ, ◌-◌, Bool, nat_lt, List, [], ◌∷◌, ◌++◌, chars, codes, length, Option, replicate, if◌then◌else◌}
 use Rattle.std.specs.List.{flat_map}
 use Rattle.sv_uri.specs.ContextPath.{shown_context}
 use Rattle.sv_report.specs.Details.{detail_line}
 use Rattle.sv_report.specs.Escaped.{escaped}
+use Rattle.sv_report.specs.Folded.{folded}
 use Rattle.sv_report.specs.FindingText.{finding_lines}
 use Rattle.sv_report.specs.Parts.{joined}
 use Rattle.sv_report.specs.Places.{constraint_text}
@@ -15,9 +16,12 @@ use Rattle.sv_report.specs.declared.report.ReportedRow.{ReportedRow}
 use Rattle.sv_report.specs.declared.report.Viewer.{Viewer}
 use Rattle.sv_audit.specs.declared.rows.Group.{Group}
 
--- The number of spaces after a text in a column of this width.
+abbrev pub gap_of : ℕ → ℕ → ℕ
+gap_of width used = if nat_lt used width then width - used else 2
+
+-- The number of spaces after a text in a column of this width, in characters.
 abbrev pub gap_after : ℕ → List ℕ → ℕ
-gap_after width text = if nat_lt (length text) width then width - length text else 2
+gap_after width text = gap_of width (length (chars text))
 
 abbrev pub padded : ℕ → List ℕ → List ℕ
 padded width text = text ++ replicate (gap_after width text) 32
@@ -62,6 +66,10 @@ context_text context =
     ++ flat_map (finding_lines context.file context.lines) context.findings
 
 -- The lines of contexts, with an empty line between two.
+abbrev pub contexts_text : List ContextReport → List ℕ
+contexts_text [] = []
+contexts_text (context ∷ contexts) = context_text context ++ flat_map (λ other. codes "\n" ++ context_text other) contexts
+
+-- The same with lines of at most 100 characters.
 abbrev pub audit_text : List ContextReport → List ℕ
-audit_text [] = []
-audit_text (context ∷ contexts) = context_text context ++ flat_map (λ other. codes "\n" ++ context_text other) contexts
+audit_text contexts = folded (contexts_text contexts)

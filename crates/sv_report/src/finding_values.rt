@@ -1,8 +1,7 @@
 //! Findings as JSON.
 
-ghost use Rattle.std.specs.Prelude.{◌≡◌, IfOk, OnOk, map};
-ghost use Rattle.serde_json.specs.Data.{array};
-ghost use Rattle.serde_json.specs.View.{items_of, members_view, view};
+ghost use Rattle.std.specs.Prelude.{◌≡◌, IfOk, OnOk};
+ghost use Rattle.serde_json.specs.View.{members_view, view};
 ghost use Rattle.sv_report.specs.FindingJson as spec;
 
 use crate::finding_words::kind_name;
@@ -16,22 +15,8 @@ use sv_constraints::Methods;
 use sv_findings::Finding;
 use sv_text::NoMemory;
 
-/// Returns findings as values. Constraints begin on `lines`.
-pub fn finding_values(
-    alloc: Global,
-    lines: &[Option<u64>],
-    findings: &[ReportedFinding],
-) -> Result<Value, NoMemory>
-    ensures { IfOk result (λ value. view value ≡ array (items_of (map (spec.finding_value lines.now) findings.now))) }
-{
-    let mut values = Vec::with_capacity(alloc, findings.len())?;
-    for finding in findings {
-        values.push(finding_value(alloc, lines, finding)?)?;
-    }
-    Ok(Value::Array(values))
-}
-
-fn finding_value(
+/// Returns a finding as a value. Constraints begin on `lines`.
+pub fn finding_value(
     alloc: Global,
     lines: &[Option<u64>],
     finding: &ReportedFinding,

@@ -6,6 +6,8 @@ pub mod escaped;
 mod finding_lines;
 mod finding_values;
 mod finding_words;
+mod folded_lines;
+mod json_text;
 mod json_words;
 mod keys;
 mod lines;
@@ -19,11 +21,16 @@ mod words;
 
 pub use details::detail_text;
 pub use finding_words::{heading, kind_name, problem_text, remedy};
+pub use folded_lines::{
+    LATER_WIDTH, LINE_WIDTH, folded, lines_of, parts_fit, parts_keep_characters,
+};
+pub use json_text::audit_json;
+pub use json_words::{are_excepted, enters, names_in, roles_in};
 pub use keys::keys_text;
 pub use lines::{METHODS_WIDTH, PATTERN_WIDTH, WHO_WIDTH, audit_text};
-pub use parts::joined;
+pub use members::{put_text, put_text_if, put_texts, put_truth, put_truth_if, put_value};
+pub use parts::{joined, push_all};
 pub use places::{constraint_text, number_text, place_text};
 pub use report::{ContextReport, ReportedFinding, ReportedRow, Viewer};
-pub use values::audit_json;
 pub use viewers::{entry_text, hidden_text, viewer_title};
-pub use words::{methods_text, pattern_text};
+pub use words::{methods_text, pattern_text, who_text};

@@ -1,6 +1,6 @@
 //! The text of access tables.
 
-ghost use Rattle.std.specs.Prelude.{◌≡◌, ◌++◌, [], OnOk, codes, replicate, string_bytes};
+ghost use Rattle.std.specs.Prelude.{◌≡◌, ◌++◌, [], OnOk, chars, codes, length, replicate, string_bytes};
 ghost use Rattle.std.specs.List.{flat_map};
 ghost use Rattle.sv_text.specs.Gives.{GivesAnswer};
 ghost use Rattle.sv_report.specs.Text as spec;
@@ -8,6 +8,7 @@ ghost use Rattle.sv_report.specs.Text as spec;
 use crate::details::detail_line;
 use crate::escaped::escaped;
 use crate::finding_lines::push_findings;
+use crate::folded_lines::folded;
 use crate::parts::push_all;
 use crate::places::constraint_text;
 use crate::report::{ContextReport, ReportedRow, Viewer};
@@ -18,13 +19,13 @@ use sv_audit::Group;
 use sv_text::{NoMemory, Text};
 use sv_uri::shown_context;
 
-/// The width of the column of patterns, in bytes.
+/// The width of the column of patterns, in characters.
 pub const PATTERN_WIDTH: usize = 28;
 
-/// The width of the column of methods, in bytes.
+/// The width of the column of methods, in characters.
 pub const METHODS_WIDTH: usize = 28;
 
-/// The width of the column of callers, in bytes.
+/// The width of the column of callers, in characters.
 pub const WHO_WIDTH: usize = 30;
 
 /// The columns of a line.
@@ -38,7 +39,7 @@ struct Columns<'a> {
 
 /// Returns the text of the access tables of contexts: a line for each group of methods, one for the example and the
 /// exceptions of each row, lines for the folders that are never served and for the login post, and two lines for each
-/// finding. Control characters are escaped.
+/// finding. Control characters are escaped, and no line has more than 100 characters (see `folded`).
 ///
 /// # Errors
 /// `NoMemory` if memory runs out.
@@ -47,7 +48,7 @@ pub fn audit_text(alloc: Global, contexts: &[ContextReport]) -> Result<Text, NoM
 {
     let mut text = String::new(alloc);
     push_contexts(&mut text, alloc, contexts)?;
-    Ok(Text::from_string(text))
+    folded(alloc, text.as_str())
 }
 
 fn push_contexts(
@@ -55,7 +56,7 @@ fn push_contexts(
     alloc: Global,
     contexts: &[ContextReport],
 ) -> Result<(), NoMemory>
-    ensures { OnOk result (string_bytes text.new ≡ string_bytes text.old ++ spec.audit_text contexts.now) }
+    ensures { OnOk result (string_bytes text.new ≡ string_bytes text.old ++ spec.contexts_text contexts.now) }
 {
     let Some((context, others)) = contexts.split_first() else {
         return Ok(());
@@ -279,11 +280,19 @@ fn push_padded(text: &mut String, column: &str, width: usize) -> Result<(), NoMe
 fn gap_after(width: usize, column: &str) -> usize
     ensures { result ≡ spec.gap_after width column.now }
 {
-    if column.len() < width {
-        width - column.len()
-    } else {
-        2
-    }
+    gap_of(width, character_count(column))
+}
+
+fn character_count(text: &str) -> usize
+    ensures { result ≡ length (chars text.now) }
+{
+    text.chars().count()
+}
+
+fn gap_of(width: usize, used: usize) -> usize
+    ensures { result ≡ spec.gap_of width used }
+{
+    if used < width { width - used } else { 2 }
 }
 
 fn push_spaces(text: &mut String, count: usize) -> Result<(), NoMemory>

@@ -1,12 +1,10 @@
-//! Access tables and their findings as JSON.
+//! Rows of access tables as JSON values.
 
-ghost use Rattle.std.specs.Prelude.{◌≡◌, IfOk, OnOk, codes, map};
-ghost use Rattle.serde_json.specs.Data.{array, put as with_member};
+ghost use Rattle.std.specs.Prelude.{◌≡◌, IfOk, OnOk, map};
+ghost use Rattle.serde_json.specs.Data.{array};
 ghost use Rattle.serde_json.specs.View.{items_of, members_view, view};
-ghost use Rattle.sv_text.specs.Gives.{GivesAnswer};
 ghost use Rattle.sv_report.specs.Json as spec;
 
-use crate::finding_values::finding_values;
 use crate::json_words::{are_excepted, because, enters, names_in, roles_in};
 use crate::members::{
     put_number, put_text, put_text_if, put_texts, put_truth, put_truth_if, put_value,
@@ -14,73 +12,13 @@ use crate::members::{
 use crate::places::line_of;
 use crate::report::{ContextReport, ReportedRow, Viewer};
 use crate::viewers::may_enter;
-use serde_json::{Map, Value, json};
+use serde_json::{Map, Value};
 use std::alloc::Global;
 use sv_audit::{Access, Group};
-use sv_text::{NoMemory, Text};
-use sv_uri::shown_context;
+use sv_text::NoMemory;
 
-/// Returns the access tables and the findings of contexts as one line of JSON (RFC 8259). The members of objects are in
-/// byte order of their names.
-///
-/// # Errors
-/// `NoMemory` if memory runs out.
-pub fn audit_json(alloc: Global, contexts: &[ContextReport]) -> Result<Text, NoMemory>
-    ensures { GivesAnswer result (spec.audit_json contexts.now) }
-{
-    let value = audit_value(alloc, contexts)?;
-    let mut text = value.to_string(alloc)?;
-    text.push_str("\n")?;
-    Ok(Text::from_string(text))
-}
-
-fn audit_value(alloc: Global, contexts: &[ContextReport]) -> Result<Value, NoMemory>
-    ensures { IfOk result (λ value. view value ≡ spec.audit_value contexts.now) }
-{
-    let contexts = context_values(alloc, contexts)?;
-    Ok(json!(in alloc; {"contexts": contexts})?)
-}
-
-fn context_values(alloc: Global, contexts: &[ContextReport]) -> Result<Value, NoMemory>
-    ensures { IfOk result (λ value. view value ≡ array (items_of (map spec.context_value contexts.now))) }
-{
-    let mut values = Vec::with_capacity(alloc, contexts.len())?;
-    for context in contexts {
-        values.push(context_value(alloc, context)?)?;
-    }
-    Ok(Value::Array(values))
-}
-
-fn context_value(alloc: Global, context: &ContextReport) -> Result<Value, NoMemory>
-    ensures { IfOk result (λ value. view value ≡ spec.context_value context.now) }
-{
-    let path = shown_context(context.path.as_str());
-    let viewer = viewer_value(alloc, &context.viewer)?;
-    let mut members = Map::new(alloc);
-    put_text(&mut members, alloc, "context", path)?;
-    put_text(&mut members, alloc, "file", context.file.as_str())?;
-    put_tables(&mut members, alloc, context)?;
-    put_truth(&mut members, alloc, "login", context.has_login)?;
-    put_value(&mut members, alloc, "viewer", viewer)?;
-    Ok(Value::Object(members))
-}
-
-/// Puts the findings and the rows.
-fn put_tables(
-    members: &mut Map<String, Value>,
-    alloc: Global,
-    context: &ContextReport,
-) -> Result<(), NoMemory>
-    ensures { OnOk result (members_view members.new.entries ≡
-        with_member (codes "rows") (spec.rows_value context.now) (with_member (codes "findings") (spec.findings_value context.now) (members_view members.old.entries))) }
-{
-    let findings = finding_values(alloc, context.lines.as_slice(), context.findings.as_slice())?;
-    put_value(members, alloc, "findings", findings)?;
-    let rows = row_values(alloc, context, context.rows.as_slice())?;
-    put_value(members, alloc, "rows", rows)
-}
-
-fn viewer_value(alloc: Global, viewer: &Option<Viewer>) -> Result<Value, NoMemory>
+/// Returns the viewer as a value, or null.
+pub fn viewer_value(alloc: Global, viewer: &Option<Viewer>) -> Result<Value, NoMemory>
     ensures { IfOk result (λ value. view value ≡ spec.viewer_value viewer.now) }
 {
     match viewer {
@@ -98,21 +36,12 @@ fn named_viewer(alloc: Global, viewer: &Viewer) -> Result<Value, NoMemory>
     Ok(Value::Object(members))
 }
 
-fn row_values(
+/// Returns a row as a value.
+pub fn row_value(
     alloc: Global,
     context: &ContextReport,
-    rows: &[ReportedRow],
+    row: &ReportedRow,
 ) -> Result<Value, NoMemory>
-    ensures { IfOk result (λ value. view value ≡ array (items_of (map (spec.row_value context.now) rows.now))) }
-{
-    let mut values = Vec::with_capacity(alloc, rows.len())?;
-    for row in rows {
-        values.push(row_value(alloc, context, row)?)?;
-    }
-    Ok(Value::Array(values))
-}
-
-fn row_value(alloc: Global, context: &ContextReport, row: &ReportedRow) -> Result<Value, NoMemory>
     ensures { IfOk result (λ value. view value ≡ spec.row_value context.now row.now) }
 {
     let groups = group_values(alloc, context, row.row.groups.as_slice())?;

@@ -1,0 +1,2 @@
+pub mod FloatLemmas
+pub mod ServerLemmas

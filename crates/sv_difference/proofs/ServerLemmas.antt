@@ -1,0 +1,264 @@
+-- Servers answer alike if nothing differs by the report, and each reported difference changes outcomes.
+use Rattle.std.proofs.lemmas.Bool.{and_from, and_parts, false≢true}
+use Rattle.std.proofs.lemmas.List.Elements.{All-head, All-tail}
+use Rattle.std.proofs.Common.{◌≡◌, ℕ, Bool, true, false, not, ◌&&◌, ◌||◌, List, [], ◌∷◌, length, refl, ap, ap₂, sym, ◌∙◌, cond, inl, inr, Option, None, Some, is_none, is_some}
+use Rattle.std.specs.Prelude.{All, filter, find, nat_lt}
+use Rattle.std.specs.Cmp.{both_ways}
+use Rattle.std.specs.List.{list_any}
+use Rattle.std.specs.Option.{option_map, option_map_or}
+use Rattle.std.specs.Str.{bytes_eq}
+use Rattle.sv_mapping.specs.BestMatch.{BestIsAMatch, best_pattern}
+use Rattle.sv_mapping.specs.Chosen.{IsUnique, is_chosen}
+use Rattle.sv_mapping.specs.Pattern.{is_at_or_below}
+use Rattle.sv_mapping.specs.Protected.{is_protected}
+use Rattle.sv_mapping.specs.Within.{path_within}
+use Rattle.sv_mapping.proofs.Tried.{In, In-left, In-map, In-right}
+use Rattle.sv_realm.specs.declared.caller.Caller.{Caller}
+use Rattle.sv_constraints.specs.Covering.{all_patterns, covers_method, lists}
+use Rattle.sv_policy.proofs.Best.{any_listed, found_in}
+use Rattle.sv_audit.proofs.DifferenceLemmas.{decisions_apart, decisions_same, in_kept, kept_in, same_decision}
+use Rattle.sv_audit.proofs.DifferentCells.{all_from, found_any, in_along}
+use Rattle.sv_audit.proofs.MeetingLemmas.{same_decides}
+use Rattle.sv_audit.proofs.NarrowerLemmas.{contains}
+use Rattle.sv_audit.proofs.Represented.{in_listed}
+use Rattle.sv_audit.specs.DifferenceLaws.{Configuration, DifferencesAreComplete, DifferencesAreRight, IsRight, best_of, differences_of, fate_of, is_of}
+use Rattle.sv_audit.specs.Reading.{Kind, Passes, ServedPathsAreRooted, is_same}
+use Rattle.sv_audit.specs.declared.difference.Difference.{Difference}
+use Rattle.sv_findings.specs.Reach.{ServedIsReached, chosen_path}
+use Rattle.sv_difference.specs.ServerDifference.{compared_paths, context_at, difference_at, differences_between, is_reached, paths_of, row_is_reached, rows_are_reached, server_difference, shown_side}
+use Rattle.sv_difference.specs.ServerLaws.{ChangesOutcomes, HasFate, HaveUrlPatterns, IsHidden, IsUnchanged, LoginTest, LogsIn, NoContext, Outcome, ReportedDifferencesAreRight, UnchangedHaveSameOutcomes, configuration_of, outcome, outcome_at, outcome_in}
+use Rattle.sv_difference.specs.declared.contexts.ComparedContext.{ComparedContext}
+use Rattle.sv_difference.specs.declared.contexts.ContextSide.{ContextSide}
+
+-- ---- Lists.
+all_in : {X : Type 0} (P : X → Type 0) (x : X) (xs : List X) → All P xs → In x xs → P x
+all_in P x [] all there = absurd there
+all_in P x (y ∷ ys) all (inl same) = rw same (All-head P y ys all)
+all_in P x (y ∷ ys) all (inr later) = all_in P x ys (All-tail P y ys all) later
+
+some_at : (passes : Bool) (x : List ℕ) (rest : Option (List ℕ)) (some : Bool) → is_some rest ≡ some → is_some (cond passes (Some x) rest) ≡ (passes || some)
+some_at true x rest some is = refl
+some_at false x rest some is = is
+
+some_found : (test : List ℕ → Bool) (xs : List (List ℕ)) → is_some (find test xs) ≡ list_any test xs
+some_found test [] = refl
+some_found test (x ∷ xs) = some_at (test x) x (find test xs) (list_any test xs) (some_found test xs)
+
+found_alike : (p q : List ℕ → Bool) → ((x : List ℕ) → p x ≡ q x) → (xs : List (List ℕ)) → find p xs ≡ find q xs
+found_alike p q same [] = refl
+found_alike p q same (x ∷ xs) = ap₂ (λ b rest. cond b (Some x) rest) (same x) (found_alike p q same xs)
+
+-- If only one text can pass, lists of the same texts have the same first text that passes.
+only_found : (test : List ℕ → Bool) (xs others : List (List ℕ)) (a b : Option (List ℕ)) → find test xs ≡ a → find test others ≡ b → ((text : List ℕ) → lists xs text ≡ lists others text)
+    → ((x y : List ℕ) → lists xs x ≡ true → lists xs y ≡ true → test x ≡ true → test y ≡ true → x ≡ y) → a ≡ b
+only_found test xs others None None at there same one = refl
+only_found test xs others None (Some y) at there same one =
+    absurd (false≢true (sym (ap is_some at) ∙ (some_found test xs ∙ (any_listed test xs others same ∙ (sym (some_found test others) ∙ ap is_some there)))))
+only_found test xs others (Some x) None at there same one =
+    absurd (false≢true (sym (ap is_some there) ∙ (some_found test others ∙ (sym (any_listed test xs others same) ∙ (sym (some_found test xs) ∙ ap is_some at)))))
+only_found test xs others (Some x) (Some y) at there same one =
+    ap Some (one x y (found_in test xs x at).1 (same y ∙ (found_in test others y there).1) (found_in test xs x at).0 (found_in test others y there).0)
+
+-- ---- Options.
+mapped_some : {X Y : Type 0} (f : X → Y) (from : Option X) (y : Y) → option_map f from ≡ Some y → is_some from ≡ true
+mapped_some f None y is = absurd (false≢true (ap is_some is))
+mapped_some f (Some x) y is = refl
+
+none_or_some : {X : Type 0} (from : Option X) → is_none from ≡ false → is_some from ≡ true
+none_or_some None is = absurd (false≢true (sym is))
+none_or_some (Some x) is = refl
+
+abbrev login_in : Option ContextSide → Bool
+login_in None = false
+login_in (Some side) = side.has_login
+
+-- ---- The contexts with a path.
+listed_at : (contexts : List ComparedContext) (path : List ℕ) → lists (paths_of contexts) path ≡ is_some (context_at contexts path)
+listed_at [] path = refl
+listed_at (context ∷ contexts) path = go (bytes_eq context.path path) (listed_at contexts path)
+  where
+    go : (b : Bool) → lists (paths_of contexts) path ≡ is_some (context_at contexts path) → (b || lists (paths_of contexts) path) ≡ is_some (cond b (Some context) (context_at contexts path))
+    go true below = refl
+    go false below = below
+
+-- ---- Rows that a served path is in are reached.
+row_reached : BestIsAMatch → ServedIsReached → (contexts patterns : List (List ℕ)) (context path : List ℕ) → is_chosen contexts path context ≡ true → is_protected (path_within context path) ≡ false
+    → (best : Option (List ℕ)) → best_pattern patterns (path_within context path) ≡ best → row_is_reached contexts context best ≡ true
+row_reached matched reached contexts patterns context path chosen shown None is = refl
+row_reached matched reached contexts patterns context path chosen shown (Some pattern) is =
+    ap is_reached (reached contexts context pattern path chosen shown (matched patterns (path_within context path) pattern is).1)
+
+module _ (befores afters : List ComparedContext) (its_path : List ℕ) (before after : ComparedContext) (at : context_at befores its_path ≡ Some before) (there : context_at afters its_path ≡ Some after) where
+  abbrev one : Configuration
+  one = configuration_of before
+
+  abbrev other : Configuration
+  other = configuration_of after
+
+  abbrev kept : List Difference
+  kept = filter (rows_are_reached (paths_of befores) (paths_of afters) its_path) (differences_of one other)
+
+  are_kept : (difference_at befores afters its_path).differences ≡ kept
+  are_kept = ap₂ (λ a b. differences_between befores afters its_path a b) at there
+
+-- ---- If nothing differs by the report.
+module _ (complete : DifferencesAreComplete) (matched : BestIsAMatch) (reached : ServedIsReached) (rooted : ServedPathsAreRooted) (unique : IsUnique) (befores afters : List ComparedContext) (befores_url : HaveUrlPatterns befores)
+    (afters_url : HaveUrlPatterns afters) (unchanged : All IsUnchanged (server_difference befores afters).contexts) where
+  is_unchanged : (path : List ℕ) → In path (compared_paths befores afters) → IsUnchanged (difference_at befores afters path)
+  is_unchanged path there =
+      all_in IsUnchanged (difference_at befores afters path) (server_difference befores afters).contexts unchanged (In-map (difference_at befores afters) path (compared_paths befores afters) there)
+
+  in_first : (path : List ℕ) → lists (paths_of befores) path ≡ true → In path (compared_paths befores afters)
+  in_first path there = In-left path (paths_of befores) (filter (λ it. is_none (context_at befores it)) (paths_of afters)) (in_listed (paths_of befores) path there)
+
+  has_after : (path : List ℕ) → lists (paths_of befores) path ≡ true → lists (paths_of afters) path ≡ true
+  has_after path there =
+      let it = is_unchanged path (in_first path there) in
+      listed_at afters path ∙ mapped_some shown_side (context_at afters path) it.other it.becomes
+
+  has_before : (path : List ℕ) → lists (paths_of afters) path ≡ true → lists (paths_of befores) path ≡ true
+  has_before path there = go (is_none (context_at befores path)) refl
+    where
+      go : (none : Bool) → is_none (context_at befores path) ≡ none → lists (paths_of befores) path ≡ true
+      go true is =
+          let it = is_unchanged path
+          (In-right path (paths_of befores) (filter (λ it. is_none (context_at befores it)) (paths_of afters)) (in_kept (λ it. is_none (context_at befores it)) path (paths_of afters) (in_listed (paths_of afters) path there) is)) in
+          listed_at befores path ∙ mapped_some shown_side (context_at befores path) it.one it.was
+      go false is = listed_at befores path ∙ none_or_some (context_at befores path) is
+
+  same_paths : (path : List ℕ) → lists (paths_of befores) path ≡ lists (paths_of afters) path
+  same_paths path = both_ways (lists (paths_of befores) path) (lists (paths_of afters) path) (has_after path) (has_before path)
+
+  same_chosen : (path : List ℕ) → chosen_path (paths_of befores) path ≡ chosen_path (paths_of afters) path
+  same_chosen path =
+      only_found (is_chosen (paths_of befores) path) (paths_of befores) (paths_of afters) (find (is_chosen (paths_of befores) path) (paths_of befores)) (find (is_chosen (paths_of befores) path) (paths_of afters)) refl refl same_paths
+      (λ x y x_in y_in. unique (paths_of befores) path x y (contains (paths_of befores) x x_in) (contains (paths_of befores) y y_in))
+      ∙ found_alike (is_chosen (paths_of befores) path) (is_chosen (paths_of afters) path)
+      (λ x. ap (λ b. is_at_or_below x path && not b) (any_listed (λ it. is_at_or_below it path && nat_lt (length x) (length it)) (paths_of befores) (paths_of afters) same_paths)) (paths_of afters)
+
+  module _ (logs_in : LoginTest) (method path : List ℕ) (visitor : Option Caller) where
+    module _ (its_path : List ℕ) (before after : ComparedContext) (is_before : context_at befores its_path ≡ Some before) (is_after : context_at afters its_path ≡ Some after)
+        (chosen : is_chosen (paths_of befores) path its_path ≡ true) (taken : is_chosen (paths_of afters) path its_path ≡ true) (its : IsUnchanged (difference_at befores afters its_path)) where
+      abbrev within : List ℕ
+      within = path_within its_path path
+
+      abbrev first : Configuration
+      first = configuration_of before
+
+      abbrev second : Configuration
+      second = configuration_of after
+
+      same_login : before.has_login ≡ after.has_login
+      same_login =
+          ap login_in (sym (ap (option_map shown_side) is_before) ∙ its.was) ∙ (its.login ∙ ap login_in (sym its.becomes ∙ ap (option_map shown_side) is_after))
+
+      none_missed : is_protected within ≡ false → (difference : Difference) → In difference (differences_of first second) → is_of first second method within difference ≡ true → ⊥
+      none_missed shown difference there of =
+          let outer = and_parts (is_same difference.before (best_of first within) && is_same difference.after (best_of second within)) (covers_method difference.methods method) of in
+          let rows = and_parts (is_same difference.before (best_of first within)) (is_same difference.after (best_of second within)) outer.0 in
+          let kept_there : In difference (kept befores afters its_path before after is_before is_after) =
+          in_kept (rows_are_reached (paths_of befores) (paths_of afters) its_path) difference (differences_of first second) there
+          (and_from (row_is_reached (paths_of befores) its_path difference.before) (row_is_reached (paths_of afters) its_path difference.after)
+          (row_reached matched reached (paths_of befores) (all_patterns before.constraints) its_path path chosen shown difference.before (sym (same_decides difference.before (best_of first within) rows.0)))
+          (row_reached matched reached (paths_of afters) (all_patterns after.constraints) its_path path taken shown difference.after (sym (same_decides difference.after (best_of second within) rows.1)))) in
+          in_along (kept befores afters its_path before after is_before is_after) [] difference (sym (are_kept befores afters its_path before after is_before is_after) ∙ its.none) kept_there
+
+      same_fate : is_protected within ≡ false → fate_of first method within visitor ≡ fate_of second method within visitor
+      same_fate shown = go (same_decision (fate_of first method within visitor) (fate_of second method within visitor)) refl
+        where
+          go : (same : Bool) → same_decision (fate_of first method within visitor) (fate_of second method within visitor) ≡ same → fate_of first method within visitor ≡ fate_of second method within visitor
+          go true is = decisions_same (fate_of first method within visitor) (fate_of second method within visitor) is
+          go false is =
+              let missed = found_any (is_of first second method within) (differences_of first second)
+              (complete first second method within visitor (befores_url before its_path is_before) (afters_url after its_path is_after) (rooted its_path path (and_parts _ _ chosen).0)
+              (decisions_apart (fate_of first method within visitor) (fate_of second method within visitor) is)) in
+              absurd (none_missed shown missed.0 missed.1 missed.2)
+
+      same_answer : (hidden : Bool) → is_protected within ≡ hidden → cond hidden IsHidden (HasFate (fate_of first method within visitor)) ≡ cond hidden IsHidden (HasFate (fate_of second method within visitor))
+      same_answer true is = refl
+      same_answer false is = ap HasFate (same_fate is)
+
+      same_in : outcome_in logs_in before its_path method path visitor ≡ outcome_in logs_in after its_path method path visitor
+      same_in = ap₂ (λ (has_login : Bool) (rest : Outcome). cond (has_login && logs_in method path) LogsIn rest) same_login (same_answer (is_protected within) refl)
+
+    same_at : (its_path : List ℕ) → chosen_path (paths_of befores) path ≡ Some its_path → outcome_at logs_in befores method path visitor its_path ≡ outcome_at logs_in afters method path visitor its_path
+    same_at its_path is = go (context_at befores its_path) (context_at afters its_path) refl refl
+      where
+        chosen : (is_chosen (paths_of befores) path its_path ≡ true) × (lists (paths_of befores) its_path ≡ true)
+        chosen = found_in (is_chosen (paths_of befores) path) (paths_of befores) its_path is
+
+        taken : (is_chosen (paths_of afters) path its_path ≡ true) × (lists (paths_of afters) its_path ≡ true)
+        taken = found_in (is_chosen (paths_of afters) path) (paths_of afters) its_path (sym (same_chosen path) ∙ is)
+
+        go : (a b : Option ComparedContext) → context_at befores its_path ≡ a → context_at afters its_path ≡ b
+            → option_map_or (λ context. outcome_in logs_in context its_path method path visitor) a NoContext ≡ option_map_or (λ context. outcome_in logs_in context its_path method path visitor) b NoContext
+        go None b is_before is_after = absurd (false≢true (sym (listed_at befores its_path ∙ ap is_some is_before) ∙ chosen.1))
+        go (Some before) None is_before is_after = absurd (false≢true (sym (listed_at afters its_path ∙ ap is_some is_after) ∙ taken.1))
+        go (Some before) (Some after) is_before is_after =
+            same_in its_path before after is_before is_after chosen.0 taken.0 (is_unchanged its_path (in_first its_path chosen.1))
+
+    same_outcome : outcome logs_in befores method path visitor ≡ outcome logs_in afters method path visitor
+    same_outcome =
+        go (chosen_path (paths_of befores) path) refl ∙ ap (λ chosen. option_map_or (outcome_at logs_in afters method path visitor) chosen NoContext) (same_chosen path)
+      where
+        go : (chosen : Option (List ℕ)) → chosen_path (paths_of befores) path ≡ chosen
+            → option_map_or (outcome_at logs_in befores method path visitor) chosen NoContext ≡ option_map_or (outcome_at logs_in afters method path visitor) chosen NoContext
+        go None is = refl
+        go (Some its_path) is = same_at its_path is
+
+pub same_outcomes : DifferencesAreComplete → BestIsAMatch → ServedIsReached → ServedPathsAreRooted → IsUnique → UnchangedHaveSameOutcomes
+same_outcomes complete matched reached rooted unique befores afters befores_url afters_url unchanged logs_in target canon method visitor given =
+    same_outcome complete matched reached rooted unique befores afters befores_url afters_url unchanged logs_in method canon.path visitor
+
+-- ---- Each reported difference.
+abbrev fate_in : Outcome → Kind
+fate_in NoContext = Passes
+fate_in LogsIn = Passes
+fate_in IsHidden = Passes
+fate_in (HasFate kind) = kind
+
+no_login : (has_login : Bool) (answer : Outcome) → cond (has_login && false) LogsIn answer ≡ answer
+no_login true answer = refl
+no_login false answer = refl
+
+module _ (logs_in : LoginTest) (contexts : List ComparedContext) (its_path : List ℕ) (context : ComparedContext) (method path : List ℕ) (visitor : Option Caller) (at : context_at contexts its_path ≡ Some context)
+    (chosen : chosen_path (paths_of contexts) path ≡ Some its_path) (shown : is_protected (path_within its_path path) ≡ false) (decided : logs_in method path ≡ false) where
+  fated : outcome logs_in contexts method path visitor ≡ HasFate (fate_of (configuration_of context) method (path_within its_path path) visitor)
+  fated =
+      ap (λ found. option_map_or (outcome_at logs_in contexts method path visitor) found NoContext) chosen
+      ∙ (ap (λ found. option_map_or (λ (it : ComparedContext). outcome_in logs_in it its_path method path visitor) found NoContext) at
+      ∙ (ap₂ (λ (logs hidden : Bool). cond (context.has_login && logs) LogsIn (cond hidden IsHidden (HasFate (fate_of (configuration_of context) method (path_within its_path path) visitor)))) decided shown
+      ∙ no_login context.has_login (HasFate (fate_of (configuration_of context) method (path_within its_path path) visitor))))
+
+module _ (right : DifferencesAreRight) (befores afters : List ComparedContext) (its_path : List ℕ) (before after : ComparedContext) (befores_url : HaveUrlPatterns befores) (afters_url : HaveUrlPatterns afters)
+    (at : context_at befores its_path ≡ Some before) (there : context_at afters its_path ≡ Some after) where
+  abbrev first_side : Configuration
+  first_side = configuration_of before
+
+  abbrev second_side : Configuration
+  second_side = configuration_of after
+
+  changes : (difference : Difference) → IsRight first_side second_side difference → ChangesOutcomes befores afters its_path first_side second_side difference
+  changes difference is = (
+    is.differs.0,
+    λ logs_in method path served same.
+        is.differs.1 method (path_within its_path path) served.is_of
+        (ap fate_in
+        (sym (fated logs_in befores its_path before method path is.differs.0 at served.chosen_before served.shown served.decided)
+        ∙ (same ∙ fated logs_in afters its_path after method path is.differs.0 there served.chosen_after served.shown served.decided))),
+  )
+
+  right_at : (difference : Difference) → In difference (difference_at befores afters its_path).differences → IsRight first_side second_side difference × ChangesOutcomes befores afters its_path first_side second_side difference
+  right_at difference found =
+      let is : IsRight first_side second_side difference =
+      all_in (IsRight first_side second_side) difference (differences_of first_side second_side) (right first_side second_side (befores_url before its_path at) (afters_url after its_path there))
+      (kept_in (rows_are_reached (paths_of befores) (paths_of afters) its_path) difference (differences_of first_side second_side)
+      (in_along (difference_at befores afters its_path).differences (kept befores afters its_path before after at there) difference (are_kept befores afters its_path before after at there) found)) in
+      (is, changes difference is)
+
+  all_right : All (λ difference. IsRight first_side second_side difference × ChangesOutcomes befores afters its_path first_side second_side difference) (difference_at befores afters its_path).differences
+  all_right =
+      all_from (λ difference. IsRight first_side second_side difference × ChangesOutcomes befores afters its_path first_side second_side difference) (difference_at befores afters its_path).differences right_at
+
+pub reported_right : DifferencesAreRight → ReportedDifferencesAreRight
+reported_right right befores afters path before after befores_url afters_url at there = all_right right befores afters path before after befores_url afters_url at there

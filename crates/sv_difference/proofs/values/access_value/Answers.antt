@@ -1,0 +1,8 @@
+use Rattle.std.proofs.Common.{rules}
+use Rattle.serde_json.specs.declared.value.Value.{the_lemmas}
+use Rattle.sv_difference.specs.DifferenceJson.{access_value}
+use Rattle.sv_difference.proofs.values.access_value.Goals as goal
+
+pub returns : goal.returns
+unfolding access_value
+returns c = search (rules, the_lemmas)

@@ -1,0 +1,4 @@
+pub mod ServerDifference
+pub mod DifferenceText
+pub mod DifferenceJson
+pub mod ServerLaws

@@ -1,0 +1,29 @@
+//! Theorems about reports, each the contract of a function that only calls other theorems.
+
+ghost use Rattle.sv_difference.specs.ServerLaws.{ReportedDifferencesAreRight, UnchangedHaveSameOutcomes};
+
+use sv_audit::{differences_are_complete, differences_are_right, served_paths_are_rooted};
+use sv_findings::reach_is_right;
+use sv_mapping::laws::{best_is_a_match, the_chosen_context_path_is_unique};
+
+/// If a report says that nothing differs, each request of each visitor has the same outcome with both servers: the same
+/// context serves it or none does, it logs in, it is for a hidden folder, or it passes, leads to a login or is denied.
+pub fn unchanged_have_same_outcomes()
+    ensures { UnchangedHaveSameOutcomes }
+{
+    best_is_a_match();
+    differences_are_complete();
+    reach_is_right();
+    served_paths_are_rooted();
+    the_chosen_context_path_is_unique();
+}
+
+/// Each difference of a report says what the constraints of both contexts decide. There is a visitor for whom each of
+/// its requests has another outcome before than after, if the contexts serve the request, it does not log in, and it is
+/// not for a hidden folder. Whether clients can send such a request is not part of this theorem: only a row that is
+/// hidden, or belongs to another context, is known to have none.
+pub fn reported_differences_are_right()
+    ensures { ReportedDifferencesAreRight }
+{
+    differences_are_right();
+}

@@ -1,0 +1,16 @@
+//! What two configurations of a server decide differently (Jakarta Servlet 6.0, sections 12.1, 13.6 and 13.8): a report
+//! on the contexts of both, as text and as JSON.
+#![tactic(auto)]
+
+mod comparison;
+mod contexts;
+mod laws;
+mod lines;
+mod reached_rows;
+mod values;
+
+pub use comparison::server_difference;
+pub use contexts::{ComparedContext, ContextDifference, ContextSide, ServerDifference};
+pub use laws::{reported_differences_are_right, unchanged_have_same_outcomes};
+pub use lines::difference_text;
+pub use values::difference_json;

@@ -1,0 +1,125 @@
+-- The text of JSON, value by value.
+use Rattle.std.proofs.Common.{rules, ◌≡◌, ℕ, false, true, List, [], ◌∷◌, ◌++◌, ◌∙◌, codes, map, refl, sym, ap, Result, Ok, Err, OnOk}
+use Rattle.std.proofs.lemmas.List.{append_assoc}
+use Rattle.std.specs.List.{flat_map}
+use Rattle.serde_json.specs.Data.{Data, array, object, boolean, string, member, no_members}
+use Rattle.serde_json.specs.View.{items_of}
+use Rattle.serde_json.specs.Written.{compact_text, has_float, items_text}
+use Rattle.sv_uri.specs.ContextPath.{shown_context}
+use Rattle.sv_report.specs.Json.{audit_value, context_value, findings_value, rows_value, viewer_value}
+use Rattle.sv_report.specs.declared.report.ContextReport.{ContextReport}
+use Rattle.sv_text.specs.declared.no_memory.NoMemory.{NoMemory}
+use Rattle.serde_json.proofs.OnLiterals.{serde_json_on_literals}
+
+-- A value that is appended as another one without floats.
+pub written : {A : Type 0} (result : Result A NoMemory) (old new : List ℕ) (d e : Data) → d ≡ e → has_float e ≡ false
+    → OnOk result (has_float d ≡ false → new ≡ old ++ compact_text d) → OnOk result (new ≡ old ++ compact_text e)
+written (Ok a) old new d e same none h = h (ap has_float same ∙ none) ∙ ap (λ value. old ++ compact_text value) same
+written (Err fault) old new d e same none h = tt
+
+later_items : {A : Type 0} (value : A → Data) (xs : List A)
+    → items_text true (items_of (map value xs)) ≡ flat_map (λ x. codes "," ++ compact_text (value x)) xs ++ codes "]"
+later_items value [] = refl
+later_items value (x ∷ xs) = ap (λ rest. 44 ∷ (compact_text (value x) ++ rest)) (later_items value xs) ∙ sym (append_assoc (44 ∷ compact_text (value x)) (flat_map (λ y. codes "," ++ compact_text (value y)) xs) (codes "]"))
+
+-- The items of a list, each but the first after a comma.
+pub list_text : {A : Type 0} (value : A → Data) (x : A) (xs : List A)
+    → compact_text (array (items_of (map value (x ∷ xs)))) ≡ codes "[" ++ (compact_text (value x) ++ (flat_map (λ y. codes "," ++ compact_text (value y)) xs ++ codes "]"))
+list_text value x xs = ap (λ rest. 91 ∷ (compact_text (value x) ++ rest)) (later_items value xs)
+
+grouped : (a x b y c rest : List ℕ) → a ++ (x ++ (b ++ (y ++ (c ++ rest)))) ≡ (a ++ x ++ b ++ y ++ c) ++ rest
+grouped a x b y c rest = search (rules, append_assoc)
+
+grouped_three : (a x b rest : List ℕ) → a ++ (x ++ (b ++ rest)) ≡ (a ++ x ++ b) ++ rest
+grouped_three a x b rest = search (rules, append_assoc)
+
+abbrev start_text : ContextReport → List ℕ
+start_text context =
+    codes "{\"context\":" ++ compact_text (string (shown_context context.path)) ++ codes ",\"file\":" ++ compact_text (string context.file) ++ codes ",\"findings\":"
+
+abbrev login_text : ContextReport → List ℕ
+login_text context = codes ",\"login\":" ++ compact_text (boolean context.has_login) ++ codes ",\"rows\":"
+
+abbrev end_text : ContextReport → List ℕ
+end_text context = codes ",\"viewer\":" ++ compact_text (viewer_value context.viewer) ++ codes "}"
+
+members_of : (path file findings login rows viewer : Data)
+    → compact_text (object (member (codes "context") path (member (codes "file") file (member (codes "findings") findings
+    (member (codes "login") login (member (codes "rows") rows (member (codes "viewer") viewer no_members)))))))
+    ≡ codes "{\"context\":" ++ (compact_text path ++ (codes ",\"file\":" ++ (compact_text file ++ (codes ",\"findings\":" ++ (compact_text findings
+    ++ (codes ",\"login\":" ++ (compact_text login ++ (codes ",\"rows\":" ++ (compact_text rows ++ (codes ",\"viewer\":" ++ (compact_text viewer ++ codes "}")))))))))))
+unfolding serde_json_on_literals
+members_of path file findings login rows viewer = refl
+
+-- The text of a context.
+context_text : (context : ContextReport)
+    → compact_text (context_value context) ≡ start_text context ++ (compact_text (findings_value context) ++ (login_text context ++ (compact_text (rows_value context) ++ end_text context)))
+unfolding context_value
+context_text context =
+    members_of (string (shown_context context.path)) (string context.file) (findings_value context) (boolean context.has_login) (rows_value context) (viewer_value context.viewer)
+    ∙ of_parts (compact_text (string (shown_context context.path))) (compact_text (string context.file)) (compact_text (findings_value context)) (compact_text (boolean context.has_login))
+    (compact_text (rows_value context)) (compact_text (viewer_value context.viewer))
+  where
+    of_parts : (path file findings login rows viewer : List ℕ)
+        → codes "{\"context\":" ++ (path ++ (codes ",\"file\":" ++ (file ++ (codes ",\"findings\":" ++ (findings ++ (codes ",\"login\":" ++ (login ++ (codes ",\"rows\":"
+        ++ (rows ++ (codes ",\"viewer\":" ++ (viewer ++ codes "}")))))))))))
+        ≡ (codes "{\"context\":" ++ path ++ codes ",\"file\":" ++ file ++ codes ",\"findings\":") ++ (findings ++ ((codes ",\"login\":" ++ login ++ codes ",\"rows\":")
+        ++ (rows ++ (codes ",\"viewer\":" ++ viewer ++ codes "}"))))
+    of_parts path file findings login rows viewer =
+        grouped (codes "{\"context\":") path (codes ",\"file\":") file (codes ",\"findings\":") _
+        ∙ ap (λ rest. (codes "{\"context\":" ++ path ++ codes ",\"file\":" ++ file ++ codes ",\"findings\":") ++ (findings ++ rest))
+        (grouped_three (codes ",\"login\":") login (codes ",\"rows\":") _)
+
+audit_text : (contexts : List ContextReport)
+    → compact_text (audit_value contexts) ++ codes "\n" ≡ codes "{\"contexts\":" ++ (compact_text (array (items_of (map context_value contexts))) ++ codes "}" ++ codes "\n")
+unfolding audit_value serde_json_on_literals
+audit_text contexts = refl
+
+-- Two texts that were appended one after another.
+step : (old mid new a b : List ℕ) → mid ≡ old ++ a → new ≡ mid ++ b → new ≡ old ++ (a ++ b)
+step old mid new a b p q = q ∙ ap (λ text. text ++ b) p ∙ append_assoc old a b
+
+four : (t0 t1 t2 t3 t4 a b c d : List ℕ) → t1 ≡ t0 ++ a → t2 ≡ t1 ++ b → t3 ≡ t2 ++ c → t4 ≡ t3 ++ d → t4 ≡ t0 ++ (a ++ (b ++ (c ++ d)))
+four t0 t1 t2 t3 t4 a b c d p q r s = step t0 t1 t4 a (b ++ (c ++ d)) p (step t1 t2 t4 b (c ++ d) q (step t2 t3 t4 c d r s))
+
+five : (t0 t1 t2 t3 t4 t5 a b c d e : List ℕ) → t1 ≡ t0 ++ a → t2 ≡ t1 ++ b → t3 ≡ t2 ++ c → t4 ≡ t3 ++ d → t5 ≡ t4 ++ e
+    → t5 ≡ t0 ++ (a ++ (b ++ (c ++ (d ++ e))))
+five t0 t1 t2 t3 t4 t5 a b c d e p q r s t = step t0 t1 t5 a (b ++ (c ++ (d ++ e))) p (four t1 t2 t3 t4 t5 b c d e q r s t)
+
+-- A list whose items were appended one by one.
+pub listed : {A : Type 0} (value : A → Data) (x : A) (xs all : List A) (old one two three new : List ℕ) → all ≡ x ∷ xs
+    → one ≡ old ++ codes "[" → two ≡ one ++ compact_text (value x) → three ≡ two ++ flat_map (λ y. codes "," ++ compact_text (value y)) xs
+    → new ≡ three ++ codes "]" → new ≡ old ++ compact_text (array (items_of (map value all)))
+listed value x xs all old one two three new of_all p q r s =
+    four old one two three new (codes "[") (compact_text (value x)) (flat_map (λ y. codes "," ++ compact_text (value y)) xs) (codes "]") p q r s
+    ∙ ap (λ text. old ++ text) (sym (ap (λ ys. compact_text (array (items_of (map value ys)))) of_all ∙ list_text value x xs))
+
+-- The places of a context, whose parts were appended one by one.
+pub places_of_parts : (path file t0 t1 t2 t3 t4 t5 : List ℕ) → t1 ≡ t0 ++ codes "{\"context\":" → t2 ≡ t1 ++ compact_text (string path)
+    → t3 ≡ t2 ++ codes ",\"file\":" → t4 ≡ t3 ++ compact_text (string file) → t5 ≡ t4 ++ codes ",\"findings\":"
+    → t5 ≡ t0 ++ (codes "{\"context\":" ++ compact_text (string path) ++ codes ",\"file\":" ++ compact_text (string file) ++ codes ",\"findings\":")
+places_of_parts path file t0 t1 t2 t3 t4 t5 p q r s t =
+    in_order (codes "{\"context\":") (compact_text (string path)) (codes ",\"file\":") (compact_text (string file)) (codes ",\"findings\":") p q r s t
+  where
+    in_order : (a b c d e : List ℕ) → t1 ≡ t0 ++ a → t2 ≡ t1 ++ b → t3 ≡ t2 ++ c → t4 ≡ t3 ++ d → t5 ≡ t4 ++ e → t5 ≡ t0 ++ (a ++ b ++ c ++ d ++ e)
+    in_order a b c d e p q r s t = search (rules, append_assoc)
+
+-- A context whose parts were appended one by one.
+pub context_of_parts : (context : ContextReport) (t0 t1 t2 t3 t4 t5 : List ℕ) → t1 ≡ t0 ++ start_text context → t2 ≡ t1 ++ compact_text (findings_value context)
+    → t3 ≡ t2 ++ login_text context → t4 ≡ t3 ++ compact_text (rows_value context) → t5 ≡ t4 ++ end_text context
+    → t5 ≡ t0 ++ compact_text (context_value context)
+context_of_parts context t0 t1 t2 t3 t4 t5 p q r s t =
+    five t0 t1 t2 t3 t4 t5 (start_text context) (compact_text (findings_value context)) (login_text context) (compact_text (rows_value context)) (end_text context) p q r s t
+    ∙ ap (λ text. t0 ++ text) (sym (context_text context))
+
+abbrev contexts_text : List ContextReport → List ℕ
+contexts_text contexts = compact_text (array (items_of (map context_value contexts)))
+
+-- The whole text, whose parts were appended one by one.
+pub audit_of_parts : (contexts : List ContextReport) (t0 t1 t2 t3 : List ℕ) → t0 ≡ [] → t1 ≡ t0 ++ codes "{\"contexts\":"
+    → t2 ≡ t1 ++ compact_text (array (items_of (map context_value contexts))) → t3 ≡ t2 ++ codes "}\n" → t3 ≡ compact_text (audit_value contexts) ++ codes "\n"
+audit_of_parts contexts t0 t1 t2 t3 none p q r =
+    step t0 t1 t3 (codes "{\"contexts\":") (contexts_text contexts ++ codes "}\n") p (step t1 t2 t3 (contexts_text contexts) (codes "}\n") q r)
+    ∙ ap (λ text. text ++ (codes "{\"contexts\":" ++ (contexts_text contexts ++ codes "}\n"))) none
+    ∙ ap (λ text. codes "{\"contexts\":" ++ text) (sym (append_assoc (contexts_text contexts) (codes "}") (codes "\n")))
+    ∙ sym (audit_text contexts)
