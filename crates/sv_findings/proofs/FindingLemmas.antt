@@ -13,7 +13,7 @@ use Rattle.sv_mapping.specs.BestMatch.{best_pattern, is_best, outranks}
 use Rattle.sv_mapping.specs.Pattern.{form, is_extension_pattern, matches}
 use Rattle.sv_mapping.specs.Segments.{is_rooted}
 use Rattle.sv_realm.specs.declared.caller.Caller.{Caller}
-use Rattle.sv_constraints.specs.Covering.{all_patterns, covering, covers, lists, patterns_in}
+use Rattle.sv_constraints.specs.Covering.{all_patterns, covering, covers, covers_method, lists, patterns_in}
 use Rattle.sv_constraints.specs.Verdict.{verdict, verdict_at}
 use Rattle.sv_constraints.specs.declared.cause.Cause.{Cause}
 use Rattle.sv_constraints.specs.declared.cause.Cause.TheVariants as cause
@@ -34,16 +34,17 @@ use Rattle.sv_audit.proofs.RowCells.{row_cell}
 use Rattle.sv_audit.proofs.Said.{said}
 use Rattle.sv_audit.proofs.Witness.{found}
 use Rattle.sv_audit.specs.Access.{cell_at, roles_meant}
-use Rattle.sv_findings.proofs.OpenedLemmas.{AreOpen, are_open, kept_all}
+use Rattle.sv_findings.proofs.OpenedLemmas.{AreOpen, AreOpenFor, are_open, kept_all, opened_exact, some_open}
 use Rattle.sv_audit.proofs.Shapes.{IsShaped, nothing_matches, served_shaped}
 use Rattle.sv_findings.specs.Dead.{dead_among, dead_patterns, dead_patterns_in, decides_nothing, escaped, escaped_in, is_beaten, is_dead, is_escaped}
 use Rattle.sv_audit.specs.Shapes.{matches_nothing}
-use Rattle.sv_findings.specs.FindingLaws.{FindingsAreRight, IsMeant, IsNeverBest, IsRight, names_in}
+use Rattle.sv_findings.specs.FindingLaws.{FindingsAreRight, IsMeant, IsNeverBest, IsOpen, IsRestricted, IsRight, names_in}
 use Rattle.sv_audit.specs.Shapes.{IsServed}
-use Rattle.sv_findings.specs.Opened.{opened_at, opened_pair}
+use Rattle.sv_findings.specs.Opened.{opened_at, opened_for, opened_methods, opened_pair}
 use Rattle.sv_findings.specs.RoleFindings.{is_role, is_unheld, is_unknown, is_unused, named_roles, unheld_roles, unknown_among, unknown_roles, unused_roles}
 use Rattle.sv_audit.specs.Callers.{has_method, same_callers}
-use Rattle.sv_findings.specs.Findings.{findings_of, head_at, head_differs, head_strays, is_left_open, is_left_out, uncovered_at}
+use Rattle.sv_findings.specs.Findings.{findings_of, is_left_open, is_left_out, uncovered_at}
+use Rattle.sv_findings.specs.Heads.{head_at, head_on, straying, strays}
 use Rattle.sv_audit.specs.Reading.{Kind, Passes, kind_and_cause, said_to}
 use Rattle.sv_audit.specs.Rows.{in_row_order, match_every_path, other_paths, row_at, table_of}
 use Rattle.sv_audit.specs.declared.access.Access.{Access}
@@ -115,12 +116,22 @@ module _ (constraints : List Constraint) (rules : Rules) (held : Option (List (L
   abbrev its_groups : List Group
   its_groups = (row_at constraints rules pattern).groups
 
-  opened_from : (found : Option (ℕ × ℕ)) → opened_pair constraints pattern ≡ found → All (IsRight constraints rules held) (map (λ (pair : ℕ × ℕ). finding.Opened pattern pair.0 pair.1) (option_to_list found))
+  -- Everyone passes with an opened method, and some constraint restricts it.
+  opened_method : (method : List ℕ) (number other : ℕ) → AreOpenFor constraints pattern method number other → IsRestricted constraints pattern method × IsOpen constraints rules pattern method
+  opened_method method number other it =
+      ((it.0.second, it.0.second_listed, it.0.restricts, it.0.second_covers), λ path caller best. ap (λ b. kind_and_cause (verdict_at rules caller b (covering constraints b method))) best ∙ it.1 rules caller)
+
+  each_opened : (method : List ℕ) → covers_method (opened_methods constraints pattern) method ≡ true → IsRestricted constraints pattern method × IsOpen constraints rules pattern method
+  each_opened method held_in =
+      let it : (number : ℕ) × (other : ℕ) × AreOpenFor constraints pattern method number other = some_open constraints pattern (opened_for constraints pattern (Some method)) method refl (sym (opened_exact constraints pattern method) ∙ held_in) in
+      opened_method method it.0 it.1 it.2
+
+  opened_from : (found : Option (ℕ × ℕ)) → opened_pair constraints pattern ≡ found → All (IsRight constraints rules held) (map (λ (pair : ℕ × ℕ). finding.Opened pattern (opened_methods constraints pattern) pair.0 pair.1) (option_to_list found))
   opened_from None is = All-nil (IsRight constraints rules held)
   opened_from (Some pair) is =
       let it : AreOpen constraints pattern pair.0 pair.1 = are_open constraints pattern pair is in
-      All-cons (IsRight constraints rules held) (finding.Opened pattern pair.0 pair.1) []
-      (it.0, it.1.0, λ path caller best. ap (λ b. kind_and_cause (verdict_at rules caller b (covering constraints b it.0))) best ∙ it.1.1 rules caller)
+      All-cons (IsRight constraints rules held) (finding.Opened pattern (opened_methods constraints pattern) pair.0 pair.1) []
+      (each_opened, (it.0, opened_exact constraints pattern it.0 ∙ it.1, it.2.0))
       (All-nil (IsRight constraints rules held))
 
   uncovered_from : (denied : Bool) → All (IsRight constraints rules held) (cond denied [] (map (λ (group : Group). finding.Uncovered pattern group.methods) (filter is_left_out its_groups)))
@@ -132,26 +143,29 @@ module _ (constraints : List Constraint) (rules : Rules) (held : Option (List (L
       sym (says constraints rules pattern method path caller (slice_index_or its_groups k d).cell best (in_row constraints rules pattern method k d within has))
       ∙ left_out_passes caller (slice_index_or its_groups k d).cell.access left))
 
-  apart_here : (get head : Cell) → get ≡ cell_for constraints rules pattern (codes "GET") → head ≡ cell_for constraints rules pattern (codes "HEAD") → not (same_callers get.access head.access) ≡ true → IsRight constraints rules held (finding.HeadDiffers pattern)
+  apart_here : (get head : Cell) → get ≡ cell_for constraints rules pattern (codes "GET") → head ≡ cell_for constraints rules pattern (codes "HEAD") → not (same_callers get.access head.access) ≡ true → IsRight constraints rules held (finding.HeadDiffers pattern get.access head.access)
   apart_here get head is was differ =
-      let it : (caller : Option Caller) × ((said_to caller get.access).0 ≡ (said_to caller head.access).0 → ⊥) = apart get.access head.access differ in
-      (it.0, λ path best same. it.1 (ap (λ (x : Kind × Cause). x.0) (says constraints rules pattern (codes "GET") path it.0 get best is) ∙ same ∙ sym (ap (λ (x : Kind × Cause). x.0) (says constraints rules pattern (codes "HEAD") path it.0 head best was))))
+      let it : (caller : Option Caller) × ((said_to caller get.access).0 ≡ (said_to caller head.access).0 → ⊥) = apart get.access head.access differ in (
+        λ path caller best. says constraints rules pattern (codes "GET") path caller get best is,
+        λ path caller best. says constraints rules pattern (codes "HEAD") path caller head best was,
+        it.0,
+        λ path best same. it.1 (ap (λ (x : Kind × Cause). x.0) (says constraints rules pattern (codes "GET") path it.0 get best is) ∙ same ∙ sym (ap (λ (x : Kind × Cause). x.0) (says constraints rules pattern (codes "HEAD") path it.0 head best was))),
+      )
 
-  head_found : head_differs its_groups ≡ true → IsRight constraints rules held (finding.HeadDiffers pattern)
-  head_found some =
-      found (IsRight constraints rules held (finding.HeadDiffers pattern)) (λ (get : Group). has_method (codes "GET") get && head_strays its_groups get) its_groups some
-      (λ k d within has.
-      found (IsRight constraints rules held (finding.HeadDiffers pattern)) (λ (head : Group). has_method (codes "HEAD") head && not (same_callers (slice_index_or its_groups k d).cell.access head.cell.access)) its_groups
-      (and_right (has_method (codes "GET") (slice_index_or its_groups k d)) (head_strays its_groups (slice_index_or its_groups k d)) has)
-      (λ j e inside strays.
-      apart_here (slice_index_or its_groups k d).cell (slice_index_or its_groups j e).cell
-      (in_row constraints rules pattern (codes "GET") k d within (and_left (has_method (codes "GET") (slice_index_or its_groups k d)) (head_strays its_groups (slice_index_or its_groups k d)) has))
-      (in_row constraints rules pattern (codes "HEAD") j e inside (and_left (has_method (codes "HEAD") (slice_index_or its_groups j e)) (not (same_callers (slice_index_or its_groups k d).cell.access (slice_index_or its_groups j e).cell.access)) strays))
-      (and_right (has_method (codes "HEAD") (slice_index_or its_groups j e)) (not (same_callers (slice_index_or its_groups k d).cell.access (slice_index_or its_groups j e).cell.access)) strays)))
+  straying_right : (get : Group) → get.cell ≡ cell_for constraints rules pattern (codes "GET") → All (IsRight constraints rules held) (straying pattern its_groups get.cell.access)
+  straying_right get is =
+      All-map (IsRight constraints rules held) (λ (head : Group). finding.HeadDiffers pattern get.cell.access head.cell.access) (filter (strays get.cell.access) its_groups)
+      (kept_all (λ (head : Group). IsRight constraints rules held (finding.HeadDiffers pattern get.cell.access head.cell.access)) (strays get.cell.access) its_groups
+      (λ k d within strays_here.
+      let head : Group = slice_index_or its_groups k d in
+      apart_here get.cell head.cell is (in_row constraints rules pattern (codes "HEAD") k d within (and_left (has_method (codes "HEAD") head) (not (same_callers get.cell.access head.cell.access)) strays_here))
+      (and_right (has_method (codes "HEAD") head) (not (same_callers get.cell.access head.cell.access)) strays_here)))
 
-  head_from : (differs : Bool) → head_differs its_groups ≡ differs → All (IsRight constraints rules held) (cond differs (finding.HeadDiffers pattern ∷ []) [])
-  head_from true is = All-cons (IsRight constraints rules held) (finding.HeadDiffers pattern) [] (head_found is) (All-nil (IsRight constraints rules held))
-  head_from false is = All-nil (IsRight constraints rules held)
+  head_right : All (IsRight constraints rules held) (head_on pattern its_groups)
+  head_right =
+      joined (IsRight constraints rules held) (λ (get : Group). straying pattern its_groups get.cell.access) (filter (has_method (codes "GET")) its_groups)
+      (kept_all (λ (get : Group). All (IsRight constraints rules held) (straying pattern its_groups get.cell.access)) (has_method (codes "GET")) its_groups
+      (λ k d within has. straying_right (slice_index_or its_groups k d) (in_row constraints rules pattern (codes "GET") k d within has)))
 
 -- ---- A pattern that decides nothing is the best match of no path of a request.
 slash_below : outranks (codes "/*") (codes "/") ≡ true
@@ -358,7 +372,7 @@ module _ (constraints : List Constraint) (rules : Rules) (held : Option (List (L
       (All-append The opened uncovered
       (rows_right constraints rules held (λ pattern groups. opened_at constraints pattern) (λ pattern. opened_from constraints rules held pattern (opened_pair constraints pattern) refl) (All-nil The))
       (rows_right constraints rules held uncovered_at (λ pattern. uncovered_from constraints rules held pattern (list_all is_left_out (row_at constraints rules pattern).groups)) (All-nil The)))
-      (rows_right constraints rules held head_at (λ pattern. head_from constraints rules held pattern (head_differs (row_at constraints rules pattern).groups) refl) (All-nil The)))
+      (rows_right constraints rules held head_at (λ pattern. head_right constraints rules held pattern) (All-nil The)))
       (dead_right shapes constraints rules held))
       (dead_patterns_right shapes constraints rules held))
       (escaped_right shapes constraints rules held))

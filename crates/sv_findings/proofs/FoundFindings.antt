@@ -11,7 +11,7 @@ use Rattle.std.specs.List.{flat_map, list_all, list_any}
 use Rattle.std.specs.Str.{bytes_eq}
 use Rattle.sv_mapping.specs.BestMatch.{BestIsAMatch, best_pattern}
 use Rattle.sv_realm.specs.declared.caller.Caller.{Caller}
-use Rattle.sv_constraints.specs.Covering.{all_patterns, covering, lists, patterns_in}
+use Rattle.sv_constraints.specs.Covering.{all_patterns, covering, covers_method, lists, patterns_in}
 use Rattle.sv_constraints.specs.Verdict.{verdict, verdict_at}
 use Rattle.sv_constraints.specs.declared.cause.Cause.{Cause}
 use Rattle.sv_constraints.specs.declared.cause.Cause.TheVariants as cause
@@ -28,12 +28,13 @@ use Rattle.sv_audit.proofs.Witness.{found}
 use Rattle.sv_audit.proofs.Found.{in_texts, ordered_lists}
 use Rattle.sv_audit.proofs.RowCells.{row_cell}
 use Rattle.sv_audit.specs.Access.{cell_at}
-use Rattle.sv_findings.proofs.OpenedLemmas.{contained, kept_any, pair_found}
+use Rattle.sv_findings.proofs.OpenedLemmas.{contained, kept_any, method_found, opened_exact, some_pair}
 use Rattle.sv_findings.specs.Dead.{dead_patterns_in, decides_nothing, escaped, is_dead}
 use Rattle.sv_findings.specs.FindingLaws.{DeadIsFound, HeadIsFound, OpenedIsFound, UncoveredIsFound, says_dead, says_head, says_opened, says_uncovered}
 use Rattle.sv_audit.specs.Callers.{has_method, is_closed, is_open, same_callers, same_logins}
-use Rattle.sv_findings.specs.Findings.{findings_of, head_at, head_differs, head_strays, is_left_open, is_left_out, uncovered_at}
-use Rattle.sv_findings.specs.Opened.{opened_at, opened_pair}
+use Rattle.sv_findings.specs.Findings.{findings_of, is_left_open, is_left_out, uncovered_at}
+use Rattle.sv_findings.specs.Heads.{head_at, head_on, straying, strays}
+use Rattle.sv_findings.specs.Opened.{is_opened, opened_at, opened_methods, opened_pair}
 use Rattle.sv_audit.specs.Reading.{Kind, IsDenied, Passes, kind_and_cause, said_to}
 use Rattle.sv_audit.specs.Rows.{in_row_order, match_every_path, other_paths, row_at, table_of}
 use Rattle.sv_audit.specs.declared.access.Access.{Access}
@@ -172,16 +173,17 @@ uncovered_found constraints rules held pattern method other open_to_all there no
     (in_table constraints rules pattern (says_uncovered pattern method) uncovered_at there (reported constraints rules pattern method other open_to_all none some))
 
 -- ---- Opened patterns.
-reported_pair : (pattern : List ℕ) (found : Option (ℕ × ℕ)) → is_some found ≡ true → list_any (says_opened pattern) (map (λ (pair : ℕ × ℕ). finding.Opened pattern pair.0 pair.1) (option_to_list found)) ≡ true
-reported_pair pattern None some = absurd (false≢true some)
-reported_pair pattern (Some pair) some = ap (λ b. b || false) (same_text pattern)
+reported_pair : (constraints : List Constraint) (pattern method : List ℕ) (found : Option (ℕ × ℕ)) → is_some found ≡ true → covers_method (opened_methods constraints pattern) method ≡ true
+    → list_any (says_opened pattern method) (map (λ (pair : ℕ × ℕ). finding.Opened pattern (opened_methods constraints pattern) pair.0 pair.1) (option_to_list found)) ≡ true
+reported_pair constraints pattern method None some has = absurd (false≢true some)
+reported_pair constraints pattern method (Some pair) some has = ap (λ b. b || false) (both (bytes_eq pattern pattern) (covers_method (opened_methods constraints pattern) method) (same_text pattern) has)
 
 pub opened_found : BestIsAMatch → OpenedIsFound
-opened_found best_is_a_match constraints rules held pattern method path number other both_on best passing =
-    among_opened constraints rules held (says_opened pattern)
-    (in_table constraints rules pattern (says_opened pattern) (λ its_pattern groups. opened_at constraints its_pattern) (in_texts (all_patterns constraints) pattern (best_is_a_match (all_patterns constraints) path pattern best).0)
-    (reported_pair pattern (opened_pair constraints pattern)
-    (pair_found constraints pattern rules method number other both_on (sym (ap (λ b. kind_and_cause (verdict_at rules None b (covering constraints b method))) best) ∙ passing))))
+opened_found best_is_a_match constraints rules held pattern method path restricted best passing =
+    let opens : is_opened constraints pattern method ≡ true = method_found constraints pattern rules method restricted (sym (ap (λ b. kind_and_cause (verdict_at rules None b (covering constraints b method))) best) ∙ passing) in
+    among_opened constraints rules held (says_opened pattern method)
+    (in_table constraints rules pattern (says_opened pattern method) (λ its_pattern groups. opened_at constraints its_pattern) (in_texts (all_patterns constraints) pattern (best_is_a_match (all_patterns constraints) path pattern best).0)
+    (reported_pair constraints pattern method (opened_pair constraints pattern) (some_pair constraints pattern method opens) (opened_exact constraints pattern method ∙ opens)))
 
 -- ---- Dead patterns.
 same_number : (n : ℕ) → (n == n) ≡ true
@@ -295,26 +297,32 @@ module _ (constraints : List Constraint) (rules : Rules) (pattern path : List �
   abbrev the_groups : List Group
   the_groups = (row_at constraints rules pattern).groups
 
-  strays : (get head : Group) → get.cell ≡ cell_at rules (Some pattern) (covering constraints (Some pattern) (codes "GET")) → head.cell ≡ cell_at rules (Some pattern) (covering constraints (Some pattern) (codes "HEAD")) → not (same_callers get.cell.access head.cell.access) ≡ true
-  strays get head is was =
+  strays_here : (get head : Group) → get.cell ≡ cell_at rules (Some pattern) (covering constraints (Some pattern) (codes "GET")) → head.cell ≡ cell_at rules (Some pattern) (covering constraints (Some pattern) (codes "HEAD")) → not (same_callers get.cell.access head.cell.access) ≡ true
+  strays_here get head is was =
       differ_at caller get.cell.access head.cell.access (same_callers get.cell.access head.cell.access) refl
       (λ same. apart (ap (λ (x : Kind × Cause). x.0) (sym (says constraints rules pattern (codes "GET") path caller get.cell best is)) ∙ same ∙ ap (λ (x : Kind × Cause). x.0) (says constraints rules pattern (codes "HEAD") path caller head.cell best was)))
 
-  differs : head_differs the_groups ≡ true
-  differs =
-      found (head_differs the_groups ≡ true) (has_method (codes "GET")) the_groups (some_group constraints rules pattern (codes "GET"))
-      (λ k d within get_has.
-      list_any_at (λ (get : Group). has_method (codes "GET") get && head_strays the_groups get) the_groups k d within
-      (both (has_method (codes "GET") (slice_index_or the_groups k d)) (head_strays the_groups (slice_index_or the_groups k d)) get_has
-      (found (head_strays the_groups (slice_index_or the_groups k d) ≡ true) (has_method (codes "HEAD")) the_groups (some_group constraints rules pattern (codes "HEAD"))
+  straying_found : (get : Group) → get.cell ≡ cell_at rules (Some pattern) (covering constraints (Some pattern) (codes "GET")) → list_any (says_head pattern) (straying pattern the_groups get.cell.access) ≡ true
+  straying_found get is =
+      any_seen (says_head pattern) (λ (head : Group). finding.HeadDiffers pattern get.cell.access head.cell.access) (filter (strays get.cell.access) the_groups)
+      ∙ kept_any (λ (head : Group). bytes_eq pattern pattern) (strays get.cell.access) the_groups
+      ∙ found (list_any (λ (head : Group). strays get.cell.access head && bytes_eq pattern pattern) the_groups ≡ true) (has_method (codes "HEAD")) the_groups (some_group constraints rules pattern (codes "HEAD"))
       (λ j e inside head_has.
-      list_any_at (λ (head : Group). has_method (codes "HEAD") head && not (same_callers (slice_index_or the_groups k d).cell.access head.cell.access)) the_groups j e inside
-      (both (has_method (codes "HEAD") (slice_index_or the_groups j e)) (not (same_callers (slice_index_or the_groups k d).cell.access (slice_index_or the_groups j e).cell.access)) head_has
-      (strays (slice_index_or the_groups k d) (slice_index_or the_groups j e) (in_row constraints rules pattern (codes "GET") k d within get_has) (in_row constraints rules pattern (codes "HEAD") j e inside head_has)))))))
+      let head : Group = slice_index_or the_groups j e in
+      list_any_at (λ (one : Group). strays get.cell.access one && bytes_eq pattern pattern) the_groups j e inside
+      (both (strays get.cell.access head) (bytes_eq pattern pattern)
+      (both (has_method (codes "HEAD") head) (not (same_callers get.cell.access head.cell.access)) head_has (strays_here get head is (in_row constraints rules pattern (codes "HEAD") j e inside head_has)))
+      (same_text pattern)))
 
-  head_reported : list_any (says_head pattern) (head_at (Some pattern) the_groups) ≡ true
+  head_reported : list_any (says_head pattern) (head_on pattern the_groups) ≡ true
   head_reported =
-      ap (λ b. list_any (says_head pattern) (cond b (finding.HeadDiffers pattern ∷ []) [])) differs ∙ ap (λ b. b || false) (same_text pattern)
+      any_of_joined (says_head pattern) (λ (get : Group). straying pattern the_groups get.cell.access) (filter (has_method (codes "GET")) the_groups)
+      ∙ kept_any (λ (get : Group). list_any (says_head pattern) (straying pattern the_groups get.cell.access)) (has_method (codes "GET")) the_groups
+      ∙ found (list_any (λ (get : Group). has_method (codes "GET") get && list_any (says_head pattern) (straying pattern the_groups get.cell.access)) the_groups ≡ true) (has_method (codes "GET")) the_groups (some_group constraints rules pattern (codes "GET"))
+      (λ k d within get_has.
+      let get : Group = slice_index_or the_groups k d in
+      list_any_at (λ (one : Group). has_method (codes "GET") one && list_any (says_head pattern) (straying pattern the_groups one.cell.access)) the_groups k d within
+      (both (has_method (codes "GET") get) (list_any (says_head pattern) (straying pattern the_groups get.cell.access)) get_has (straying_found get (in_row constraints rules pattern (codes "GET") k d within get_has))))
 
 pub head_found : BestIsAMatch → HeadIsFound
 head_found best_is_a_match constraints rules held pattern path caller best apart =

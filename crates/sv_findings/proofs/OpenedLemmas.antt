@@ -10,21 +10,24 @@ use Rattle.std.specs.List.{list_any}
 use Rattle.std.specs.Str.{bytes_eq}
 use Rattle.sv_realm.specs.declared.caller.Caller.{Caller}
 use Rattle.sv_constraints.proofs.Least.{some_where}
-use Rattle.sv_constraints.specs.Covering.{covering, covers, lists}
+use Rattle.sv_constraints.specs.Covering.{covering, covers, covers_method, lists}
 use Rattle.sv_constraints.specs.Verdict.{because, is_open, least_number, least_where, permits_plain, precludes, verdict_at}
 use Rattle.sv_constraints.specs.declared.cause.Cause.{Cause}
 use Rattle.sv_constraints.specs.declared.cause.Cause.TheVariants as cause
 use Rattle.sv_constraints.specs.declared.constraint.Constraint.{Constraint}
 use Rattle.sv_constraints.specs.declared.constraint.Rules.{Rules}
-use Rattle.sv_constraints.specs.declared.owned_decision.OwnedDecision.{OwnedDecision}
-use Rattle.sv_constraints.specs.declared.owned_decision.OwnedDecision.TheVariants.{Open, Denied}
+use Rattle.sv_constraints.specs.declared.owned_decision.OwnedDecision.TheVariants.{Open, Denied, Login}
 use Rattle.sv_constraints.specs.declared.owned_decision.OwnedWhy.{OwnedWhy}
 use Rattle.sv_policy.proofs.Best.{any_in, or_right}
+use Rattle.sv_constraints.specs.declared.constraint.Methods.TheVariants.{Except, Only}
 use Rattle.sv_policy.proofs.Named.{unnamed_members}
+use Rattle.sv_policy.proofs.Rising.{rising_lists}
+use Rattle.sv_policy.proofs.Steps.{passing_lists}
 use Rattle.sv_policy.specs.Covering.{named_methods}
-use Rattle.sv_findings.specs.FindingLaws.{AreBothOn}
-use Rattle.sv_findings.specs.Opened.{is_below, is_restricted, lesser_pair, opened_by, opened_for, opened_pair, pair_of}
-use Rattle.sv_audit.specs.Reading.{Kind, Passes, kind_and_cause}
+use Rattle.sv_policy.specs.Uncovered.{rising}
+use Rattle.sv_findings.specs.FindingLaws.{AreBothOn, IsRestricted}
+use Rattle.sv_findings.specs.Opened.{is_below, is_opened, is_restricted, lesser_pair, opened_by, opened_for, opened_methods, opened_pair, pair_of}
+use Rattle.sv_audit.specs.Reading.{Kind, NeedsLogin, Passes, kind_and_cause}
 
 -- ---- Pairs.
 lesser_is : (one other : Option (ℕ × ℕ)) (pair : ℕ × ℕ) → lesser_pair one other ≡ Some pair → (one ≡ Some pair) ⊎ (other ≡ Some pair)
@@ -158,18 +161,22 @@ module _ (members : List Constraint) where
       rw (some_members one, it.0, it.1, one) refl
 
   -- ---- A method that passes since no authorization constraint is needed.
-  first_true : (empty bars plain denied : Bool) (rest : OwnedDecision) (one two three : OwnedWhy) → one.cause ≡ cause.Uncovered → two.cause ≡ cause.Precluded → three.cause ≡ cause.Transport
-      → kind_and_cause (cond empty (cond denied (Denied one) (Open one)) (cond bars (Denied two) (cond (not plain) (Denied three) rest))) ≡ (Passes, cause.Unauthenticated) → (bars ≡ false) × (plain ≡ true)
-  first_true true bars plain true rest one two three p q r is = let apart : cause.Uncovered ≡ cause.Unauthenticated = sym p ∙ ap (λ (x : Kind × Cause). x.1) is in cc
-  first_true true bars plain false rest one two three p q r is = let apart : cause.Uncovered ≡ cause.Unauthenticated = sym p ∙ ap (λ (x : Kind × Cause). x.1) is in cc
-  first_true false true plain denied rest one two three p q r is = let apart : cause.Precluded ≡ cause.Unauthenticated = sym q ∙ ap (λ (x : Kind × Cause). x.1) is in cc
-  first_true false false false denied rest one two three p q r is = let apart : cause.Transport ≡ cause.Unauthenticated = sym r ∙ ap (λ (x : Kind × Cause). x.1) is in cc
-  first_true false false true denied rest one two three p q r is = (refl, refl)
+  abbrev IsFree : Bool → Bool → Bool → Type 0
+  IsFree bars plain lets_in = (bars ≡ false) × (plain ≡ true) × (lets_in ≡ true)
 
-  free_from : (rules : Rules) (pattern : List ℕ) → kind_and_cause (verdict_at rules None (Some pattern) members) ≡ (Passes, cause.Unauthenticated) → (list_any precludes members ≡ false) × (list_any permits_plain members ≡ true)
+  first_true : (empty bars plain lets_in denied : Bool) (one two three four five : OwnedWhy) → one.cause ≡ cause.Uncovered → two.cause ≡ cause.Precluded → three.cause ≡ cause.Transport
+      → kind_and_cause (cond empty (cond denied (Denied one) (Open one)) (cond bars (Denied two) (cond (not plain) (Denied three) (cond lets_in (Open four) (Login five))))) ≡ (Passes, cause.Unauthenticated) → IsFree bars plain lets_in
+  first_true true bars plain lets_in true one two three four five p q r is = let apart : cause.Uncovered ≡ cause.Unauthenticated = sym p ∙ ap (λ (x : Kind × Cause). x.1) is in cc
+  first_true true bars plain lets_in false one two three four five p q r is = let apart : cause.Uncovered ≡ cause.Unauthenticated = sym p ∙ ap (λ (x : Kind × Cause). x.1) is in cc
+  first_true false true plain lets_in denied one two three four five p q r is = let apart : cause.Precluded ≡ cause.Unauthenticated = sym q ∙ ap (λ (x : Kind × Cause). x.1) is in cc
+  first_true false false false lets_in denied one two three four five p q r is = let apart : cause.Transport ≡ cause.Unauthenticated = sym r ∙ ap (λ (x : Kind × Cause). x.1) is in cc
+  first_true false false true false denied one two three four five p q r is = let apart : NeedsLogin ≡ Passes = ap (λ (x : Kind × Cause). x.0) is in cc
+  first_true false false true true denied one two three four five p q r is = (refl, refl, refl)
+
+  free_from : (rules : Rules) (pattern : List ℕ) → kind_and_cause (verdict_at rules None (Some pattern) members) ≡ (Passes, cause.Unauthenticated) → IsFree (list_any precludes members) (list_any permits_plain members) (list_any is_open members)
   free_from rules pattern is =
-      first_true (length members == 0) (list_any precludes members) (list_any permits_plain members) rules.deny_uncovered _ (because (Some pattern) None cause.Uncovered) (because (Some pattern) (least_where precludes members) cause.Precluded)
-      (because (Some pattern) (least_number members) cause.Transport) refl refl refl is
+      first_true (length members == 0) (list_any precludes members) (list_any permits_plain members) (list_any is_open members) rules.deny_uncovered (because (Some pattern) None cause.Uncovered) (because (Some pattern) (least_where precludes members) cause.Precluded)
+      (because (Some pattern) (least_number members) cause.Transport) (because (Some pattern) (least_where is_open members) cause.Unauthenticated) (because (Some pattern) (least_number members) cause.NeedsCaller) refl refl refl is
 
 -- ---- A method that is not named.
 abbrev longest : List (List ℕ) → ℕ
@@ -194,7 +201,11 @@ is_fresh names = unlisted names (fresh names) (omega (arith, length-replicate {A
 -- ---- The pair of a pattern.
 module _ (constraints : List Constraint) (pattern : List ℕ) where
   abbrev names : List (List ℕ)
-  names = named_methods constraints pattern
+  names = rising (named_methods constraints pattern)
+
+  -- A method that is not among the names is not named.
+  not_named : (method : List ℕ) → lists names method ≡ false → lists (named_methods constraints pattern) method ≡ false
+  not_named method none = sym (rising_lists (named_methods constraints pattern) method) ∙ none
 
   -- Two constraints with these numbers are on the pattern, and everyone passes with the method.
   abbrev pub AreOpenFor : List ℕ → ℕ → ℕ → Type 0
@@ -202,7 +213,7 @@ module _ (constraints : List Constraint) (pattern : List ℕ) where
       × ((rules : Rules) (caller : Option Caller) → kind_and_cause (verdict_at rules caller (Some pattern) (covering constraints (Some pattern) method)) ≡ (Passes, cause.Unauthenticated))
 
   abbrev pub AreOpen : ℕ → ℕ → Type 0
-  AreOpen number other = (method : List ℕ) × AreOpenFor method number other
+  AreOpen number other = (method : List ℕ) × (is_opened constraints pattern method ≡ true) × AreOpenFor method number other
 
   abbrev IsOn : (Constraint → Bool) → List ℕ → Constraint → Type 0
   IsOn test method c = Contains constraints c × (covers c pattern method ≡ true) × (test c ≡ true)
@@ -233,8 +244,15 @@ module _ (constraints : List Constraint) (pattern : List ℕ) where
         λ rules caller. passes (covering constraints (Some pattern) method) rules caller pattern pair.0 pair.1 it,
       )
 
+  -- A method that is not named is opened as all such methods are.
+  unnamed_opened : (method : List ℕ) → lists names method ≡ false → opened_for constraints pattern None ≡ opened_for constraints pattern (Some method)
+  unnamed_opened method none = ap opened_by (unnamed_members pattern method constraints (not_named method none))
+
+  opened_on_it : (method : List ℕ) (pair : ℕ × ℕ) → opened_for constraints pattern (Some method) ≡ Some pair → AreOpen pair.0 pair.1
+  opened_on_it method pair is = (method, ap is_some is, both_on method pair is)
+
   others_on : (pair : ℕ × ℕ) → opened_for constraints pattern None ≡ Some pair → AreOpen pair.0 pair.1
-  others_on pair is = (fresh names, both_on (fresh names) pair (sym (ap opened_by (unnamed_members pattern (fresh names) constraints (is_fresh names))) ∙ is))
+  others_on pair is = opened_on_it (fresh names) pair (sym (unnamed_opened (fresh names) (is_fresh names)) ∙ is)
 
   abbrev named_pair : Option (ℕ × ℕ)
   named_pair = least_from (λ method. opened_for constraints pattern (Some method)) None names
@@ -246,7 +264,7 @@ module _ (constraints : List Constraint) (pattern : List ℕ) where
   unfolding opened_pair
   are_open pair is =
       elim (lesser_is named_pair (opened_for constraints pattern None) pair is) [
-        | inl named ↦ elim (fold_is (λ method. opened_for constraints pattern (Some method)) names None pair named) [ inl never ↦ absurd (none_is pair never) | inr found ↦ (found.0, both_on found.0 pair found.1) ]
+        | inl named ↦ elim (fold_is (λ method. opened_for constraints pattern (Some method)) names None pair named) [ inl never ↦ absurd (none_is pair never) | inr found ↦ opened_on_it found.0 pair found.1 ]
         | inr others ↦ others_on pair others
       ]
 
@@ -259,7 +277,7 @@ module _ (constraints : List Constraint) (pattern : List ℕ) where
       or_first (is_some named_pair) (is_some (opened_for constraints pattern None))
       (fold_some (λ m. opened_for constraints pattern (Some m)) names None ∙ any_in (λ m. is_some (opened_for constraints pattern (Some m))) names method is some)
   found_at method false is some =
-      or_right (is_some named_pair) (is_some (opened_for constraints pattern None)) (ap (λ members. is_some (opened_by members)) (unnamed_members pattern method constraints is) ∙ some)
+      or_right (is_some named_pair) (is_some (opened_for constraints pattern None)) (ap is_some (unnamed_opened method is) ∙ some)
 
   pub some_pair : (method : List ℕ) → is_some (opened_for constraints pattern (Some method)) ≡ true → is_some (opened_pair constraints pattern) ≡ true
   unfolding opened_pair
@@ -269,11 +287,33 @@ module _ (constraints : List Constraint) (pattern : List ℕ) where
   covering_passes : (test : Constraint → Bool) (method : List ℕ) (c : Constraint) → Contains constraints c → covers c pattern method ≡ true → test c ≡ true → list_any test (covering constraints (Some pattern) method) ≡ true
   covering_passes test method c there covered passing = kept_any test (λ x. covers x pattern method) constraints ∙ contained (λ x. covers x pattern method && test x) constraints c there (ap₂ (λ a b. a && b) covered passing)
 
-  pub pair_found : (rules : Rules) (method : List ℕ) (number other : ℕ) → AreBothOn constraints pattern method number other
-      → kind_and_cause (verdict_at rules None (Some pattern) (covering constraints (Some pattern) method)) ≡ (Passes, cause.Unauthenticated) → is_some (opened_pair constraints pattern) ≡ true
-  pair_found rules method number other it is =
+  pub method_found : (rules : Rules) (method : List ℕ) → IsRestricted constraints pattern method
+      → kind_and_cause (verdict_at rules None (Some pattern) (covering constraints (Some pattern) method)) ≡ (Passes, cause.Unauthenticated) → is_opened constraints pattern method ≡ true
+  method_found rules method it is =
       let members : List Constraint = covering constraints (Some pattern) method in
-      let free : (list_any precludes members ≡ false) × (list_any permits_plain members ≡ true) = free_from members rules pattern is in
-      some_pair method
-      (opened_some members free.0 free.1 (covering_passes is_open method it.first it.first_listed it.first_covers it.opens)
-      (covering_passes is_restricted method it.second it.second_listed it.second_covers (ap not it.restricts)))
+      let free : IsFree members (list_any precludes members) (list_any permits_plain members) (list_any is_open members) = free_from members rules pattern is in
+      opened_some members free.0 free.1 free.2 (covering_passes is_restricted method it.0 it.1 it.3 (ap not it.2))
+
+  -- ---- Exactly the opened methods are among the opened ones.
+  not_not : (a : Bool) → not (not a) ≡ a
+  not_not true = refl
+  not_not false = refl
+
+  listed_at : (method : List ℕ) (test : List ℕ → Bool) (named : Bool) → lists names method ≡ named → lists (filter test names) method ≡ (named && test method)
+  listed_at method test named is = passing_lists test names method ∙ ap (λ b. b && test method) is
+
+  held_at : (method : List ℕ) (others named : Bool) → is_some (opened_for constraints pattern None) ≡ others → lists names method ≡ named
+      → covers_method (cond others (Except (filter (λ m. not (is_opened constraints pattern m)) names)) (Only (filter (is_opened constraints pattern) names))) method ≡ is_opened constraints pattern method
+  held_at method true true is named = ap not (listed_at method (λ m. not (is_opened constraints pattern m)) true named) ∙ not_not (is_opened constraints pattern method)
+  held_at method true false is named = ap not (listed_at method (λ m. not (is_opened constraints pattern m)) false named) ∙ sym (ap is_some (sym (unnamed_opened method named)) ∙ is)
+  held_at method false true is named = listed_at method (is_opened constraints pattern) true named
+  held_at method false false is named = listed_at method (is_opened constraints pattern) false named ∙ sym (ap is_some (sym (unnamed_opened method named)) ∙ is)
+
+  pub opened_exact : (method : List ℕ) → covers_method (opened_methods constraints pattern) method ≡ is_opened constraints pattern method
+  unfolding opened_methods
+  opened_exact method = held_at method (is_some (opened_for constraints pattern None)) (lists names method) refl refl
+
+  -- An opened method is restricted by one of the constraints that both cover it.
+  pub some_open : (found : Option (ℕ × ℕ)) (method : List ℕ) → opened_for constraints pattern (Some method) ≡ found → is_some found ≡ true → (number : ℕ) × (other : ℕ) × AreOpenFor method number other
+  some_open None method is some = absurd (false≢true some)
+  some_open (Some pair) method is some = (pair.0, pair.1, both_on method pair is)

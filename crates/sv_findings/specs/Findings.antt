@@ -1,15 +1,15 @@
 -- What constraints leave open by mistake, or state without effect (Jakarta Servlet 6.0, sections 12.1 and 13.8).
-use Rattle.std.specs.Prelude.{ℕ, Bool, true, false, not, ◌&&◌, ◌||◌, List, [], ◌∷◌, ◌++◌, codes, filter, map, Option, None, Some, if◌then◌else◌}
-use Rattle.std.specs.List.{flat_map, list_all, list_any}
-use Rattle.sv_constraints.specs.Covering.{all_patterns, covers_method, lists}
+use Rattle.std.specs.Prelude.{ℕ, Bool, true, false, List, [], ◌++◌, codes, filter, map, Option, None, Some, if◌then◌else◌}
+use Rattle.std.specs.List.{flat_map, list_all}
+use Rattle.sv_constraints.specs.Covering.{all_patterns, lists}
 use Rattle.sv_constraints.specs.declared.constraint.Constraint.{Constraint}
 use Rattle.sv_constraints.specs.declared.constraint.Rules.{Rules}
 use Rattle.sv_findings.specs.Dead.{dead_among, dead_patterns, escaped}
+use Rattle.sv_findings.specs.Heads.{head_at}
 use Rattle.sv_findings.specs.Opened.{opened_at}
 use Rattle.sv_findings.specs.RoleFindings.{unheld_roles, unknown_among, unused_roles}
-use Rattle.sv_audit.specs.Callers.{has_method, same_callers}
 use Rattle.sv_audit.specs.declared.access.Access.{Access}
-use Rattle.sv_audit.specs.declared.access.Access.TheVariants.{Unconstrained, Uncovered, UncoveredDenied, Precluded, NeedsTls, Everyone, AnyLogin, Roles}
+use Rattle.sv_audit.specs.declared.access.Access.TheVariants.{Uncovered}
 use Rattle.sv_findings.specs.declared.finding.Finding.{Finding}
 use Rattle.sv_findings.specs.declared.finding.Finding.TheVariants as finding
 use Rattle.sv_audit.specs.declared.rows.Group.{Group}
@@ -28,18 +28,6 @@ abbrev pub uncovered_at : Option (List ℕ) → List Group → List Finding
 uncovered_at None groups = []
 uncovered_at (Some pattern) groups =
     if list_all is_left_out groups then [] else map (λ group. finding.Uncovered pattern group.methods) (filter is_left_out groups)
-
--- Whether HEAD is in a group of other callers than this group of GET.
-abbrev pub head_strays : List Group → Group → Bool
-head_strays groups get = list_any (λ head. has_method (codes "HEAD") head && not (same_callers get.cell.access head.cell.access)) groups
-
-abbrev pub head_differs : List Group → Bool
-head_differs groups = list_any (λ get. has_method (codes "GET") get && head_strays groups get) groups
-
--- GET and HEAD at a pattern are open to different callers.
-abbrev pub head_at : Option (List ℕ) → List Group → List Finding
-head_at None groups = []
-head_at (Some pattern) groups = if head_differs groups then finding.HeadDiffers pattern ∷ [] else []
 
 -- The findings of constraints and their table, given the roles that users have, if users are known.
 abbrev pub findings_of : List Constraint → Rules → Table → Option (List (List ℕ)) → List Finding

@@ -4,7 +4,10 @@ use Rattle.std.specs.List.{list_any}
 use Rattle.std.specs.Option.{option_to_list}
 use Rattle.sv_constraints.specs.Verdict.{is_open, least_where, permits_plain, precludes}
 use Rattle.sv_constraints.specs.declared.constraint.Constraint.{Constraint}
+use Rattle.sv_constraints.specs.declared.constraint.Methods.{Methods}
+use Rattle.sv_constraints.specs.declared.constraint.Methods.TheVariants.{Except, Only}
 use Rattle.sv_policy.specs.Covering.{covers_at, named_methods}
+use Rattle.sv_policy.specs.Uncovered.{rising}
 use Rattle.sv_findings.specs.declared.finding.Finding.{Finding}
 use Rattle.sv_findings.specs.declared.finding.Finding.TheVariants as finding
 
@@ -38,11 +41,26 @@ opened_by members =
 abbrev pub opened_for : List Constraint → List ℕ → Option (List ℕ) → Option (ℕ × ℕ)
 opened_for constraints pattern method = opened_by (filter (λ constraint. covers_at constraint pattern method) constraints)
 
+-- Whether everyone passes with the method although a constraint with an authorization constraint covers it.
+abbrev pub is_opened : List Constraint → List ℕ → List ℕ → Bool
+is_opened constraints pattern method = is_some (opened_for constraints pattern (Some method))
+
 -- The least pair of all methods.
 unfoldable pub opened_pair : List Constraint → List ℕ → Option (ℕ × ℕ)
 opened_pair constraints pattern =
-    lesser_pair (fold (λ least method. lesser_pair least (opened_for constraints pattern (Some method))) None (named_methods constraints pattern)) (opened_for constraints pattern None)
+    lesser_pair (fold (λ least method. lesser_pair least (opened_for constraints pattern (Some method))) None (rising (named_methods constraints pattern))) (opened_for constraints pattern None)
+
+-- The opened methods: all except the other named ones if those that are not named are opened, else the named ones.
+unfoldable pub opened_methods : List Constraint → List ℕ → Methods
+opened_methods constraints pattern =
+    let named = rising (named_methods constraints pattern) in
+    if is_some (opened_for constraints pattern None)
+    then Except (filter (λ method. not (is_opened constraints pattern method)) named)
+    else Only (filter (is_opened constraints pattern) named)
+
+abbrev pub opened_on : List Constraint → List ℕ → List Finding
+opened_on constraints pattern = map (λ pair. finding.Opened pattern (opened_methods constraints pattern) pair.0 pair.1) (option_to_list (opened_pair constraints pattern))
 
 abbrev pub opened_at : List Constraint → Option (List ℕ) → List Finding
 opened_at constraints None = []
-opened_at constraints (Some pattern) = map (λ pair. finding.Opened pattern pair.0 pair.1) (option_to_list (opened_pair constraints pattern))
+opened_at constraints (Some pattern) = opened_on constraints pattern

@@ -1,5 +1,6 @@
 //! What constraints leave open by mistake, or state without effect.
 
+use sv_audit::Access;
 use sv_constraints::Methods;
 use sv_text::Text;
 
@@ -7,23 +8,34 @@ use sv_text::Text;
 /// which findings are listed.
 #[derive(Drop)]
 pub enum Finding {
-    /// A pattern, the number of a constraint there without an authorization constraint, and the number of one with an
-    /// authorization constraint. Both cover a method, and the first lets everyone use it (Jakarta Servlet 6.0, section
-    /// 13.8.1).
-    Opened(Text, u64, u64),
+    /// A pattern, the methods that everyone may use there although a constraint with an authorization constraint covers
+    /// them, too, and the numbers of a constraint without and of one with an authorization constraint that both cover one
+    /// of the methods (Jakarta Servlet 6.0, section 13.8.1). The names of the methods are in ascending byte order.
+    Opened(Text, Methods, u64, u64),
     /// The methods that everyone may use at a pattern, since constraints cover only other methods there (section
     /// 13.8.4).
     Uncovered(Text, Methods),
-    /// A pattern at which GET and HEAD are open to different callers.
-    HeadDiffers(Text),
+    /// A prefix pattern, the methods that everyone may use there since no constraint covers them, and an extension
+    /// pattern or `/` at which a constraint covers one of them. A server that takes a pattern only if its constraints
+    /// cover the method decides otherwise.
+    ReadOtherwise(Text, Methods, Text),
+    /// A pattern at which GET and HEAD are open to different callers, with the access of GET and that of HEAD.
+    HeadDiffers(Text, Access, Access),
     /// The number of a constraint that covers no request: `/*` is chosen before each of its patterns (section 12.1), or
     /// no canonical path matches it (section 3.5.2).
     Dead(u64),
     /// The number of a constraint, and one of its patterns that decides no request. Others of its patterns may.
     DeadPattern(u64, Text),
+    /// The number of a constraint, and one of its patterns whose paths are all hidden (section 10.5), or all belong to
+    /// another context (section 12.1). No request reaches it.
+    Unreached(u64, Text),
+    /// The number of a constraint, and one of its patterns at which no servlet and no file answers.
+    Unserved(u64, Text),
     /// The number of a constraint, and one of its patterns that has a percent sign. Patterns are compared with decoded
     /// paths, so it matches only targets that are escaped twice.
     Escaped(u64, Text),
+    /// A path within the context that the login page refers to, and that a request without a caller may not get.
+    LoginNeeds(Text),
     /// The number of a constraint, and a role that it names and the descriptor does not declare.
     UnknownRole(u64, Text),
     /// A role that constraints name and no user has.

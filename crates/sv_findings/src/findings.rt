@@ -5,12 +5,13 @@ ghost use Rattle.std.specs.List.{flat_map, list_all};
 ghost use Rattle.std.specs.Option.{option_copied};
 ghost use Rattle.sv_text.specs.Gives.{GivesAnswer};
 ghost use Rattle.sv_findings.specs.Findings as spec;
+ghost use Rattle.sv_findings.specs.Heads.{head_at};
 ghost use Rattle.sv_findings.specs.Opened.{opened_at};
 ghost use Rattle.sv_findings.specs.declared.finding.Finding.TheVariants as finding;
 
 use crate::dead::push_ineffective;
 use crate::finding::Finding;
-use crate::heads::head_differs;
+use crate::heads::push_heads;
 use crate::opened::push_opened;
 use crate::role_findings::push_by_role;
 use std::alloc::Global;
@@ -63,7 +64,7 @@ fn push_by_row(
     ensures { OnOk result (findings.new.items ≡ findings.old.items
         ++ flat_map (λ row. opened_at constraints.now row.pattern) rows.now
         ++ flat_map (λ row. spec.uncovered_at row.pattern row.groups) rows.now
-        ++ flat_map (λ row. spec.head_at row.pattern row.groups) rows.now) }
+        ++ flat_map (λ row. head_at row.pattern row.groups) rows.now) }
 {
     push_opened(findings, alloc, constraints, rules, rows)?;
     push_uncovered(findings, alloc, rows)?;
@@ -133,31 +134,4 @@ fn is_left_open(access: &Access) -> bool
     ensures { result ≡ spec.is_left_open access.now }
 {
     matches!(access, Access::Uncovered)
-}
-
-fn push_heads(findings: &mut Vec<Finding>, alloc: Global, rows: &[Row]) -> Result<(), NoMemory>
-    ensures { OnOk result (findings.new.items ≡ findings.old.items ++ flat_map (λ row. spec.head_at row.pattern row.groups) rows.now) }
-{
-    for row in rows {
-        push_head(findings, alloc, &row.pattern, row.groups.as_slice())?;
-    }
-    Ok(())
-}
-
-/// Appends a pattern if GET and HEAD are open to different callers there.
-fn push_head(
-    findings: &mut Vec<Finding>,
-    alloc: Global,
-    pattern: &Option<Text>,
-    groups: &[Group],
-) -> Result<(), NoMemory>
-    ensures { OnOk result (findings.new.items ≡ findings.old.items ++ spec.head_at pattern.now groups.now) }
-{
-    let Some(pattern) = pattern else {
-        return Ok(());
-    };
-    if head_differs(groups) {
-        findings.push(Finding::HeadDiffers(Text::copy_of(alloc, pattern.as_str())?))?;
-    }
-    Ok(())
 }

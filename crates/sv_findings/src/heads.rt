@@ -1,28 +1,98 @@
-//! Whether GET and HEAD are open to the same callers.
+//! Patterns at which GET and HEAD are open to different callers.
 
-ghost use Rattle.std.specs.Prelude.{◌≡◌, codes};
+ghost use Rattle.std.specs.Prelude.{◌≡◌, ◌++◌, OnOk, codes};
+ghost use Rattle.std.specs.List.{flat_map};
 ghost use Rattle.sv_constraints.specs.Covering.{covers_method};
 ghost use Rattle.sv_audit.specs.Callers.{has_method};
-ghost use Rattle.sv_findings.specs.Findings as spec;
+ghost use Rattle.sv_text.specs.Gives.{GivesAnswer};
+ghost use Rattle.sv_findings.specs.Heads as spec;
+ghost use Rattle.sv_findings.specs.declared.finding.Finding.TheVariants as finding;
 
-use sv_audit::{Group, same_callers};
+use crate::finding::Finding;
+use std::alloc::Global;
+use sv_audit::{Access, Group, Row, copied_access, same_callers};
 use sv_constraints::{Methods, lists};
+use sv_text::{NoMemory, Text};
 
-/// Returns whether GET and HEAD are open to different callers.
-pub fn head_differs(groups: &[Group]) -> bool
-    ensures { result ≡ spec.head_differs groups.now }
+/// Appends the patterns of the rows at which GET and HEAD are open to different callers.
+pub fn push_heads(findings: &mut Vec<Finding>, alloc: Global, rows: &[Row]) -> Result<(), NoMemory>
+    ensures { OnOk result (findings.new.items ≡ findings.old.items ++ flat_map (λ row. spec.head_at row.pattern row.groups) rows.now) }
 {
-    groups
-        .iter()
-        .any(|get| is_method_of("GET", get) && head_strays(groups, get))
+    for row in rows {
+        push_head(findings, alloc, &row.pattern, row.groups.as_slice())?;
+    }
+    Ok(())
 }
 
-/// Returns whether HEAD is in a group of other callers than this group of GET.
-fn head_strays(groups: &[Group], get: &Group) -> bool
-    ensures { result ≡ spec.head_strays groups.now get.now }
+fn push_head(
+    findings: &mut Vec<Finding>,
+    alloc: Global,
+    pattern: &Option<Text>,
+    groups: &[Group],
+) -> Result<(), NoMemory>
+    ensures { OnOk result (findings.new.items ≡ findings.old.items ++ spec.head_at pattern.now groups.now) }
 {
-    groups.iter().any(|head| is_method_of("HEAD", head)
-        && !same_callers(&get.cell.access, &head.cell.access))
+    let Some(pattern) = pattern else {
+        return Ok(());
+    };
+    push_gets(findings, alloc, pattern.as_str(), groups)
+}
+
+/// Appends a pattern for each group of GET, if HEAD is open to other callers.
+fn push_gets(
+    findings: &mut Vec<Finding>,
+    alloc: Global,
+    pattern: &str,
+    groups: &[Group],
+) -> Result<(), NoMemory>
+    ensures { OnOk result (findings.new.items ≡ findings.old.items ++ spec.head_on pattern.now groups.now) }
+{
+    for get in groups {
+        if is_method_of("GET", get) {
+            push_straying(findings, alloc, pattern, &get.cell.access, groups)?;
+        }
+    }
+    Ok(())
+}
+
+/// Appends the pattern, if HEAD is in a group of other callers than this access of GET.
+fn push_straying(
+    findings: &mut Vec<Finding>,
+    alloc: Global,
+    pattern: &str,
+    get: &Access,
+    groups: &[Group],
+) -> Result<(), NoMemory>
+    ensures { OnOk result (findings.new.items ≡ findings.old.items ++ spec.straying pattern.now groups.now get.now) }
+{
+    for head in groups {
+        if strays(get, head) {
+            findings.push(head_differs(alloc, pattern, get, &head.cell.access)?)?;
+        }
+    }
+    Ok(())
+}
+
+fn head_differs(
+    alloc: Global,
+    pattern: &str,
+    get: &Access,
+    head: &Access,
+) -> Result<Finding, NoMemory>
+    ensures { GivesAnswer result (finding.HeadDiffers pattern.now get.now head.now) }
+{
+    Ok(Finding::HeadDiffers(
+        Text::copy_of(alloc, pattern)?,
+        copied_access(alloc, get)?,
+        copied_access(alloc, head)?,
+    ))
+}
+
+/// Returns whether the group has HEAD, and is open to other callers.
+fn strays(get: &Access, head: &Group) -> bool
+    ensures { result ≡ spec.strays get.now head.now }
+{
+    is_method_of("HEAD", head) && !same_callers(get, &head.cell.access)
 }
 
 fn is_method_of(method: &str, group: &Group) -> bool

@@ -6,10 +6,10 @@ ghost use Rattle.sv_findings.specs.FindingLaws.{DeadIsFound, FindingsAreRight, H
 use sv_mapping::laws::best_is_a_match;
 use sv_uri::laws::canonical_has_shape;
 
-/// Each finding of constraints and their table is right. With some method at an opened pattern everyone passes, although
-/// a constraint with an authorization constraint covers it. The methods of an uncovered finding pass at each path of its
-/// pattern, since they are uncovered. Where GET and HEAD differ, there is a caller, or a request without one, that passes
-/// with one of them and not with the other, or is asked to log in only for one. A dead constraint covers no request, and a
+/// Each finding of constraints and their table is right. With each of the opened methods everyone passes, although a
+/// constraint with an authorization constraint covers it. The methods of an uncovered finding pass at each path of its
+/// pattern, since they are uncovered. Where GET and HEAD differ, their accesses are as reported, and there is a caller, or
+/// a request without one, that passes with one of them and not with the other, or is asked to log in only for one. A dead constraint covers no request, and a
 /// dead pattern is the best match of no canonical path. An unknown role is named and not declared, an unheld one is named
 /// and no user has it, and an unused one is declared and not named.
 pub fn findings_are_right()
@@ -18,7 +18,7 @@ pub fn findings_are_right()
     canonical_has_shape();
 }
 
-/// No pattern is missed at which a constraint opens methods to everyone that another one restricts. Unless uncovered
+/// No method is missed that a constraint opens to everyone at a pattern and another one restricts. Unless uncovered
 /// methods are denied, none is missed at a pattern of the constraints at which another method is covered. No difference
 /// between GET and HEAD is missed, and no pattern that decides nothing.
 pub fn findings_are_complete()

@@ -1,20 +1,23 @@
 //! Constraints that let everyone in although others name roles.
 
-ghost use Rattle.std.specs.Prelude.{◌≡◌, ◌++◌, List, OnOk, if◌then◌else◌, map};
+ghost use Rattle.std.specs.Prelude.{◌≡◌, ◌++◌, ◌∷◌, [], IfOk, List, OnOk, filter, if◌then◌else◌, map};
 ghost use Rattle.std.specs.Bool.{then_some};
 ghost use Rattle.std.specs.List.{flat_map};
+ghost use Rattle.std.specs.Option.{option_copied};
 ghost use Rattle.sv_constraints.specs.Verdict.{least_where};
 ghost use Rattle.sv_constraints.specs.declared.constraint.Constraint.{Constraint};
+ghost use Rattle.sv_policy.specs.Covering.{named_methods};
 ghost use Rattle.sv_policy.specs.Groups.{IsGrouped};
+ghost use Rattle.sv_policy.specs.Uncovered.{differ, rising};
 ghost use Rattle.sv_text.specs.Gives.{GivesAnswer};
 ghost use Rattle.sv_findings.specs.Opened as spec;
 
 use crate::finding::Finding;
 use std::alloc::Global;
-use sv_audit::{Row, covering, covering_findings};
-use sv_constraints::{Auth, Constraint, Rules, lesser};
+use sv_audit::{Row, covering, covering_findings, sorted};
+use sv_constraints::{Auth, Constraint, Methods, Rules, lesser};
 use sv_policy::{Groups, grouped, named_methods};
-use sv_text::{NoMemory, Text};
+use sv_text::{Listed, NoMemory, Text};
 
 /// Appends the patterns at which a constraint without an authorization constraint lets everyone in although another one
 /// names roles (Jakarta Servlet 6.0, section 13.8.1).
@@ -47,29 +50,44 @@ fn push_opened_at(
     let Some(pattern) = pattern else {
         return Ok(());
     };
-    if let Some((number, other)) = opened_among(alloc, rules, groups, pattern.as_str())? {
-        findings.push(Finding::Opened(Text::copy_of(alloc, pattern.as_str())?, number, other))?;
-    }
-    Ok(())
+    push_opened_among(findings, alloc, rules, groups, pattern.as_str())
 }
 
-/// Returns the least numbers of two such constraints at a pattern, if any.
-fn opened_among(
+fn push_opened_among(
+    findings: &mut Vec<Finding>,
     alloc: Global,
     rules: &Rules,
     groups: &Groups<'_>,
     pattern: &str,
-) -> Result<Option<(u64, u64)>, NoMemory>
+) -> Result<(), NoMemory>
     ensures { (constraints : List Constraint) → IsGrouped constraints groups.now →
-        GivesAnswer result (spec.opened_pair constraints pattern.now) }
+        OnOk result (findings.new.items ≡ findings.old.items ++ spec.opened_on constraints pattern.now) }
 {
     match groups.on(pattern) {
-        Some(members) => opened_pair(alloc, rules, pattern, members.as_slice()),
-        None => opened_pair(alloc, rules, pattern, &[]),
+        Some(members) => push_opened_on(findings, alloc, rules, pattern, members.as_slice()),
+        None => push_opened_on(findings, alloc, rules, pattern, &[]),
     }
 }
 
-/// Returns the same by the constraints on the pattern.
+/// Appends a pattern with its opened methods and the least numbers of two such constraints, if there are any.
+fn push_opened_on(
+    findings: &mut Vec<Finding>,
+    alloc: Global,
+    rules: &Rules,
+    pattern: &str,
+    members: &[&Constraint],
+) -> Result<(), NoMemory>
+    ensures { OnOk result (findings.new.items ≡ findings.old.items ++ spec.opened_on (map (λ member. member.now) members.now) pattern.now) }
+{
+    let Some((number, other)) = opened_pair(alloc, rules, pattern, members)? else {
+        return Ok(());
+    };
+    let methods = opened_methods(alloc, rules, pattern, members)?;
+    findings.push(Finding::Opened(Text::copy_of(alloc, pattern)?, methods, number, other))?;
+    Ok(())
+}
+
+/// Returns the least pair of all methods.
 fn opened_pair(
     alloc: Global,
     rules: &Rules,
@@ -79,12 +97,92 @@ fn opened_pair(
     ensures { GivesAnswer result (spec.opened_pair (map (λ member. member.now) members.now) pattern.now) }
 {
     let mut least = None;
-    for name in named_methods(alloc, members, pattern)?.as_slice() {
-        let covering = covering(alloc, members, pattern, Some(*name))?;
-        least = lesser_pair(least, opened_by(rules, covering.as_slice()));
+    for name in rising_names(alloc, members, pattern)?.as_slice() {
+        least = lesser_pair(
+            least,
+            opened_for(alloc, rules, pattern, members, Some(*name))?,
+        );
     }
-    let covering = covering(alloc, members, pattern, None)?;
-    Ok(lesser_pair(least, opened_by(rules, covering.as_slice())))
+    Ok(lesser_pair(least, opened_for(alloc, rules, pattern, members, None)?))
+}
+
+/// Returns the methods that everyone may use although a constraint with an authorization constraint covers them.
+fn opened_methods(
+    alloc: Global,
+    rules: &Rules,
+    pattern: &str,
+    members: &[&Constraint],
+) -> Result<Methods, NoMemory>
+    ensures { GivesAnswer result (spec.opened_methods (map (λ member. member.now) members.now) pattern.now) }
+{
+    let are_others = opened_for(alloc, rules, pattern, members, None)?.is_some();
+    let names = exceptions(alloc, rules, pattern, members, are_others)?;
+    if are_others {
+        Ok(Methods::Except(names))
+    } else {
+        Ok(Methods::Only(names))
+    }
+}
+
+/// Copies the named methods that are opened if the others are not, and that are not opened if the others are.
+fn exceptions(
+    alloc: Global,
+    rules: &Rules,
+    pattern: &str,
+    members: &[&Constraint],
+    are_others: bool,
+) -> Result<Listed<Text>, NoMemory>
+    ensures { GivesAnswer result (filter (λ method. differ (spec.is_opened (map (λ member. member.now) members.now) pattern.now method) are_others)
+        (rising (named_methods (map (λ member. member.now) members.now) pattern.now))) }
+{
+    let mut names = Vec::new(alloc);
+    for name in rising_names(alloc, members, pattern)?.as_slice() {
+        let found = opened_for(alloc, rules, pattern, members, Some(*name))?;
+        push_exception(&mut names, alloc, *name, found.is_some(), are_others)?;
+    }
+    Ok(Listed::from_vec(names))
+}
+
+/// Appends a method, if it is opened and the others are not, or the reverse.
+fn push_exception(
+    names: &mut Vec<Text>,
+    alloc: Global,
+    name: &str,
+    is_opened: bool,
+    are_others: bool,
+) -> Result<(), NoMemory>
+    ensures { OnOk result (names.new.items ≡ names.old.items ++ (if differ is_opened are_others then name.now ∷ [] else [])) }
+{
+    if is_opened != are_others {
+        names.push(Text::copy_of(alloc, name)?)?;
+    }
+    Ok(())
+}
+
+/// Returns the different methods that constraints name at the pattern, in ascending byte order.
+fn rising_names<'a>(
+    alloc: Global,
+    members: &[&'a Constraint],
+    pattern: &str,
+) -> Result<Vec<&'a str>, NoMemory>
+    ensures { IfOk result (λ names. map (λ name. name.now) names.items ≡ rising (named_methods (map (λ member. member.now) members.now) pattern.now)) }
+{
+    let names = named_methods(alloc, members, pattern)?;
+    sorted(alloc, names.as_slice())
+}
+
+/// Returns the pair of the constraints that cover the method or, without a method, those that are not named.
+fn opened_for(
+    alloc: Global,
+    rules: &Rules,
+    pattern: &str,
+    members: &[&Constraint],
+    method: Option<&str>,
+) -> Result<Option<(u64, u64)>, NoMemory>
+    ensures { GivesAnswer result (spec.opened_for (map (λ member. member.now) members.now) pattern.now (option_copied method.entry)) }
+{
+    let covering = covering(alloc, members, pattern, method)?;
+    Ok(opened_by(rules, covering.as_slice()))
 }
 
 /// Returns the least numbers of a constraint without and of one with an authorization constraint, if there are both and

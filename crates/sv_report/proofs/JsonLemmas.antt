@@ -1,16 +1,16 @@
 -- The JSON of access tables has no floats.
 use Rattle.std.proofs.Common.{◌≡◌, ℕ, Bool, false, ◌||◌, List, [], ◌∷◌, map, refl, ap, ap₂, Option, None, Some}
-use Rattle.serde_json.specs.Data.{Data, boolean, object, string}
+use Rattle.serde_json.specs.Data.{Data, boolean, no_members, object, string}
 use Rattle.serde_json.specs.View.{items_of}
 use Rattle.serde_json.specs.Written.{has_float, items_have_float}
 use Rattle.sv_policy.specs.Covering.{method_names}
-use Rattle.sv_report.specs.FindingJson.{finding_members, finding_value}
+use Rattle.sv_report.specs.FindingJson.{finding_members, finding_value, with_subject}
 use Rattle.sv_report.specs.FindingWords.{kind_name}
 use Rattle.sv_report.specs.Json.{group_value, named_viewer, row_value, viewer_enters, viewer_value}
 use Rattle.sv_report.specs.JsonParts.{number_value, roles_in, strings, text_value, truth_value}
 use Rattle.sv_report.specs.Places.{line_of}
 use Rattle.sv_findings.specs.declared.finding.Finding.{Finding}
-use Rattle.sv_findings.specs.declared.finding.Finding.TheVariants.{Opened, Uncovered, HeadDiffers, Dead, DeadPattern, Escaped, UnknownRole, UnheldRole, UnusedRole}
+use Rattle.sv_findings.specs.declared.finding.Finding.TheVariants.{Opened, Uncovered, ReadOtherwise, HeadDiffers, Dead, DeadPattern, Unreached, Unserved, Escaped, LoginNeeds, UnknownRole, UnheldRole, UnusedRole}
 use Rattle.sv_report.specs.declared.report.ContextReport.{ContextReport}
 use Rattle.sv_report.specs.declared.report.ReportedFinding.{ReportedFinding}
 use Rattle.sv_report.specs.declared.report.ReportedRow.{ReportedRow}
@@ -60,19 +60,23 @@ unfolding named_viewer
 in_viewer None = refl
 in_viewer (Some viewer) = ap (λ a. a || false) (in_strings viewer.roles)
 
-in_members : (is_accepted : Bool) (constraint line : Option ℕ) (key kind : List ℕ) (finding : Finding)
-    → has_float (object (finding_members (boolean is_accepted) (number_value constraint) (string key) (string kind) (number_value line) finding)) ≡ false
-in_members is_accepted constraint line key kind (Uncovered pattern methods) =
-    ap₂ (λ a b. a || b) (in_number constraint) (ap₂ (λ a b. a || (b || false)) (in_number line) (in_strings (method_names methods)))
-in_members is_accepted constraint line key kind (Opened pattern opening guarded) = ap₂ (λ a b. a || (b || false)) (in_number constraint) (in_number line)
-in_members is_accepted constraint line key kind (HeadDiffers pattern) = ap₂ (λ a b. a || (b || false)) (in_number constraint) (in_number line)
-in_members is_accepted constraint line key kind (Dead number) = ap₂ (λ a b. a || (b || false)) (in_number constraint) (in_number line)
-in_members is_accepted constraint line key kind (DeadPattern number pattern) = ap₂ (λ a b. a || (b || false)) (in_number constraint) (in_number line)
-in_members is_accepted constraint line key kind (Escaped number pattern) = ap₂ (λ a b. a || (b || false)) (in_number constraint) (in_number line)
-in_members is_accepted constraint line key kind (UnknownRole number role) = ap₂ (λ a b. a || (b || false)) (in_number constraint) (in_number line)
-in_members is_accepted constraint line key kind (UnheldRole role) = ap₂ (λ a b. a || (b || false)) (in_number constraint) (in_number line)
-in_members is_accepted constraint line key kind (UnusedRole role) = ap₂ (λ a b. a || (b || false)) (in_number constraint) (in_number line)
+in_members : (has_login is_accepted : Bool) (constraint line : Option ℕ) (key kind : List ℕ) (finding : Finding)
+    → has_float (object (finding_members (boolean is_accepted) (number_value constraint) (string key) (string kind) (number_value line) (with_subject has_login finding no_members))) ≡ false
+in_members has_login is_accepted constraint line key kind (Opened pattern methods opening guarded) = ap₂ (λ a b. a || b) (in_number constraint) (ap₂ (λ a b. a || (b || false)) (in_number line) (in_strings (method_names methods)))
+in_members has_login is_accepted constraint line key kind (Uncovered pattern methods) = ap₂ (λ a b. a || b) (in_number constraint) (ap₂ (λ a b. a || (b || false)) (in_number line) (in_strings (method_names methods)))
+in_members has_login is_accepted constraint line key kind (ReadOtherwise pattern methods other) = ap₂ (λ a b. a || b) (in_number constraint) (ap₂ (λ a b. a || (b || false)) (in_number line) (in_strings (method_names methods)))
+in_members has_login is_accepted constraint line key kind (HeadDiffers pattern get head) = ap₂ (λ a b. a || b) (in_number constraint) (ap₂ (λ a b. a || b) (in_strings (roles_in get)) (ap₂ (λ a b. a || (b || false)) (in_strings (roles_in head)) (in_number line)))
+in_members has_login is_accepted constraint line key kind (Dead number) = ap₂ (λ a b. a || (b || false)) (in_number constraint) (in_number line)
+in_members has_login is_accepted constraint line key kind (DeadPattern number pattern) = ap₂ (λ a b. a || (b || false)) (in_number constraint) (in_number line)
+in_members has_login is_accepted constraint line key kind (Unreached number pattern) = ap₂ (λ a b. a || (b || false)) (in_number constraint) (in_number line)
+in_members has_login is_accepted constraint line key kind (Unserved number pattern) = ap₂ (λ a b. a || (b || false)) (in_number constraint) (in_number line)
+in_members has_login is_accepted constraint line key kind (Escaped number pattern) = ap₂ (λ a b. a || (b || false)) (in_number constraint) (in_number line)
+in_members has_login is_accepted constraint line key kind (LoginNeeds path) = ap₂ (λ a b. a || (b || false)) (in_number constraint) (in_number line)
+in_members has_login is_accepted constraint line key kind (UnknownRole number role) = ap₂ (λ a b. a || (b || false)) (in_number constraint) (in_number line)
+in_members has_login is_accepted constraint line key kind (UnheldRole role) = ap₂ (λ a b. a || (b || false)) (in_number constraint) (in_number line)
+in_members has_login is_accepted constraint line key kind (UnusedRole role) = ap₂ (λ a b. a || (b || false)) (in_number constraint) (in_number line)
 
-pub in_finding : (lines : List (Option ℕ)) (reported : ReportedFinding) → has_float (finding_value lines reported) ≡ false
+pub in_finding : (context : ContextReport) (reported : ReportedFinding) → has_float (finding_value context reported) ≡ false
 unfolding finding_value
-in_finding lines reported = in_members reported.is_accepted reported.constraint (line_of lines reported.constraint) reported.key (kind_name reported.finding) reported.finding
+in_finding context reported =
+    in_members context.has_login reported.is_accepted reported.constraint (line_of context.lines reported.constraint) reported.key (kind_name reported.finding) reported.finding

@@ -54,7 +54,7 @@ viewer_value None = null
 viewer_value (Some viewer) = named_viewer viewer
 
 abbrev pub findings_value : ContextReport → Data
-findings_value context = array (items_of (map (finding_value context.lines) context.findings))
+findings_value context = array (items_of (map (finding_value context) context.findings))
 
 abbrev pub rows_value : ContextReport → Data
 rows_value context = array (items_of (map (row_value context) context.rows))

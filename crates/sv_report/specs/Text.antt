@@ -63,7 +63,7 @@ abbrev pub context_text : ContextReport → List ℕ
 context_text context =
     heading_line context ++ title_line context.viewer
     ++ flat_map (row_lines context) context.rows ++ hidden_line context.viewer ++ login_line context.has_login
-    ++ flat_map (finding_lines context.file context.lines) context.findings
+    ++ flat_map (finding_lines context) context.findings
 
 -- The lines of contexts, with an empty line between two.
 abbrev pub contexts_text : List ContextReport → List ℕ

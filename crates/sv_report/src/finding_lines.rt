@@ -7,23 +7,21 @@ ghost use Rattle.sv_report.specs.FindingText as spec;
 use crate::finding_words::{heading, problem_text, remedy};
 use crate::parts::push_all;
 use crate::places::place_text;
-use crate::report::ReportedFinding;
+use crate::report::{ContextReport, ReportedFinding};
 use std::alloc::Global;
 use sv_text::NoMemory;
 
-/// Appends two lines for each finding: what it is, and what to write. `file` has the constraints, which begin on
-/// `lines`.
+/// Appends two lines for each finding of a context: what it is, and what to write.
 pub fn push_findings(
     text: &mut String,
     alloc: Global,
-    file: &str,
-    lines: &[Option<u64>],
+    context: &ContextReport,
     findings: &[ReportedFinding],
 ) -> Result<(), NoMemory>
-    ensures { OnOk result (string_bytes text.new ≡ string_bytes text.old ++ flat_map (spec.finding_lines file.now lines.now) findings.now) }
+    ensures { OnOk result (string_bytes text.new ≡ string_bytes text.old ++ flat_map (spec.finding_lines context.now) findings.now) }
 {
     for finding in findings {
-        push_finding(text, alloc, file, lines, finding)?;
+        push_finding(text, alloc, context, finding)?;
     }
     Ok(())
 }
@@ -31,14 +29,14 @@ pub fn push_findings(
 fn push_finding(
     text: &mut String,
     alloc: Global,
-    file: &str,
-    lines: &[Option<u64>],
+    context: &ContextReport,
     finding: &ReportedFinding,
 ) -> Result<(), NoMemory>
-    ensures { OnOk result (string_bytes text.new ≡ string_bytes text.old ++ spec.finding_lines file.now lines.now finding.now) }
+    ensures { OnOk result (string_bytes text.new ≡ string_bytes text.old ++ spec.finding_lines context.now finding.now) }
 {
-    let problem = problem_text(alloc, &finding.finding)?;
-    let place = place_text(alloc, file, lines, finding.constraint)?;
+    let lines = context.lines.as_slice();
+    let problem = problem_text(alloc, context.has_login, &finding.finding)?;
+    let place = place_text(alloc, context.file.as_str(), lines, finding.constraint)?;
     push_all(
         text,
         &[

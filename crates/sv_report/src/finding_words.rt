@@ -7,8 +7,9 @@ ghost use Rattle.sv_report.specs.FindingWords as spec;
 use crate::escaped::escaped;
 use crate::parts::joined;
 use crate::places::number_text;
-use crate::words::{methods_text, shown_pattern};
+use crate::words::{methods_text, shown_pattern, who_text};
 use std::alloc::Global;
+use sv_audit::Access;
 use sv_constraints::Methods;
 use sv_findings::Finding;
 use sv_text::{NoMemory, Text};
@@ -18,45 +19,70 @@ pub fn kind_name(finding: &Finding) -> &'static str
     ensures { result.now ≡ spec.kind_name finding.now }
 {
     match finding {
-        Finding::Opened(_, _, _) => "opened",
+        Finding::Opened(_, _, _, _) => "opened",
         Finding::Uncovered(_, _) => "uncovered",
-        Finding::HeadDiffers(_) => "head-differs",
+        Finding::ReadOtherwise(_, _, _) => "read-otherwise",
+        Finding::HeadDiffers(_, _, _) => "head-differs",
         Finding::Dead(_) => "dead",
         Finding::DeadPattern(_, _) => "dead-pattern",
+        Finding::Unreached(_, _) => "unreached",
+        Finding::Unserved(_, _) => "unserved",
         Finding::Escaped(_, _) => "escaped",
+        Finding::LoginNeeds(_) => "login-needs",
         Finding::UnknownRole(_, _) => "unknown-role",
         Finding::UnheldRole(_) => "unheld-role",
         Finding::UnusedRole(_) => "unused-role",
     }
 }
 
-/// Returns what a finding is.
-pub fn problem_text(alloc: Global, finding: &Finding) -> Result<Text, NoMemory>
-    ensures { GivesAnswer result (spec.problem_text finding.now) }
+/// Returns what a finding is. A login is possible only with a login configuration.
+pub fn problem_text(alloc: Global, has_login: bool, finding: &Finding) -> Result<Text, NoMemory>
+    ensures { GivesAnswer result (spec.problem_text has_login finding.now) }
 {
     match finding {
-        Finding::Opened(pattern, opening, guarded) => {
-            opened_text(alloc, pattern.as_str(), *opening, *guarded)
+        Finding::Opened(pattern, methods, opening, guarded) => {
+            opened_text(alloc, pattern.as_str(), methods, *opening, *guarded)
         }
-        Finding::Uncovered(pattern, methods) => uncovered_text(alloc, pattern.as_str(), methods),
-        Finding::HeadDiffers(pattern) => head_text(alloc, pattern.as_str()),
+        Finding::Uncovered(pattern, methods) => { uncovered_text(alloc, pattern.as_str(), methods) }
+        Finding::ReadOtherwise(pattern, methods, other) => {
+            read_text(alloc, pattern.as_str(), methods, other.as_str())
+        }
+        Finding::HeadDiffers(pattern, get, head) => {
+            head_text(alloc, has_login, pattern.as_str(), get, head)
+        }
         Finding::Dead(number) => dead_text(alloc, *number),
         Finding::DeadPattern(number, pattern) => {
-            dead_pattern_text(alloc, *number, pattern.as_str())
+            pattern_of(alloc, *number, " covers no request at ", pattern.as_str())
         }
-        Finding::Escaped(number, pattern) => escaped_text(alloc, *number, pattern.as_str()),
+        Finding::Unreached(number, pattern) => {
+            pattern_of(alloc, *number, " covers no request at ", pattern.as_str())
+        }
+        Finding::Unserved(_, pattern) => unserved_text(alloc, pattern.as_str()),
+        Finding::Escaped(number, pattern) => {
+            pattern_of(alloc, *number, " has a percent sign in ", pattern.as_str())
+        }
+        Finding::LoginNeeds(path) => login_text(alloc, path.as_str()),
         Finding::UnknownRole(number, role) => unknown_role_text(alloc, *number, role.as_str()),
-        Finding::UnheldRole(role) => unheld_role_text(alloc, role.as_str()),
-        Finding::UnusedRole(role) => unused_role_text(alloc, role.as_str()),
+        Finding::UnheldRole(role) => role_text(alloc, "no user has the role ", role.as_str()),
+        Finding::UnusedRole(role) => {
+            role_text(alloc, "no constraint names the role ", role.as_str())
+        }
     }
 }
 
-fn opened_text(alloc: Global, pattern: &str, opening: u64, guarded: u64) -> Result<Text, NoMemory>
-    ensures { GivesAnswer result (spec.opened_text pattern.now opening guarded) }
+fn opened_text(
+    alloc: Global,
+    pattern: &str,
+    methods: &Methods,
+    opening: u64,
+    guarded: u64,
+) -> Result<Text, NoMemory>
+    ensures { GivesAnswer result (spec.opened_text pattern.now methods.now opening guarded) }
 {
     let opening = number_text(alloc, opening)?;
     let guarded = number_text(alloc, guarded)?;
     let pattern = shown_pattern(alloc, pattern)?;
+    let methods = methods_text(alloc, methods)?;
     joined(
         alloc,
         &[
@@ -66,54 +92,10 @@ fn opened_text(alloc: Global, pattern: &str, opening: u64, guarded: u64) -> Resu
             guarded.as_str(),
             " restricts at ",
             pattern.as_str(),
+            ": ",
+            methods.as_str(),
         ],
     )
-}
-
-fn dead_pattern_text(alloc: Global, number: u64, pattern: &str) -> Result<Text, NoMemory>
-    ensures { GivesAnswer result (spec.dead_pattern_text number pattern.now) }
-{
-    let number = number_text(alloc, number)?;
-    let pattern = shown_pattern(alloc, pattern)?;
-    joined(
-        alloc,
-        &[
-            "constraint ",
-            number.as_str(),
-            " covers no request at ",
-            pattern.as_str(),
-        ],
-    )
-}
-
-fn escaped_text(alloc: Global, number: u64, pattern: &str) -> Result<Text, NoMemory>
-    ensures { GivesAnswer result (spec.escaped_text number pattern.now) }
-{
-    let number = number_text(alloc, number)?;
-    let pattern = shown_pattern(alloc, pattern)?;
-    joined(
-        alloc,
-        &[
-            "constraint ",
-            number.as_str(),
-            " has a percent sign in ",
-            pattern.as_str(),
-        ],
-    )
-}
-
-fn unheld_role_text(alloc: Global, role: &str) -> Result<Text, NoMemory>
-    ensures { GivesAnswer result (spec.unheld_role_text role.now) }
-{
-    let role = escaped(alloc, role)?;
-    joined(alloc, &["no user has the role ", role.as_str()])
-}
-
-fn unused_role_text(alloc: Global, role: &str) -> Result<Text, NoMemory>
-    ensures { GivesAnswer result (spec.unused_role_text role.now) }
-{
-    let role = escaped(alloc, role)?;
-    joined(alloc, &["no constraint names the role ", role.as_str()])
 }
 
 fn uncovered_text(alloc: Global, pattern: &str, methods: &Methods) -> Result<Text, NoMemory>
@@ -127,6 +109,50 @@ fn uncovered_text(alloc: Global, pattern: &str, methods: &Methods) -> Result<Tex
     )
 }
 
+fn read_text(alloc: Global, pattern: &str, methods: &Methods, other: &str) -> Result<Text, NoMemory>
+    ensures { GivesAnswer result (spec.read_text pattern.now methods.now other.now) }
+{
+    let pattern = shown_pattern(alloc, pattern)?;
+    let methods = methods_text(alloc, methods)?;
+    let other = shown_pattern(alloc, other)?;
+    joined(
+        alloc,
+        &[
+            "Tomcat decides by ",
+            other.as_str(),
+            " what is uncovered at ",
+            pattern.as_str(),
+            ": ",
+            methods.as_str(),
+        ],
+    )
+}
+
+fn head_text(
+    alloc: Global,
+    has_login: bool,
+    pattern: &str,
+    get: &Access,
+    head: &Access,
+) -> Result<Text, NoMemory>
+    ensures { GivesAnswer result (spec.head_text has_login pattern.now get.now head.now) }
+{
+    let pattern = shown_pattern(alloc, pattern)?;
+    let get = who_text(alloc, has_login, get)?;
+    let head = who_text(alloc, has_login, head)?;
+    joined(
+        alloc,
+        &[
+            "GET and HEAD differ at ",
+            pattern.as_str(),
+            ": GET ",
+            get.as_str(),
+            "; HEAD ",
+            head.as_str(),
+        ],
+    )
+}
+
 fn dead_text(alloc: Global, number: u64) -> Result<Text, NoMemory>
     ensures { GivesAnswer result (spec.dead_text number) }
 {
@@ -134,6 +160,40 @@ fn dead_text(alloc: Global, number: u64) -> Result<Text, NoMemory>
     joined(
         alloc,
         &["constraint ", number.as_str(), " covers no request"],
+    )
+}
+
+/// Returns a constraint, words, and one of its patterns.
+#[tactic(auto, unfolding(crate::specs::FindingWords::pattern_of))]
+fn pattern_of(alloc: Global, number: u64, words: &str, pattern: &str) -> Result<Text, NoMemory>
+    ensures { GivesAnswer result (spec.pattern_of number words.now pattern.now) }
+{
+    let number = number_text(alloc, number)?;
+    let pattern = shown_pattern(alloc, pattern)?;
+    joined(
+        alloc,
+        &["constraint ", number.as_str(), words, pattern.as_str()],
+    )
+}
+
+fn unserved_text(alloc: Global, pattern: &str) -> Result<Text, NoMemory>
+    ensures { GivesAnswer result (spec.unserved_text pattern.now) }
+{
+    let pattern = shown_pattern(alloc, pattern)?;
+    joined(alloc, &["nothing answers at ", pattern.as_str()])
+}
+
+fn login_text(alloc: Global, path: &str) -> Result<Text, NoMemory>
+    ensures { GivesAnswer result (spec.login_text path.now) }
+{
+    let path = escaped(alloc, path)?;
+    joined(
+        alloc,
+        &[
+            "the login page needs ",
+            path.as_str(),
+            ", which needs a login itself",
+        ],
     )
 }
 
@@ -153,17 +213,11 @@ fn unknown_role_text(alloc: Global, number: u64, role: &str) -> Result<Text, NoM
     )
 }
 
-fn head_text(alloc: Global, pattern: &str) -> Result<Text, NoMemory>
-    ensures { GivesAnswer result (spec.head_text pattern.now) }
+fn role_text(alloc: Global, words: &str, role: &str) -> Result<Text, NoMemory>
+    ensures { GivesAnswer result (spec.role_text words.now role.now) }
 {
-    let pattern = shown_pattern(alloc, pattern)?;
-    joined(
-        alloc,
-        &[
-            "GET and HEAD are open to different callers at ",
-            pattern.as_str(),
-        ],
-    )
+    let role = escaped(alloc, role)?;
+    joined(alloc, &[words, role.as_str()])
 }
 
 /// Returns what to write in the descriptor.
@@ -171,18 +225,30 @@ pub fn remedy(finding: &Finding) -> &'static str
     ensures { result.now ≡ spec.remedy finding.now }
 {
     match finding {
-        Finding::Opened(_, _, _) => "Name roles in both, or take the pattern out of one of them.",
+        Finding::Opened(_, _, _, _) => {
+            "Name roles in both, or take the pattern out of one of them."
+        }
         Finding::Uncovered(_, _) => "Cover all methods there, or set deny-uncovered-http-methods.",
-        Finding::HeadDiffers(_) => "Name HEAD wherever GET is named.",
+        Finding::ReadOtherwise(_, _, _) => {
+            "Cover all methods at the prefix, so that both decide alike."
+        }
+        Finding::HeadDiffers(_, _, _) => "Name HEAD wherever GET is named.",
         Finding::Dead(_) => {
             "No path matches its patterns, or /* is chosen before them. Change them, or remove it."
         }
         Finding::DeadPattern(_, _) => {
             "No path matches it, or /* is chosen before it. Change it, or remove it."
         }
+        Finding::Unreached(_, _) => {
+            "Its paths are hidden, or belong to another context. Remove the pattern."
+        }
+        Finding::Unserved(_, _) => {
+            "No servlet, file or folder has such a path. Remove the pattern, or correct it."
+        }
         Finding::Escaped(_, _) => {
             "Patterns are compared with decoded paths. Write the character itself."
         }
+        Finding::LoginNeeds(_) => "Let everyone GET it.",
         Finding::UnknownRole(_, _) => "Declare it in a security-role, or correct the name.",
         Finding::UnheldRole(_) => "Give it to a user, or correct the name in the constraints.",
         Finding::UnusedRole(_) => "Name it in a constraint, or remove its security-role.",

@@ -68,12 +68,7 @@ fn push_context(text: &mut String, alloc: Global, context: &ContextReport) -> Re
     ensures { OnOk result (string_bytes text.new ≡ string_bytes text.old ++ compact_text (spec.context_value context.now)) }
 {
     push_start(text, alloc, context)?;
-    push_findings(
-        text,
-        alloc,
-        context.lines.as_slice(),
-        context.findings.as_slice(),
-    )?;
+    push_findings(text, alloc, context, context.findings.as_slice())?;
     push_login(text, context.has_login)?;
     push_rows(text, alloc, context, context.rows.as_slice())?;
     push_end(text, alloc, &context.viewer)
@@ -126,17 +121,17 @@ fn truth_word(holds: bool) -> &'static str
 fn push_findings(
     text: &mut String,
     alloc: Global,
-    lines: &[Option<u64>],
+    context: &ContextReport,
     findings: &[ReportedFinding],
 ) -> Result<(), NoMemory>
-    ensures { OnOk result (string_bytes text.new ≡ string_bytes text.old ++ compact_text (array (items_of (map (value_of lines.now) findings.now)))) }
+    ensures { OnOk result (string_bytes text.new ≡ string_bytes text.old ++ compact_text (array (items_of (map (value_of context.now) findings.now)))) }
 {
     let Some((finding, others)) = findings.split_first() else {
         return Ok(text.push_str("[]")?);
     };
     text.push_str("[")?;
-    push_finding(text, alloc, lines, finding)?;
-    push_other_findings(text, alloc, lines, others)?;
+    push_finding(text, alloc, context, finding)?;
+    push_other_findings(text, alloc, context, others)?;
     Ok(text.push_str("]")?)
 }
 
@@ -144,14 +139,14 @@ fn push_findings(
 fn push_other_findings(
     text: &mut String,
     alloc: Global,
-    lines: &[Option<u64>],
+    context: &ContextReport,
     others: &[ReportedFinding],
 ) -> Result<(), NoMemory>
-    ensures { OnOk result (string_bytes text.new ≡ string_bytes text.old ++ flat_map (λ other. codes "," ++ compact_text (value_of lines.now other)) others.now) }
+    ensures { OnOk result (string_bytes text.new ≡ string_bytes text.old ++ flat_map (λ other. codes "," ++ compact_text (value_of context.now other)) others.now) }
 {
     for other in others {
         text.push_str(",")?;
-        push_finding(text, alloc, lines, other)?;
+        push_finding(text, alloc, context, other)?;
     }
     Ok(())
 }
@@ -159,12 +154,12 @@ fn push_other_findings(
 fn push_finding(
     text: &mut String,
     alloc: Global,
-    lines: &[Option<u64>],
+    context: &ContextReport,
     finding: &ReportedFinding,
 ) -> Result<(), NoMemory>
-    ensures { OnOk result (string_bytes text.new ≡ string_bytes text.old ++ compact_text (value_of lines.now finding.now)) }
+    ensures { OnOk result (string_bytes text.new ≡ string_bytes text.old ++ compact_text (value_of context.now finding.now)) }
 {
-    let value = finding_value(alloc, lines, finding)?;
+    let value = finding_value(alloc, context, finding)?;
     push_value(text, alloc, &value)
 }
 

@@ -98,13 +98,7 @@ fn push_context(text: &mut String, alloc: Global, context: &ContextReport) -> Re
     push_rows(text, alloc, context, context.rows.as_slice())?;
     push_hidden(text, &context.viewer)?;
     push_login(text, context.has_login)?;
-    push_findings(
-        text,
-        alloc,
-        context.file.as_str(),
-        context.lines.as_slice(),
-        context.findings.as_slice(),
-    )
+    push_findings(text, alloc, context, context.findings.as_slice())
 }
 
 fn push_heading(text: &mut String, alloc: Global, context: &ContextReport) -> Result<(), NoMemory>

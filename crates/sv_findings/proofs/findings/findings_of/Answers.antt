@@ -3,7 +3,8 @@ use Rattle.std.specs.List.{flat_map}
 use Rattle.sv_constraints.specs.Covering.{all_patterns, lists}
 use Rattle.sv_constraints.specs.declared.constraint.Constraint.{Constraint}
 use Rattle.sv_findings.specs.Dead.{dead_among, dead_patterns, escaped}
-use Rattle.sv_findings.specs.Findings.{head_at, uncovered_at}
+use Rattle.sv_findings.specs.Findings.{uncovered_at}
+use Rattle.sv_findings.specs.Heads.{head_at}
 use Rattle.sv_findings.specs.Opened.{opened_at}
 use Rattle.sv_findings.specs.RoleFindings.{unheld_roles, unknown_among, unused_roles}
 use Rattle.sv_findings.specs.declared.finding.Finding.{Finding}

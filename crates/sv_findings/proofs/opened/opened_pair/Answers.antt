@@ -3,11 +3,8 @@ use Rattle.std.proofs.lemmas.List.{take_all}
 use Rattle.std.specs.Prelude.{fold}
 use Rattle.std.specs.Borrow.{Bor}
 use Rattle.sv_constraints.specs.declared.constraint.Constraint.{Constraint}
-use Rattle.sv_findings.specs.Opened.{lesser_pair, opened_by, opened_for, opened_pair}
+use Rattle.sv_findings.specs.Opened.{lesser_pair, opened_for, opened_pair}
 use Rattle.sv_findings.proofs.opened.opened_pair.Goals as goal
-
-abbrev seen : List (Bor Constraint) → List Constraint
-seen members = map (λ (member : Bor Constraint). member.now) members
 
 abbrev texts : List (Bor (List ℕ)) → List (List ℕ)
 texts names = map (λ (name : Bor (List ℕ)). name.now) names
@@ -21,6 +18,6 @@ returns c =
     c.lesser_pair.ensures
     ∙ ap₂ lesser_pair
     (c.loop-name.invariant
-    ∙ ap (λ names. least_of (seen c.args.members.now) c.args.pattern.now (texts names)) (take_all c.loop-name.name-index c.as_slice-name-items.result.now c.loop-name-test.false ∙ c.as_slice-name-items.ensures.value)
-    ∙ ap (least_of (seen c.args.members.now) c.args.pattern.now) c.in_ok-named_methods.ensures)
-    (c.opened_by-2.ensures ∙ ap (λ items. opened_by (seen items)) c.as_slice-2.ensures.value ∙ ap opened_by c.in_ok-covering-2.ensures)
+    ∙ ap (λ names. least_of (map (λ (member : Bor Constraint). member.now) c.args.members.now) c.args.pattern.now (texts names)) (take_all c.loop-name.name-index c.as_slice-name-items.result.now c.loop-name-test.false ∙ c.as_slice-name-items.ensures.value)
+    ∙ ap (least_of (map (λ (member : Bor Constraint). member.now) c.args.members.now) c.args.pattern.now) c.in_ok-rising_names.ensures)
+    c.in_ok-opened_for-2.ensures

@@ -6,4 +6,4 @@ use Rattle.sv_report.specs.FindingJson.{finding_value}
 use Rattle.sv_report.proofs.json_text.push_other_findings.Given as goal
 
 abbrev pub invariant-loop-other : goal.invariant-loop-other
-invariant-loop-other l = string_bytes l.text ≡ string_bytes l.fn.text ++ flat_map (λ other. codes "," ++ compact_text (finding_value l.lines other)) (take l.other-index l.others)
+invariant-loop-other l = string_bytes l.text ≡ string_bytes l.fn.text ++ flat_map (λ other. codes "," ++ compact_text (finding_value l.context other)) (take l.other-index l.others)
