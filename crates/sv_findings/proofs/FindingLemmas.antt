@@ -4,10 +4,10 @@ use Rattle.std.proofs.lemmas.Bool.Decides.{Decides-eqb}
 use Rattle.std.proofs.lemmas.List.Elements.{All-append, All-cons, All-contains, All-contains_itself, All-head, All-map, All-nil, All-same, All-tail}
 use Rattle.std.proofs.lemmas.List.Sums.{AllPass-from_list_all}
 use Rattle.std.proofs.lemmas.Slice.Eq.{bytes_eq-Decides, starts_is}
-use Rattle.std.proofs.Common.{◌≡◌, ℕ, Bool, true, false, not, ◌||◌, ◌&&◌, List, [], ◌∷◌, ◌++◌, map, length, drop, codes, refl, ap, sym, ◌∙◌, cond, Option, None, Some, inl, inr, ◌==◌}
-use Rattle.std.specs.Prelude.{All, Contains, filter, slice_index_or}
+use Rattle.std.proofs.Common.{◌≡◌, ℕ, ◌<◌, Bool, true, false, not, ◌||◌, ◌&&◌, List, [], ◌∷◌, ◌++◌, map, length, drop, codes, refl, ap, sym, ◌∙◌, cond, Option, None, Some, inl, inr, ◌==◌}
+use Rattle.std.specs.Prelude.{All, Contains, IsTrue, filter, find, slice_index_or}
 use Rattle.std.specs.List.{flat_map, list_all, list_any}
-use Rattle.std.specs.Option.{option_to_list}
+use Rattle.std.specs.Option.{option_and_then, option_map_or, option_to_list}
 use Rattle.std.specs.Str.{bytes_eq}
 use Rattle.sv_mapping.specs.BestMatch.{best_pattern, is_best, outranks}
 use Rattle.sv_mapping.specs.Pattern.{form, is_extension_pattern, matches}
@@ -20,12 +20,16 @@ use Rattle.sv_constraints.specs.declared.cause.Cause.TheVariants as cause
 use Rattle.sv_constraints.specs.declared.constraint.Auth.{Auth}
 use Rattle.sv_constraints.specs.declared.constraint.Auth.TheVariants as auth
 use Rattle.sv_constraints.specs.declared.constraint.Constraint.{Constraint}
+use Rattle.sv_constraints.specs.declared.constraint.Methods.{Methods}
+use Rattle.sv_constraints.specs.declared.constraint.Methods.TheVariants.{All as AllMethods, Only, Except}
 use Rattle.sv_constraints.specs.declared.constraint.Rules.{Rules}
 use Rattle.sv_policy.proofs.Best.{found_in}
 use Rattle.sv_policy.proofs.Listed.{covers_listed, different_lists, listed_by}
 use Rattle.sv_policy.proofs.Rising.{rising_lists}
 use Rattle.sv_policy.proofs.Steps.{any_of_joined, passing_lists}
 use Rattle.sv_policy.specs.Patterns.{different}
+use Rattle.sv_policy.specs.Uncovered.{is_uncovered}
+use Rattle.std.proofs.lemmas.List.Folds.{list_any-append}
 use Rattle.sv_uri.specs.Shape.{CanonicalHasShape}
 use Rattle.sv_audit.proofs.Callers.{apart}
 use Rattle.sv_audit.proofs.Equal.{and_left, and_right, both}
@@ -34,16 +38,22 @@ use Rattle.sv_audit.proofs.RowCells.{row_cell}
 use Rattle.sv_audit.proofs.Said.{said}
 use Rattle.sv_audit.proofs.Witness.{found}
 use Rattle.sv_audit.specs.Access.{cell_at, roles_meant}
-use Rattle.sv_findings.proofs.OpenedLemmas.{AreOpen, AreOpenFor, are_open, kept_all, opened_exact, some_open}
+use Rattle.sv_findings.proofs.OpenedLemmas.{AreOpen, AreOpenFor, are_open, fresh, is_fresh, kept_all, opened_exact, some_open}
 use Rattle.sv_audit.proofs.Shapes.{IsShaped, nothing_matches, served_shaped}
-use Rattle.sv_findings.specs.Dead.{dead_among, dead_patterns, dead_patterns_in, decides_nothing, escaped, escaped_in, is_beaten, is_dead, is_escaped}
+use Rattle.sv_findings.specs.Dead.{is_tried_late, dead_among, dead_patterns, dead_patterns_in, decides_nothing, escaped, escaped_in, is_beaten, is_dead, is_escaped}
 use Rattle.sv_audit.specs.Shapes.{matches_nothing}
 use Rattle.sv_findings.specs.FindingLaws.{FindingsAreRight, IsMeant, IsNeverBest, IsOpen, IsRestricted, IsRight, names_in}
 use Rattle.sv_audit.specs.Shapes.{IsServed}
 use Rattle.sv_findings.specs.Opened.{opened_at, opened_for, opened_methods, opened_pair}
-use Rattle.sv_findings.specs.RoleFindings.{is_role, is_unheld, is_unknown, is_unused, named_roles, unheld_roles, unknown_among, unknown_roles, unused_roles}
+use Rattle.sv_findings.specs.RoleFindings.{is_role, is_unheld, is_unknown, is_unused, named_roles, role_findings, unheld_roles, unknown_among, unknown_roles, unused_roles}
 use Rattle.sv_audit.specs.Callers.{has_method, same_callers}
-use Rattle.sv_findings.specs.Findings.{findings_of, is_left_open, is_left_out, uncovered_at}
+use Rattle.sv_findings.specs.Findings.{findings_of, pattern_findings, reached_rows, row_findings}
+use Rattle.sv_findings.specs.Uncovered.{is_left_open, is_left_out, uncovered_at}
+use Rattle.sv_findings.specs.ReachedRows.{is_row_reached}
+use Rattle.sv_findings.specs.Reach.{is_reached}
+use Rattle.sv_findings.specs.Readings.{covers_one, covers_part, first_covering, is_covered, is_late, is_prefix, read_as, read_at, read_otherwise, share_method}
+use Rattle.sv_findings.specs.Unreached.{is_unreached, unreached, unreached_in}
+use Rattle.sv_findings.specs.declared.surroundings.Surroundings.{Surroundings}
 use Rattle.sv_findings.specs.Heads.{head_at, head_on, straying, strays}
 use Rattle.sv_audit.specs.Reading.{Kind, Passes, kind_and_cause, said_to}
 use Rattle.sv_audit.specs.Rows.{in_row_order, match_every_path, other_paths, row_at, table_of}
@@ -112,7 +122,7 @@ module _ (constraints : List Constraint) (rules : Rules) (pattern : List ℕ) wh
       ∙ sym (ap (λ b. kind_and_cause (verdict_at rules caller b (covering constraints b method))) best)
 
 -- ---- The findings of a row are right.
-module _ (constraints : List Constraint) (rules : Rules) (held : Option (List (List ℕ))) (pattern : List ℕ) where
+module _ (constraints : List Constraint) (rules : Rules) (surroundings : Surroundings) (pattern : List ℕ) where
   abbrev its_groups : List Group
   its_groups = (row_at constraints rules pattern).groups
 
@@ -126,24 +136,24 @@ module _ (constraints : List Constraint) (rules : Rules) (held : Option (List (L
       let it : (number : ℕ) × (other : ℕ) × AreOpenFor constraints pattern method number other = some_open constraints pattern (opened_for constraints pattern (Some method)) method refl (sym (opened_exact constraints pattern method) ∙ held_in) in
       opened_method method it.0 it.1 it.2
 
-  opened_from : (found : Option (ℕ × ℕ)) → opened_pair constraints pattern ≡ found → All (IsRight constraints rules held) (map (λ (pair : ℕ × ℕ). finding.Opened pattern (opened_methods constraints pattern) pair.0 pair.1) (option_to_list found))
-  opened_from None is = All-nil (IsRight constraints rules held)
+  opened_from : (found : Option (ℕ × ℕ)) → opened_pair constraints pattern ≡ found → All (IsRight constraints rules surroundings) (map (λ (pair : ℕ × ℕ). finding.Opened pattern (opened_methods constraints pattern) pair.0 pair.1) (option_to_list found))
+  opened_from None is = All-nil (IsRight constraints rules surroundings)
   opened_from (Some pair) is =
       let it : AreOpen constraints pattern pair.0 pair.1 = are_open constraints pattern pair is in
-      All-cons (IsRight constraints rules held) (finding.Opened pattern (opened_methods constraints pattern) pair.0 pair.1) []
+      All-cons (IsRight constraints rules surroundings) (finding.Opened pattern (opened_methods constraints pattern) pair.0 pair.1) []
       (each_opened, (it.0, opened_exact constraints pattern it.0 ∙ it.1, it.2.0))
-      (All-nil (IsRight constraints rules held))
+      (All-nil (IsRight constraints rules surroundings))
 
-  uncovered_from : (denied : Bool) → All (IsRight constraints rules held) (cond denied [] (map (λ (group : Group). finding.Uncovered pattern group.methods) (filter is_left_out its_groups)))
-  uncovered_from true = All-nil (IsRight constraints rules held)
+  uncovered_from : (denied : Bool) → All (IsRight constraints rules surroundings) (cond denied [] (map (λ (group : Group). finding.Uncovered pattern group.methods) (filter is_left_out its_groups)))
+  uncovered_from true = All-nil (IsRight constraints rules surroundings)
   uncovered_from false =
-      All-map (IsRight constraints rules held) (λ (group : Group). finding.Uncovered pattern group.methods) (filter is_left_out its_groups)
-      (kept_all (λ (group : Group). IsRight constraints rules held (finding.Uncovered pattern group.methods)) is_left_out its_groups
+      All-map (IsRight constraints rules surroundings) (λ (group : Group). finding.Uncovered pattern group.methods) (filter is_left_out its_groups)
+      (kept_all (λ (group : Group). IsRight constraints rules surroundings (finding.Uncovered pattern group.methods)) is_left_out its_groups
       (λ k d within left method path caller best has.
       sym (says constraints rules pattern method path caller (slice_index_or its_groups k d).cell best (in_row constraints rules pattern method k d within has))
       ∙ left_out_passes caller (slice_index_or its_groups k d).cell.access left))
 
-  apart_here : (get head : Cell) → get ≡ cell_for constraints rules pattern (codes "GET") → head ≡ cell_for constraints rules pattern (codes "HEAD") → not (same_callers get.access head.access) ≡ true → IsRight constraints rules held (finding.HeadDiffers pattern get.access head.access)
+  apart_here : (get head : Cell) → get ≡ cell_for constraints rules pattern (codes "GET") → head ≡ cell_for constraints rules pattern (codes "HEAD") → not (same_callers get.access head.access) ≡ true → IsRight constraints rules surroundings (finding.HeadDiffers pattern get.access head.access)
   apart_here get head is was differ =
       let it : (caller : Option Caller) × ((said_to caller get.access).0 ≡ (said_to caller head.access).0 → ⊥) = apart get.access head.access differ in (
         λ path caller best. says constraints rules pattern (codes "GET") path caller get best is,
@@ -152,19 +162,19 @@ module _ (constraints : List Constraint) (rules : Rules) (held : Option (List (L
         λ path best same. it.1 (ap (λ (x : Kind × Cause). x.0) (says constraints rules pattern (codes "GET") path it.0 get best is) ∙ same ∙ sym (ap (λ (x : Kind × Cause). x.0) (says constraints rules pattern (codes "HEAD") path it.0 head best was))),
       )
 
-  straying_right : (get : Group) → get.cell ≡ cell_for constraints rules pattern (codes "GET") → All (IsRight constraints rules held) (straying pattern its_groups get.cell.access)
+  straying_right : (get : Group) → get.cell ≡ cell_for constraints rules pattern (codes "GET") → All (IsRight constraints rules surroundings) (straying pattern its_groups get.cell.access)
   straying_right get is =
-      All-map (IsRight constraints rules held) (λ (head : Group). finding.HeadDiffers pattern get.cell.access head.cell.access) (filter (strays get.cell.access) its_groups)
-      (kept_all (λ (head : Group). IsRight constraints rules held (finding.HeadDiffers pattern get.cell.access head.cell.access)) (strays get.cell.access) its_groups
+      All-map (IsRight constraints rules surroundings) (λ (head : Group). finding.HeadDiffers pattern get.cell.access head.cell.access) (filter (strays get.cell.access) its_groups)
+      (kept_all (λ (head : Group). IsRight constraints rules surroundings (finding.HeadDiffers pattern get.cell.access head.cell.access)) (strays get.cell.access) its_groups
       (λ k d within strays_here.
       let head : Group = slice_index_or its_groups k d in
       apart_here get.cell head.cell is (in_row constraints rules pattern (codes "HEAD") k d within (and_left (has_method (codes "HEAD") head) (not (same_callers get.cell.access head.cell.access)) strays_here))
       (and_right (has_method (codes "HEAD") head) (not (same_callers get.cell.access head.cell.access)) strays_here)))
 
-  head_right : All (IsRight constraints rules held) (head_on pattern its_groups)
+  head_right : All (IsRight constraints rules surroundings) (head_on pattern its_groups)
   head_right =
-      joined (IsRight constraints rules held) (λ (get : Group). straying pattern its_groups get.cell.access) (filter (has_method (codes "GET")) its_groups)
-      (kept_all (λ (get : Group). All (IsRight constraints rules held) (straying pattern its_groups get.cell.access)) (has_method (codes "GET")) its_groups
+      joined (IsRight constraints rules surroundings) (λ (get : Group). straying pattern its_groups get.cell.access) (filter (has_method (codes "GET")) its_groups)
+      (kept_all (λ (get : Group). All (IsRight constraints rules surroundings) (straying pattern its_groups get.cell.access)) (has_method (codes "GET")) its_groups
       (λ k d within has. straying_right (slice_index_or its_groups k d) (in_row constraints rules pattern (codes "GET") k d within has)))
 
 -- ---- A pattern that decides nothing is the best match of no path of a request.
@@ -218,9 +228,9 @@ module _ (shapes : CanonicalHasShape) (constraints : List Constraint) where
       absurd (never_best pattern (passes_in (decides_nothing has_prefix) (patterns_in c) pattern dead (listed_by pattern c ∙ covers_listed pattern method c is)) path served best)
   covers_nothing_at c method path pattern false is dead served best = refl
 
-  module _ (rules : Rules) (held : Option (List (List ℕ))) where
+  module _ (rules : Rules) (surroundings : Surroundings) where
     abbrev Right : Finding → Type 0
-    Right = IsRight constraints rules held
+    Right = IsRight constraints rules surroundings
 
     dead_right : All Right (dead_among has_prefix constraints)
     dead_right =
@@ -255,12 +265,12 @@ module _ (shapes : CanonicalHasShape) (constraints : List Constraint) where
     escaped_right = joined Right escaped_in constraints (λ k d within. escaped_at (slice_index_or constraints k d) (All-contains_itself constraints k d within))
 
 -- ---- Roles.
-module _ (constraints : List Constraint) (rules : Rules) (held : Option (List (List ℕ))) where
-  unknown_at : (c : Constraint) → Contains constraints c → (its_auth : Auth) → c.auth ≡ its_auth → All (IsRight constraints rules held) (unknown_roles rules.declared c.number its_auth)
-  unknown_at c there auth.Absent is = All-nil (IsRight constraints rules held)
+module _ (constraints : List Constraint) (rules : Rules) (surroundings : Surroundings) where
+  unknown_at : (c : Constraint) → Contains constraints c → (its_auth : Auth) → c.auth ≡ its_auth → All (IsRight constraints rules surroundings) (unknown_roles rules.declared c.number its_auth)
+  unknown_at c there auth.Absent is = All-nil (IsRight constraints rules surroundings)
   unknown_at c there (auth.Roles names) is =
-      All-map (IsRight constraints rules held) (finding.UnknownRole c.number) (filter (is_unknown rules.declared) names)
-      (kept_all (λ name. IsRight constraints rules held (finding.UnknownRole c.number name)) (is_unknown rules.declared) names
+      All-map (IsRight constraints rules surroundings) (finding.UnknownRole c.number) (filter (is_unknown rules.declared) names)
+      (kept_all (λ name. IsRight constraints rules surroundings (finding.UnknownRole c.number name)) (is_unknown rules.declared) names
       (λ k d within unknown. (
         c,
         there,
@@ -269,9 +279,9 @@ module _ (constraints : List Constraint) (rules : Rules) (held : Option (List (L
         not-true (lists rules.declared (slice_index_or names k d)) (and_right (is_role (slice_index_or names k d)) (not (lists rules.declared (slice_index_or names k d))) unknown),
       )))
 
-  unknown_right : All (IsRight constraints rules held) (unknown_among rules.declared constraints)
+  unknown_right : All (IsRight constraints rules surroundings) (unknown_among rules.declared constraints)
   unknown_right =
-      joined (IsRight constraints rules held) (λ (c : Constraint). unknown_roles rules.declared c.number c.auth) constraints
+      joined (IsRight constraints rules surroundings) (λ (c : Constraint). unknown_roles rules.declared c.number c.auth) constraints
       (λ k d within. unknown_at (slice_index_or constraints k d) (All-contains_itself constraints k d within) (slice_index_or constraints k d).auth refl)
 
   abbrev meant_by : Constraint → List (List ℕ)
@@ -288,11 +298,11 @@ module _ (constraints : List Constraint) (rules : Rules) (held : Option (List (L
       found (IsMeant constraints rules role) (λ (c : Constraint). lists (meant_by c) role) constraints (sym (named_any role) ∙ there)
       (λ k d within has. (slice_index_or constraints k d, All-contains_itself constraints k d within, has))
 
-  unheld_from : (users : Option (List (List ℕ))) → held ≡ users → All (IsRight constraints rules held) (unheld_roles rules.declared users constraints)
-  unheld_from None is = All-nil (IsRight constraints rules held)
+  unheld_from : (users : Option (List (List ℕ))) → surroundings.held ≡ users → All (IsRight constraints rules surroundings) (unheld_roles rules.declared users constraints)
+  unheld_from None is = All-nil (IsRight constraints rules surroundings)
   unheld_from (Some users) is =
-      All-map (IsRight constraints rules held) finding.UnheldRole (filter (is_unheld rules.declared users) named)
-      (kept_all (λ role. IsRight constraints rules held (finding.UnheldRole role)) (is_unheld rules.declared users) named
+      All-map (IsRight constraints rules surroundings) finding.UnheldRole (filter (is_unheld rules.declared users) named)
+      (kept_all (λ role. IsRight constraints rules surroundings (finding.UnheldRole role)) (is_unheld rules.declared users) named
       (λ k d within unheld.
       let role : List ℕ = slice_index_or named k d in
       let parts : ((is_role role && (length rules.declared == 0 || lists rules.declared role)) ≡ true) × (not (lists users role) ≡ true) = and_parts (is_role role && (length rules.declared == 0 || lists rules.declared role)) (not (lists users role)) unheld in (
@@ -309,38 +319,213 @@ module _ (constraints : List Constraint) (rules : Rules) (held : Option (List (L
   abbrev unused_texts : List (List ℕ)
   unused_texts = filter (is_unused named) rules.declared
 
-  unused_at : (role : List ℕ) → lists (different unused_texts) role ≡ true → IsRight constraints rules held (finding.UnusedRole role)
+  unused_at : (role : List ℕ) → lists (different unused_texts) role ≡ true → IsRight constraints rules surroundings (finding.UnusedRole role)
   unused_at role there =
       let parts : (lists rules.declared role ≡ true) × (is_unused named role ≡ true) = and_parts (lists rules.declared role) (is_unused named role) (sym (passing_lists (is_unused named) rules.declared role) ∙ sym (different_lists unused_texts role) ∙ there) in
       (parts.0, not_meant role (not-true (lists named role) (and_right (is_role role) (not (lists named role)) parts.1)))
 
-  unused_right : All (IsRight constraints rules held) (unused_roles rules.declared constraints)
+  unused_right : All (IsRight constraints rules surroundings) (unused_roles rules.declared constraints)
   unused_right =
-      All-map (IsRight constraints rules held) finding.UnusedRole (different unused_texts)
+      All-map (IsRight constraints rules surroundings) finding.UnusedRole (different unused_texts)
       (λ k d within. unused_at (slice_index_or (different unused_texts) k d) (in_texts (different unused_texts) (slice_index_or (different unused_texts) k d) (All-contains_itself (different unused_texts) k d within)))
 
-  -- ---- The rows of the table.
-  module _ (at : Option (List ℕ) → List Group → List Finding) (each : (pattern : List ℕ) → All (IsRight constraints rules held) (at (Some pattern) (row_at constraints rules pattern).groups)) (none : All (IsRight constraints rules held) (at None other_paths.groups)) where
-    last_row : (closed : Bool) → All (λ (row : Row). All (IsRight constraints rules held) (at row.pattern row.groups)) (cond closed [] (other_paths ∷ []))
-    last_row true = All-nil (λ (row : Row). All (IsRight constraints rules held) (at row.pattern row.groups))
-    last_row false = All-cons (λ (row : Row). All (IsRight constraints rules held) (at row.pattern row.groups)) other_paths [] none (All-nil (λ (row : Row). All (IsRight constraints rules held) (at row.pattern row.groups)))
+  -- ---- The rows of the table that are reached.
+  -- Each row of a pattern has its groups.
+  abbrev IsMade : Row → Type 0
+  IsMade row = (pattern : List ℕ) → row.pattern ≡ Some pattern → row.groups ≡ (row_at constraints rules pattern).groups
 
-    rows_right : All (IsRight constraints rules held) (flat_map (λ (row : Row). at row.pattern row.groups) (table_of constraints rules).rows)
-    rows_right =
-        joined (IsRight constraints rules held) (λ (row : Row). at row.pattern row.groups) (table_of constraints rules).rows
-        (All-append (λ (row : Row). All (IsRight constraints rules held) (at row.pattern row.groups)) (map (row_at constraints rules) (in_row_order (all_patterns constraints))) (cond (match_every_path (all_patterns constraints)) [] (other_paths ∷ []))
-        (All-map (λ (row : Row). All (IsRight constraints rules held) (at row.pattern row.groups)) (row_at constraints rules) (in_row_order (all_patterns constraints)) (λ k d within. each (slice_index_or (in_row_order (all_patterns constraints)) k d)))
-        (last_row (match_every_path (all_patterns constraints))))
+  made_last : (closed : Bool) → All IsMade (cond closed [] (other_paths ∷ []))
+  made_last true = All-nil IsMade
+  made_last false = All-cons IsMade other_paths [] (λ pattern is. cc) (All-nil IsMade)
 
-module _ (constraints : List Constraint) (rules : Rules) (held : Option (List (List ℕ))) where
+  made_at : (text pattern : List ℕ) → Some text ≡ Some pattern → (row_at constraints rules text).groups ≡ (row_at constraints rules pattern).groups
+  made_at text pattern is = let same : text ≡ pattern = cc in ap (λ t. (row_at constraints rules t).groups) same
+
+  all_made : All IsMade (table_of constraints rules).rows
+  all_made =
+      All-append IsMade (map (row_at constraints rules) (in_row_order (all_patterns constraints))) (cond (match_every_path (all_patterns constraints)) [] (other_paths ∷ []))
+      (All-map IsMade (row_at constraints rules) (in_row_order (all_patterns constraints)) (λ k d within pattern is. made_at (slice_index_or (in_row_order (all_patterns constraints)) k d) pattern is))
+      (made_last (match_every_path (all_patterns constraints)))
+
+  abbrev pub the_rows : List Row
+  the_rows = reached_rows surroundings (table_of constraints rules).rows
+
+  kept_made : (test : Row → Bool) (rows : List Row) → All IsMade rows → All IsMade (filter test rows)
+  kept_made test rows all = kept_all IsMade test rows (λ k d within passing. all k d within)
+
+  reached_made : All IsMade the_rows
+  reached_made = kept_made (is_row_reached surroundings.contexts surroundings.path) (table_of constraints rules).rows all_made
+
+  module _ (at : Option (List ℕ) → List Group → List Finding) (each : (pattern : List ℕ) → All (IsRight constraints rules surroundings) (at (Some pattern) (row_at constraints rules pattern).groups)) (none : (groups : List Group) → All (IsRight constraints rules surroundings) (at None groups)) where
+    row_right : (pattern : Option (List ℕ)) (groups : List Group) → ((text : List ℕ) → pattern ≡ Some text → groups ≡ (row_at constraints rules text).groups) → All (IsRight constraints rules surroundings) (at pattern groups)
+    row_right None groups made = none groups
+    row_right (Some pattern) groups made = All-same (IsRight constraints rules surroundings) (at (Some pattern) groups) (at (Some pattern) (row_at constraints rules pattern).groups) (ap (at (Some pattern)) (made pattern refl)) (each pattern)
+
+    rows_right : All (IsRight constraints rules surroundings) (flat_map (λ (row : Row). at row.pattern row.groups) the_rows)
+    rows_right = joined (IsRight constraints rules surroundings) (λ (row : Row). at row.pattern row.groups) the_rows (λ k d within. row_right (slice_index_or the_rows k d).pattern (slice_index_or the_rows k d).groups (reached_made k d within))
+
+-- ---- What is read otherwise.
+-- Two sets that share a method.
+shared_from : (names : List (List ℕ)) (methods : Methods) → list_any (covers_method methods) names ≡ true → (method : List ℕ) × (lists names method ≡ true) × (covers_method methods method ≡ true)
+shared_from names methods some =
+    found ((method : List ℕ) × (lists names method ≡ true) × (covers_method methods method ≡ true)) (covers_method methods) names some
+    (λ k d within covered. (slice_index_or names k d, in_texts names (slice_index_or names k d) (All-contains_itself names k d within), covered))
+
+abbrev IsShared : Methods → Methods → Type 0
+IsShared methods others = (method : List ℕ) × (covers_method methods method ≡ true) × (covers_method others method ≡ true)
+
+unlisted_in : (names others : List (List ℕ)) → (method : List ℕ) × (lists names method ≡ false) × (lists others method ≡ false)
+unlisted_in names others =
+    let none : (lists names (fresh (names ++ others)) || lists others (fresh (names ++ others))) ≡ false = sym (list_any-append (λ listed. bytes_eq listed (fresh (names ++ others))) names others) ∙ is_fresh (names ++ others) in
+    (fresh (names ++ others), (or_parts _ _ none).0, (or_parts _ _ none).1)
+
+shared : (methods others : Methods) → share_method methods others ≡ true → IsShared methods others
+shared AllMethods AllMethods some = ([], refl, refl)
+shared AllMethods (Only names) some = let it : (method : List ℕ) × (lists names method ≡ true) × (covers_method AllMethods method ≡ true) = shared_from names AllMethods some in (it.0, it.2, it.1)
+shared AllMethods (Except names) some = (fresh names, refl, ap not (is_fresh names))
+shared (Only names) others some = shared_from names others some
+shared (Except names) AllMethods some = (fresh names, ap not (is_fresh names), refl)
+shared (Except names) (Only others) some = let it : (method : List ℕ) × (lists others method ≡ true) × (covers_method (Except names) method ≡ true) = shared_from others (Except names) some in (it.0, it.2, it.1)
+shared (Except names) (Except others) some = let it : (method : List ℕ) × (lists names method ≡ false) × (lists others method ≡ false) = unlisted_in names others in (it.0, ap not it.1, ap not it.2)
+
+-- The access tells whether a method is covered.
+open_uncovered : (none denied precluded transport lets_in any : Bool) (names : List (List ℕ)) → is_left_open (cond none (cond denied UncoveredDenied Uncovered) (cond precluded Precluded (cond transport NeedsTls (cond lets_in Everyone (cond any AnyLogin (Roles names)))))) ≡ true
+    → (none ≡ true) × (denied ≡ false)
+open_uncovered true true precluded transport lets_in any names is = absurd (false≢true is)
+open_uncovered true false precluded transport lets_in any names is = (refl, refl)
+open_uncovered false denied true transport lets_in any names is = absurd (false≢true is)
+open_uncovered false denied false true lets_in any names is = absurd (false≢true is)
+open_uncovered false denied false false true any names is = absurd (false≢true is)
+open_uncovered false denied false false false true names is = absurd (false≢true is)
+open_uncovered false denied false false false false names is = absurd (false≢true is)
+
+covered_some : (none denied : Bool) (rest : Access) → is_covered (cond none (cond denied UncoveredDenied Uncovered) rest) ≡ true → none ≡ false
+covered_some true true rest is = absurd (false≢true is)
+covered_some true false rest is = absurd (false≢true is)
+covered_some false denied rest is = refl
+
+module _ (constraints : List Constraint) (rules : Rules) (pattern : List ℕ) where
+  left_uncovered : (method : List ℕ) → is_left_open (cell_for constraints rules pattern method).access ≡ true → (is_uncovered constraints pattern method ≡ true) × (rules.deny_uncovered ≡ false)
+  unfolding cell_at
+  left_uncovered method is = open_uncovered (length (covering constraints (Some pattern) method) == 0) rules.deny_uncovered _ _ _ _ _ is
+
+  is_not_uncovered : (method : List ℕ) → is_covered (cell_for constraints rules pattern method).access ≡ true → is_uncovered constraints pattern method ≡ false
+  unfolding cell_at
+  is_not_uncovered method is = covered_some (length (covering constraints (Some pattern) method) == 0) rules.deny_uncovered _ is
+
+module _ (constraints : List Constraint) (rules : Rules) (surroundings : Surroundings) where
+  abbrev pub late : List Row
+  late = filter is_late (the_rows constraints rules surroundings)
+
+  -- A row that is tried late and covers one of the methods.
+  abbrev Covers : Methods → List ℕ → Type 0
+  Covers methods other = IsTrue (is_tried_late other) × ((method : List ℕ) × IsTrue (covers_method methods method) × (is_uncovered constraints other method ≡ false))
+
+  part_covers : (other : List ℕ) (methods : Methods) (shown : List Group) → shown ≡ (row_at constraints rules other).groups → list_any (covers_part methods) shown ≡ true → (method : List ℕ) × IsTrue (covers_method methods method) × (is_uncovered constraints other method ≡ false)
+  part_covers other methods shown made some =
+      let its : List Group = (row_at constraints rules other).groups in
+      found ((method : List ℕ) × IsTrue (covers_method methods method) × (is_uncovered constraints other method ≡ false)) (covers_part methods) its (ap (list_any (covers_part methods)) (sym made) ∙ some)
+      (λ k d within part.
+      let it : IsShared methods (slice_index_or its k d).methods = shared methods (slice_index_or its k d).methods (and_right (is_covered (slice_index_or its k d).cell.access) _ part) in (
+        it.0,
+        it.1,
+        is_not_uncovered constraints rules other it.0 (ap (λ (c : Cell). is_covered c.access) (sym (in_row constraints rules other it.0 k d within it.2)) ∙ and_left (is_covered (slice_index_or its k d).cell.access) _ part),
+      ))
+
+  row_covers : (row : Row) (pattern : Option (List ℕ)) (other : List ℕ) (methods : Methods) → row.pattern ≡ pattern → pattern ≡ Some other → IsMade constraints rules surroundings row → is_late row ≡ true → covers_one methods row ≡ true → Covers methods other
+  row_covers row pattern other methods is at made tried covers_it =
+      (sym (ap (λ p. option_map_or is_tried_late p false) (is ∙ at)) ∙ tried, part_covers other methods row.groups (made other (is ∙ at)) covers_it)
+
+  found_at : (test : Row → Bool) (P : Row → Type 0) (x row : Row) (rows : List Row) (b : Bool) → test x ≡ b → P x → cond b (Some x) (find test rows) ≡ Some row → (find test rows ≡ Some row → P row × (test row ≡ true)) → P row × (test row ≡ true)
+  found_at test P x row rows true passes holds is rest = let same : row ≡ x = cc in rw same (holds, passes)
+  found_at test P x row rows false fails holds is rest = rest is
+
+  found_row : (test : Row → Bool) (P : Row → Type 0) (rows : List Row) (row : Row) → All P rows → find test rows ≡ Some row → P row × (test row ≡ true)
+  found_row test P [] row all is = cc
+  found_row test P (x ∷ rows) row all is = found_at test P x row rows (test x) refl (All-head P x rows all) is (found_row test P rows row (All-tail P x rows all))
+
+  first_covers : (rows : List Row) (methods : Methods) (found_one : Option Row) (other : List ℕ) → All (λ (row : Row). IsMade constraints rules surroundings row × (is_late row ≡ true)) rows → find (covers_one methods) rows ≡ found_one
+      → option_and_then (λ (row : Row). row.pattern) found_one ≡ Some other → Covers methods other
+  first_covers rows methods None other all is at = cc
+  first_covers rows methods (Some row) other all is at =
+      let it : (IsMade constraints rules surroundings row × (is_late row ≡ true)) × (covers_one methods row ≡ true) = found_row (covers_one methods) (λ (one : Row). IsMade constraints rules surroundings one × (is_late one ≡ true)) rows row all is in
+      row_covers row row.pattern other methods refl at it.0.0 it.0.1 it.1
+
+  late_made : All (λ (row : Row). IsMade constraints rules surroundings row × (is_late row ≡ true)) late
+  late_made =
+      kept_all (λ (row : Row). IsMade constraints rules surroundings row × (is_late row ≡ true)) is_late (the_rows constraints rules surroundings)
+      (λ k d within tried. (reached_made constraints rules surroundings k d within, tried))
+
+  module _ (pattern : List ℕ) (prefixed : is_prefix (form pattern) ≡ true) where
+    abbrev its : List Group
+    its = (row_at constraints rules pattern).groups
+
+    each_uncovered : (k : ℕ) (d : Group) → k < length its → is_left_out (slice_index_or its k d) ≡ true → (method : List ℕ) → covers_method (slice_index_or its k d).methods method ≡ true → (is_uncovered constraints pattern method ≡ true) × (rules.deny_uncovered ≡ false)
+    each_uncovered k d within left method has = left_uncovered constraints rules pattern method (ap (λ (c : Cell). is_left_open c.access) (sym (in_row constraints rules pattern method k d within has)) ∙ left)
+
+    reading_at : (methods : Methods) → ((method : List ℕ) → covers_method methods method ≡ true → (is_uncovered constraints pattern method ≡ true) × (rules.deny_uncovered ≡ false)) → (other : Option (List ℕ)) → first_covering late methods ≡ other
+        → All (IsRight constraints rules surroundings) (map (finding.ReadOtherwise pattern methods) (option_to_list other))
+    reading_at methods bare None is = All-nil (IsRight constraints rules surroundings)
+    reading_at methods bare (Some other) is =
+        let it : Covers methods other = first_covers late methods (find (covers_one methods) late) other late_made refl is in
+        All-cons (IsRight constraints rules surroundings) (finding.ReadOtherwise pattern methods other) []
+        (prefixed, it.0, (bare it.1.0 it.1.1).1, λ method has. (bare method has).0, it.1) (All-nil (IsRight constraints rules surroundings))
+
+    readings_right : All (IsRight constraints rules surroundings) (flat_map (λ (group : Group). read_as late pattern group.methods) (filter is_left_out its))
+    readings_right =
+        joined (IsRight constraints rules surroundings) (λ (group : Group). read_as late pattern group.methods) (filter is_left_out its)
+        (kept_all (λ (group : Group). All (IsRight constraints rules surroundings) (read_as late pattern group.methods)) is_left_out its
+        (λ k d within left. reading_at (slice_index_or its k d).methods (each_uncovered k d within left) (first_covering late (slice_index_or its k d).methods) refl))
+
+  reading_from : (pattern : List ℕ) (prefixed : Bool) → is_prefix (form pattern) ≡ prefixed
+      → All (IsRight constraints rules surroundings) (cond prefixed (flat_map (λ (group : Group). read_as late pattern group.methods) (filter is_left_out (row_at constraints rules pattern).groups)) [])
+  reading_from pattern true is = readings_right pattern is
+  reading_from pattern false is = All-nil (IsRight constraints rules surroundings)
+
+  -- ---- Unreached patterns.
+  unreached_at : (c : Constraint) → Contains constraints c → All (IsRight constraints rules surroundings) (unreached_in surroundings.contexts surroundings.path c)
+  unreached_at c there =
+      All-map (IsRight constraints rules surroundings) (finding.Unreached c.number) (filter (is_unreached surroundings.contexts surroundings.path) (patterns_in c))
+      (kept_all (λ pattern. IsRight constraints rules surroundings (finding.Unreached c.number pattern)) (is_unreached surroundings.contexts surroundings.path) (patterns_in c)
+      (λ k d within none. (
+        c,
+        there,
+        refl,
+        in_texts (patterns_in c) (slice_index_or (patterns_in c) k d) (All-contains_itself (patterns_in c) k d within),
+        not-true (is_reached surroundings.contexts surroundings.path (slice_index_or (patterns_in c) k d)) none,
+      )))
+
+  unreached_right : All (IsRight constraints rules surroundings) (unreached surroundings.contexts surroundings.path constraints)
+  unreached_right = joined (IsRight constraints rules surroundings) (unreached_in surroundings.contexts surroundings.path) constraints (λ k d within. unreached_at (slice_index_or constraints k d) (All-contains_itself constraints k d within))
+
+module _ (constraints : List Constraint) (rules : Rules) (surroundings : Surroundings) where
+  abbrev The : Finding → Type 0
+  The = IsRight constraints rules surroundings
+
+  abbrev rows : List Row
+  rows = the_rows constraints rules surroundings
+
   abbrev pub opened : List Finding
-  opened = flat_map (λ (row : Row). opened_at constraints row.pattern) (table_of constraints rules).rows
+  opened = flat_map (λ (row : Row). opened_at constraints row.pattern) rows
 
   abbrev pub uncovered : List Finding
-  uncovered = flat_map (λ (row : Row). uncovered_at row.pattern row.groups) (table_of constraints rules).rows
+  uncovered = flat_map (λ (row : Row). uncovered_at row.pattern row.groups) rows
+
+  abbrev pub readings : List Finding
+  readings = read_otherwise rows
 
   abbrev pub heads : List Finding
-  heads = flat_map (λ (row : Row). head_at row.pattern row.groups) (table_of constraints rules).rows
+  heads = flat_map (λ (row : Row). head_at row.pattern row.groups) rows
+
+  by_row_right : All The (row_findings constraints rows)
+  by_row_right =
+      All-append The (opened ++ uncovered ++ readings) heads
+      (All-append The (opened ++ uncovered) readings
+      (All-append The opened uncovered
+      (rows_right constraints rules surroundings (λ pattern groups. opened_at constraints pattern) (λ pattern. opened_from constraints rules surroundings pattern (opened_pair constraints pattern) refl) (λ groups. All-nil The))
+      (rows_right constraints rules surroundings uncovered_at (λ pattern. uncovered_from constraints rules surroundings pattern (list_all is_left_out (row_at constraints rules pattern).groups)) (λ groups. All-nil The)))
+      (rows_right constraints rules surroundings (read_at (late constraints rules surroundings)) (λ pattern. reading_from constraints rules surroundings pattern (is_prefix (form pattern)) refl) (λ groups. All-nil The)))
+      (rows_right constraints rules surroundings head_at (λ pattern. head_right constraints rules surroundings pattern) (λ groups. All-nil The))
 
   abbrev pub dead : List Finding
   dead = dead_among (lists (all_patterns constraints) (codes "/*")) constraints
@@ -348,37 +533,27 @@ module _ (constraints : List Constraint) (rules : Rules) (held : Option (List (L
   abbrev pub partly_dead : List Finding
   partly_dead = dead_patterns (lists (all_patterns constraints) (codes "/*")) constraints
 
-  abbrev pub unknown : List Finding
-  unknown = unknown_among rules.declared constraints
+  abbrev pub not_reached : List Finding
+  not_reached = unreached surroundings.contexts surroundings.path constraints
 
-  abbrev pub unheld : List Finding
-  unheld = unheld_roles rules.declared held constraints
+  by_pattern_right : CanonicalHasShape → All The (pattern_findings constraints surroundings.contexts surroundings.path)
+  by_pattern_right shapes =
+      All-append The (dead ++ partly_dead ++ not_reached) (escaped constraints)
+      (All-append The (dead ++ partly_dead) not_reached
+      (All-append The dead partly_dead (dead_right shapes constraints rules surroundings) (dead_patterns_right shapes constraints rules surroundings))
+      (unreached_right constraints rules surroundings))
+      (escaped_right shapes constraints rules surroundings)
 
-  abbrev pub unused : List Finding
-  unused = unused_roles rules.declared constraints
+  by_role_right : All The (role_findings rules.declared surroundings.held constraints)
+  by_role_right =
+      All-append The (unknown_among rules.declared constraints ++ unheld_roles rules.declared surroundings.held constraints) (unused_roles rules.declared constraints)
+      (All-append The (unknown_among rules.declared constraints) (unheld_roles rules.declared surroundings.held constraints) (unknown_right constraints rules surroundings) (unheld_from constraints rules surroundings surroundings.held refl))
+      (unused_right constraints rules surroundings)
 
-  abbrev The : Finding → Type 0
-  The = IsRight constraints rules held
-
-  all_right : CanonicalHasShape → All The (findings_of constraints rules (table_of constraints rules) held)
+  all_right : CanonicalHasShape → All The (findings_of constraints rules (table_of constraints rules) surroundings)
   all_right shapes =
-      All-append The (opened ++ uncovered ++ heads ++ dead ++ partly_dead ++ escaped constraints ++ unknown ++ unheld) unused
-      (All-append The (opened ++ uncovered ++ heads ++ dead ++ partly_dead ++ escaped constraints ++ unknown) unheld
-      (All-append The (opened ++ uncovered ++ heads ++ dead ++ partly_dead ++ escaped constraints) unknown
-      (All-append The (opened ++ uncovered ++ heads ++ dead ++ partly_dead) (escaped constraints)
-      (All-append The (opened ++ uncovered ++ heads ++ dead) partly_dead
-      (All-append The (opened ++ uncovered ++ heads) dead
-      (All-append The (opened ++ uncovered) heads
-      (All-append The opened uncovered
-      (rows_right constraints rules held (λ pattern groups. opened_at constraints pattern) (λ pattern. opened_from constraints rules held pattern (opened_pair constraints pattern) refl) (All-nil The))
-      (rows_right constraints rules held uncovered_at (λ pattern. uncovered_from constraints rules held pattern (list_all is_left_out (row_at constraints rules pattern).groups)) (All-nil The)))
-      (rows_right constraints rules held head_at (λ pattern. head_right constraints rules held pattern) (All-nil The)))
-      (dead_right shapes constraints rules held))
-      (dead_patterns_right shapes constraints rules held))
-      (escaped_right shapes constraints rules held))
-      (unknown_right constraints rules held))
-      (unheld_from constraints rules held held refl))
-      (unused_right constraints rules held)
+      All-append The (row_findings constraints rows ++ pattern_findings constraints surroundings.contexts surroundings.path) (role_findings rules.declared surroundings.held constraints)
+      (All-append The (row_findings constraints rows) (pattern_findings constraints surroundings.contexts surroundings.path) by_row_right (by_pattern_right shapes)) by_role_right
 
 pub findings_right : CanonicalHasShape → FindingsAreRight
-findings_right shapes constraints rules held = all_right constraints rules held shapes
+findings_right shapes constraints rules surroundings = all_right constraints rules surroundings shapes

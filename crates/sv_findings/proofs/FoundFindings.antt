@@ -4,8 +4,8 @@ use Rattle.std.proofs.lemmas.List.Sums.{AllPass-from_list_all}
 use Rattle.std.proofs.lemmas.Slice.Eq.{bytes_eq-Decides}
 use Rattle.std.proofs.lemmas.Bool.{false≢true}
 use Rattle.std.proofs.Common.{arith, ◌≡◌, ℕ, Bool, true, false, not, ◌||◌, ◌&&◌, ◌==◌, List, [], ◌∷◌, ◌++◌, length, map, codes, refl, ap, sym, ◌∙◌, cond, Option, None, Some}
-use Rattle.std.specs.Prelude.{◌≢◌, Contains, filter, is_some, slice_index_or}
-use Rattle.std.specs.Option.{option_to_list}
+use Rattle.std.specs.Prelude.{◌≢◌, Contains, filter, find, is_some, slice_index_or}
+use Rattle.std.specs.Option.{option_and_then, option_map_or, option_to_list}
 use Rattle.std.specs.Cmp.{both_ways}
 use Rattle.std.specs.List.{flat_map, list_all, list_any}
 use Rattle.std.specs.Str.{bytes_eq}
@@ -23,16 +23,27 @@ use Rattle.sv_policy.proofs.Rising.{same_text}
 use Rattle.sv_policy.proofs.Steps.{any_of_joined, any_same}
 use Rattle.sv_policy.specs.Uncovered.{is_uncovered as is_uncovered_at}
 use Rattle.sv_audit.proofs.Equal.{and_left, and_right, both}
-use Rattle.sv_findings.proofs.FindingLemmas.{dead, heads, in_row, opened, partly_dead, says, uncovered, unheld, unknown, unused}
+use Rattle.sv_findings.proofs.FindingLemmas.{dead, heads, in_row, late, not_reached, opened, partly_dead, readings, says, the_rows, uncovered}
 use Rattle.sv_audit.proofs.Witness.{found}
 use Rattle.sv_audit.proofs.Found.{in_texts, ordered_lists}
 use Rattle.sv_audit.proofs.RowCells.{row_cell}
 use Rattle.sv_audit.specs.Access.{cell_at}
 use Rattle.sv_findings.proofs.OpenedLemmas.{contained, kept_any, method_found, opened_exact, some_pair}
 use Rattle.sv_findings.specs.Dead.{dead_patterns_in, decides_nothing, escaped, is_dead}
-use Rattle.sv_findings.specs.FindingLaws.{DeadIsFound, HeadIsFound, OpenedIsFound, UncoveredIsFound, says_dead, says_head, says_opened, says_uncovered}
+use Rattle.sv_findings.specs.FindingLaws.{DeadIsFound, HeadIsFound, IsReached, OpenedIsFound, ReadingIsFound, UncoveredIsFound, UnreachedIsFound, says_dead, says_head, says_opened, says_read, says_uncovered, says_unreached}
 use Rattle.sv_audit.specs.Callers.{has_method, is_closed, is_open, same_callers, same_logins}
-use Rattle.sv_findings.specs.Findings.{findings_of, is_left_open, is_left_out, uncovered_at}
+use Rattle.sv_findings.specs.Findings.{findings_of, pattern_findings}
+use Rattle.sv_findings.specs.RoleFindings.{role_findings}
+use Rattle.sv_findings.specs.Uncovered.{is_left_open, is_left_out, uncovered_at}
+use Rattle.sv_findings.specs.Dead.{is_tried_late}
+use Rattle.sv_findings.specs.Reach.{is_reached}
+use Rattle.sv_findings.specs.ReachedRows.{is_row_reached}
+use Rattle.sv_findings.specs.Readings.{covers_one, covers_part, first_covering, holds_one, is_covered, is_late, is_prefix, read_as, read_at, share_method}
+use Rattle.sv_findings.specs.Unreached.{is_unreached, unreached_in}
+use Rattle.sv_findings.specs.declared.surroundings.Surroundings.{Surroundings}
+use Rattle.sv_mapping.specs.Pattern.{form}
+use Rattle.sv_constraints.specs.declared.constraint.Methods.{Methods}
+use Rattle.sv_constraints.specs.declared.constraint.Methods.TheVariants.{All as AllMethods, Only, Except}
 use Rattle.sv_findings.specs.Heads.{head_at, head_on, straying, strays}
 use Rattle.sv_findings.specs.Opened.{is_opened, opened_at, opened_methods, opened_pair}
 use Rattle.sv_audit.specs.Reading.{Kind, IsDenied, Passes, kind_and_cause, said_to}
@@ -109,68 +120,89 @@ module _ (constraints : List Constraint) (rules : Rules) (pattern : List ℕ) wh
       (λ (group : Group). ap (λ b. is_left_out group && (b && has_method method group)) (same_text pattern)) groups
       ∙ left_out method none open_to_all
 
-  -- What is found at the row of a pattern is found in the table.
-  in_table : (test : Finding → Bool) (at : Option (List ℕ) → List Group → List Finding) → lists (all_patterns constraints) pattern ≡ true → list_any test (at (Some pattern) groups) ≡ true
-      → list_any test (flat_map (λ (row : Row). at row.pattern row.groups) (table_of constraints rules).rows) ≡ true
-  in_table test at there some =
-      any_of_joined test (λ (row : Row). at row.pattern row.groups) (table_of constraints rules).rows
-      ∙ any_first (λ (row : Row). list_any test (at row.pattern row.groups)) (map (row_at constraints rules) (in_row_order (all_patterns constraints))) (cond (match_every_path (all_patterns constraints)) [] (other_paths ∷ []))
-      (any_seen (λ (row : Row). list_any test (at row.pattern row.groups)) (row_at constraints rules) (in_row_order (all_patterns constraints))
-      ∙ any_in (λ p. list_any test (at (Some p) (row_at constraints rules p).groups)) (in_row_order (all_patterns constraints)) pattern (ordered_lists (all_patterns constraints) pattern ∙ there) some)
+  -- A row that passes is found among the reached rows.
+  row_found : (surroundings : Surroundings) (test : Row → Bool) → lists (all_patterns constraints) pattern ≡ true → IsReached surroundings pattern → test (row_at constraints rules pattern) ≡ true
+      → list_any test (the_rows constraints rules surroundings) ≡ true
+  row_found surroundings test there reached some =
+      kept_any test (is_row_reached surroundings.contexts surroundings.path) (table_of constraints rules).rows
+      ∙ any_first (λ (row : Row). is_row_reached surroundings.contexts surroundings.path row && test row) (map (row_at constraints rules) (in_row_order (all_patterns constraints))) (cond (match_every_path (all_patterns constraints)) [] (other_paths ∷ []))
+      (any_seen (λ (row : Row). is_row_reached surroundings.contexts surroundings.path row && test row) (row_at constraints rules) (in_row_order (all_patterns constraints))
+      ∙ any_in (λ p. is_reached surroundings.contexts surroundings.path p && test (row_at constraints rules p)) (in_row_order (all_patterns constraints)) pattern (ordered_lists (all_patterns constraints) pattern ∙ there)
+      (both (is_reached surroundings.contexts surroundings.path pattern) (test (row_at constraints rules pattern)) reached some))
+
+  -- What is found at the row of a reached pattern is found in the table.
+  in_table : (surroundings : Surroundings) (test : Finding → Bool) (at : Option (List ℕ) → List Group → List Finding) → lists (all_patterns constraints) pattern ≡ true → IsReached surroundings pattern → list_any test (at (Some pattern) groups) ≡ true
+      → list_any test (flat_map (λ (row : Row). at row.pattern row.groups) (the_rows constraints rules surroundings)) ≡ true
+  in_table surroundings test at there reached some =
+      any_of_joined test (λ (row : Row). at row.pattern row.groups) (the_rows constraints rules surroundings)
+      ∙ row_found surroundings (λ (row : Row). list_any test (at row.pattern row.groups)) there reached some
 
 -- ---- The parts of all findings.
-module _ (test : Finding → Bool) (o u h d p e k x y : List Finding) where
-  of_five : list_any test (o ++ u ++ h ++ d ++ p) ≡ true → list_any test (o ++ u ++ h ++ d ++ p ++ e ++ k ++ x ++ y) ≡ true
-  of_five some =
-      any_first test (o ++ u ++ h ++ d ++ p ++ e ++ k ++ x) y
-      (any_first test (o ++ u ++ h ++ d ++ p ++ e ++ k) x (any_first test (o ++ u ++ h ++ d ++ p ++ e) k (any_first test (o ++ u ++ h ++ d ++ p) e some)))
-
-  of_three : list_any test (o ++ u ++ h) ≡ true → list_any test (o ++ u ++ h ++ d ++ p ++ e ++ k ++ x ++ y) ≡ true
-  of_three some = of_five (any_first test (o ++ u ++ h ++ d) p (any_first test (o ++ u ++ h) d some))
-
-  in_opened : list_any test o ≡ true → list_any test (o ++ u ++ h ++ d ++ p ++ e ++ k ++ x ++ y) ≡ true
-  in_opened some = of_three (any_first test (o ++ u) h (any_first test o u some))
-
-  in_uncovered : list_any test u ≡ true → list_any test (o ++ u ++ h ++ d ++ p ++ e ++ k ++ x ++ y) ≡ true
-  in_uncovered some = of_three (any_first test (o ++ u) h (any_last test o u some))
-
-  in_heads : list_any test h ≡ true → list_any test (o ++ u ++ h ++ d ++ p ++ e ++ k ++ x ++ y) ≡ true
-  in_heads some = of_three (any_last test (o ++ u) h some)
-
-  in_dead : list_any test d ≡ true → list_any test (o ++ u ++ h ++ d ++ p ++ e ++ k ++ x ++ y) ≡ true
-  in_dead some = of_five (any_first test (o ++ u ++ h ++ d) p (any_last test (o ++ u ++ h) d some))
-
-  in_partly_dead : list_any test p ≡ true → list_any test (o ++ u ++ h ++ d ++ p ++ e ++ k ++ x ++ y) ≡ true
-  in_partly_dead some = of_five (any_last test (o ++ u ++ h ++ d) p some)
-
-module _ (constraints : List Constraint) (rules : Rules) (held : Option (List (List ℕ))) (test : Finding → Bool) where
+module _ (constraints : List Constraint) (rules : Rules) (surroundings : Surroundings) (test : Finding → Bool) where
   abbrev IsAmong : Type 0
-  IsAmong = list_any test (findings_of constraints rules (table_of constraints rules) held) ≡ true
+  IsAmong = list_any test (findings_of constraints rules (table_of constraints rules) surroundings) ≡ true
 
-  among_opened : list_any test (opened constraints rules held) ≡ true → IsAmong
-  among_opened =
-      in_opened test (opened constraints rules held) (uncovered constraints rules held) (heads constraints rules held) (dead constraints rules held) (partly_dead constraints rules held) (escaped constraints) (unknown constraints rules held) (unheld constraints rules held) (unused constraints rules held)
+  abbrev o : List Finding
+  o = opened constraints rules surroundings
 
-  among_uncovered : list_any test (uncovered constraints rules held) ≡ true → IsAmong
-  among_uncovered =
-      in_uncovered test (opened constraints rules held) (uncovered constraints rules held) (heads constraints rules held) (dead constraints rules held) (partly_dead constraints rules held) (escaped constraints) (unknown constraints rules held) (unheld constraints rules held) (unused constraints rules held)
+  abbrev u : List Finding
+  u = uncovered constraints rules surroundings
 
-  among_heads : list_any test (heads constraints rules held) ≡ true → IsAmong
-  among_heads =
-      in_heads test (opened constraints rules held) (uncovered constraints rules held) (heads constraints rules held) (dead constraints rules held) (partly_dead constraints rules held) (escaped constraints) (unknown constraints rules held) (unheld constraints rules held) (unused constraints rules held)
+  abbrev r : List Finding
+  r = readings constraints rules surroundings
 
-  among_dead : list_any test (dead constraints rules held) ≡ true → IsAmong
-  among_dead =
-      in_dead test (opened constraints rules held) (uncovered constraints rules held) (heads constraints rules held) (dead constraints rules held) (partly_dead constraints rules held) (escaped constraints) (unknown constraints rules held) (unheld constraints rules held) (unused constraints rules held)
+  abbrev h : List Finding
+  h = heads constraints rules surroundings
 
-  among_partly_dead : list_any test (partly_dead constraints rules held) ≡ true → IsAmong
-  among_partly_dead =
-      in_partly_dead test (opened constraints rules held) (uncovered constraints rules held) (heads constraints rules held) (dead constraints rules held) (partly_dead constraints rules held) (escaped constraints) (unknown constraints rules held) (unheld constraints rules held) (unused constraints rules held)
+  abbrev d : List Finding
+  d = dead constraints rules surroundings
+
+  abbrev p : List Finding
+  p = partly_dead constraints rules surroundings
+
+  abbrev n : List Finding
+  n = not_reached constraints rules surroundings
+
+  abbrev by_row : List Finding
+  by_row = o ++ u ++ r ++ h
+
+  abbrev by_pattern : List Finding
+  by_pattern = pattern_findings constraints surroundings.contexts surroundings.path
+
+  abbrev by_role : List Finding
+  by_role = role_findings rules.declared surroundings.held constraints
+
+  among_rows : list_any test by_row ≡ true → IsAmong
+  among_rows some = any_first test (by_row ++ by_pattern) by_role (any_first test by_row by_pattern some)
+
+  among_patterns : list_any test by_pattern ≡ true → IsAmong
+  among_patterns some = any_first test (by_row ++ by_pattern) by_role (any_last test by_row by_pattern some)
+
+  among_opened : list_any test o ≡ true → IsAmong
+  among_opened some = among_rows (any_first test (o ++ u ++ r) h (any_first test (o ++ u) r (any_first test o u some)))
+
+  among_uncovered : list_any test u ≡ true → IsAmong
+  among_uncovered some = among_rows (any_first test (o ++ u ++ r) h (any_first test (o ++ u) r (any_last test o u some)))
+
+  among_readings : list_any test r ≡ true → IsAmong
+  among_readings some = among_rows (any_first test (o ++ u ++ r) h (any_last test (o ++ u) r some))
+
+  among_heads : list_any test h ≡ true → IsAmong
+  among_heads some = among_rows (any_last test (o ++ u ++ r) h some)
+
+  among_dead : list_any test d ≡ true → IsAmong
+  among_dead some = among_patterns (any_first test (d ++ p ++ n) (escaped constraints) (any_first test (d ++ p) n (any_first test d p some)))
+
+  among_partly_dead : list_any test p ≡ true → IsAmong
+  among_partly_dead some = among_patterns (any_first test (d ++ p ++ n) (escaped constraints) (any_first test (d ++ p) n (any_last test d p some)))
+
+  among_not_reached : list_any test n ≡ true → IsAmong
+  among_not_reached some = among_patterns (any_first test (d ++ p ++ n) (escaped constraints) (any_last test (d ++ p) n some))
 
 pub uncovered_found : UncoveredIsFound
-uncovered_found constraints rules held pattern method other open_to_all there none some =
-    among_uncovered constraints rules held (says_uncovered pattern method)
-    (in_table constraints rules pattern (says_uncovered pattern method) uncovered_at there (reported constraints rules pattern method other open_to_all none some))
+uncovered_found constraints rules surroundings pattern method other reached open_to_all there none some =
+    among_uncovered constraints rules surroundings (says_uncovered pattern method)
+    (in_table constraints rules pattern surroundings (says_uncovered pattern method) uncovered_at there reached (reported constraints rules pattern method other open_to_all none some))
 
 -- ---- Opened patterns.
 reported_pair : (constraints : List Constraint) (pattern method : List ℕ) (found : Option (ℕ × ℕ)) → is_some found ≡ true → covers_method (opened_methods constraints pattern) method ≡ true
@@ -179,28 +211,28 @@ reported_pair constraints pattern method None some has = absurd (false≢true so
 reported_pair constraints pattern method (Some pair) some has = ap (λ b. b || false) (both (bytes_eq pattern pattern) (covers_method (opened_methods constraints pattern) method) (same_text pattern) has)
 
 pub opened_found : BestIsAMatch → OpenedIsFound
-opened_found best_is_a_match constraints rules held pattern method path restricted best passing =
+opened_found best_is_a_match constraints rules surroundings pattern method path reached restricted best passing =
     let opens : is_opened constraints pattern method ≡ true = method_found constraints pattern rules method restricted (sym (ap (λ b. kind_and_cause (verdict_at rules None b (covering constraints b method))) best) ∙ passing) in
-    among_opened constraints rules held (says_opened pattern method)
-    (in_table constraints rules pattern (says_opened pattern method) (λ its_pattern groups. opened_at constraints its_pattern) (in_texts (all_patterns constraints) pattern (best_is_a_match (all_patterns constraints) path pattern best).0)
+    among_opened constraints rules surroundings (says_opened pattern method)
+    (in_table constraints rules pattern surroundings (says_opened pattern method) (λ its_pattern groups. opened_at constraints its_pattern) (in_texts (all_patterns constraints) pattern (best_is_a_match (all_patterns constraints) path pattern best).0) reached
     (reported_pair constraints pattern method (opened_pair constraints pattern) (some_pair constraints pattern method opens) (opened_exact constraints pattern method ∙ opens)))
 
 -- ---- Dead patterns.
 same_number : (n : ℕ) → (n == n) ≡ true
 same_number n = grind arith
 
-module _ (constraints : List Constraint) (rules : Rules) (held : Option (List (List ℕ))) (c : Constraint) (pattern : List ℕ) (there : Contains constraints c) (listed : lists (patterns_in c) pattern ≡ true) where
+module _ (constraints : List Constraint) (rules : Rules) (surroundings : Surroundings) (c : Constraint) (pattern : List ℕ) (there : Contains constraints c) (listed : lists (patterns_in c) pattern ≡ true) where
   abbrev has_prefix : Bool
   has_prefix = lists (all_patterns constraints) (codes "/*")
 
-  dead_found_at : decides_nothing has_prefix pattern ≡ true → (all_dead : Bool) → is_dead has_prefix c ≡ all_dead → list_any (says_dead c.number pattern) (findings_of constraints rules (table_of constraints rules) held) ≡ true
+  dead_found_at : decides_nothing has_prefix pattern ≡ true → (all_dead : Bool) → is_dead has_prefix c ≡ all_dead → list_any (says_dead c.number pattern) (findings_of constraints rules (table_of constraints rules) surroundings) ≡ true
   dead_found_at nothing true is =
-      among_dead constraints rules held (says_dead c.number pattern)
+      among_dead constraints rules surroundings (says_dead c.number pattern)
       (any_seen (says_dead c.number pattern) (λ (x : Constraint). finding.Dead x.number) (filter (is_dead has_prefix) constraints)
       ∙ kept_any (λ (x : Constraint). x.number == c.number) (is_dead has_prefix) constraints
       ∙ contained (λ (x : Constraint). is_dead has_prefix x && (x.number == c.number)) constraints c there (both (is_dead has_prefix c) (c.number == c.number) is (same_number c.number)))
   dead_found_at nothing false is =
-      among_partly_dead constraints rules held (says_dead c.number pattern)
+      among_partly_dead constraints rules surroundings (says_dead c.number pattern)
       (any_of_joined (says_dead c.number pattern) (dead_patterns_in has_prefix) constraints
       ∙ contained (λ (x : Constraint). list_any (says_dead c.number pattern) (dead_patterns_in has_prefix x)) constraints c there
       (ap (λ b. list_any (says_dead c.number pattern) (cond b [] (map (finding.DeadPattern c.number) (filter (decides_nothing has_prefix) (patterns_in c))))) is
@@ -210,7 +242,7 @@ module _ (constraints : List Constraint) (rules : Rules) (held : Option (List (L
       (both (decides_nothing has_prefix pattern) ((c.number == c.number) && bytes_eq pattern pattern) nothing (both (c.number == c.number) (bytes_eq pattern pattern) (same_number c.number) (same_text pattern)))))
 
 pub dead_found : DeadIsFound
-dead_found constraints rules held c pattern there listed nothing = dead_found_at constraints rules held c pattern there listed nothing (is_dead (lists (all_patterns constraints) (codes "/*")) c) refl
+dead_found constraints rules surroundings c pattern there listed nothing = dead_found_at constraints rules surroundings c pattern there listed nothing (is_dead (lists (all_patterns constraints) (codes "/*")) c) refl
 
 -- ---- The same callers fare alike.
 module _ (caller : Option Caller) where
@@ -325,7 +357,113 @@ module _ (constraints : List Constraint) (rules : Rules) (pattern path : List �
       (both (has_method (codes "GET") get) (list_any (says_head pattern) (straying pattern the_groups get.cell.access)) get_has (straying_found get (in_row constraints rules pattern (codes "GET") k d within get_has))))
 
 pub head_found : BestIsAMatch → HeadIsFound
-head_found best_is_a_match constraints rules held pattern path caller best apart =
-    among_heads constraints rules held (says_head pattern)
-    (in_table constraints rules pattern (says_head pattern) head_at (in_texts (all_patterns constraints) pattern (best_is_a_match (all_patterns constraints) path pattern best).0)
+head_found best_is_a_match constraints rules surroundings pattern path caller reached best apart =
+    among_heads constraints rules surroundings (says_head pattern)
+    (in_table constraints rules pattern surroundings (says_head pattern) head_at (in_texts (all_patterns constraints) pattern (best_is_a_match (all_patterns constraints) path pattern best).0) reached
     (head_reported constraints rules pattern path caller best apart))
+
+-- ---- What is read otherwise.
+any_covered : (methods : Methods) (names : List (List ℕ)) (method : List ℕ) → covers_method methods method ≡ true → lists names method ≡ true → list_any (covers_method methods) names ≡ true
+any_covered methods names method has there = any_in (covers_method methods) names method there has
+
+holding : (methods others : Methods) (method : List ℕ) → covers_method methods method ≡ true → covers_method others method ≡ true → holds_one methods others ≡ true
+holding methods AllMethods method one two = refl
+holding methods (Only names) method one two = any_covered methods names method one two
+holding methods (Except names) method one two = refl
+
+sharing : (methods others : Methods) (method : List ℕ) → covers_method methods method ≡ true → covers_method others method ≡ true → share_method methods others ≡ true
+sharing AllMethods others method one two = holding AllMethods others method one two
+sharing (Only names) others method one two = any_covered others names method two one
+sharing (Except names) others method one two = holding (Except names) others method one two
+
+covered_access : (none precluded transport lets_in any : Bool) (first : Access) (names : List (List ℕ)) → none ≡ false
+    → is_covered (cond none first (cond precluded Precluded (cond transport NeedsTls (cond lets_in Everyone (cond any AnyLogin (Roles names)))))) ≡ true
+covered_access true precluded transport lets_in any first names is = absurd (false≢true (sym is))
+covered_access false true transport lets_in any first names is = refl
+covered_access false false true lets_in any first names is = refl
+covered_access false false false true any first names is = refl
+covered_access false false false false true first names is = refl
+covered_access false false false false false first names is = refl
+
+module _ (constraints : List Constraint) (rules : Rules) (other : List ℕ) where
+  cell_covered : (method : List ℕ) → is_uncovered_at constraints other method ≡ false → is_covered (cell_at rules (Some other) (covering constraints (Some other) method)).access ≡ true
+  unfolding cell_at
+  cell_covered method some = covered_access (length (covering constraints (Some other) method) == 0) _ _ _ _ _ _ some
+
+  row_covers : (methods : Methods) (method : List ℕ) → covers_method methods method ≡ true → is_uncovered_at constraints other method ≡ false → covers_one methods (row_at constraints rules other) ≡ true
+  row_covers methods method has some =
+      let its : List Group = (row_at constraints rules other).groups in
+      found (list_any (covers_part methods) its ≡ true) (has_method method) its (some_group constraints rules other method)
+      (λ k d within it.
+      list_any_at (covers_part methods) its k d within
+      (both (is_covered (slice_index_or its k d).cell.access) (share_method methods (slice_index_or its k d).methods)
+      (ap (λ (c : Cell). is_covered c.access) (in_row constraints rules other method k d within it) ∙ cell_covered method some)
+      (sharing methods (slice_index_or its k d).methods method has it)))
+
+-- The first row that covers one of the methods has a pattern.
+found_pattern : (methods : Methods) (rows : List Row) → list_any (covers_one methods) (filter is_late rows) ≡ true → is_some (first_covering (filter is_late rows) methods) ≡ true
+found_pattern methods rows some = by_rows rows some
+  where
+    has_pattern : (pattern : Option (List ℕ)) → option_map_or is_tried_late pattern false ≡ true → is_some pattern ≡ true
+    has_pattern None none = absurd (false≢true none)
+    has_pattern (Some text) tried = refl
+
+    first_at : (row : Row) (rest : List Row) (covered : Bool) → is_late row ≡ true → (covered || list_any (covers_one methods) rest) ≡ true → (list_any (covers_one methods) rest ≡ true → is_some (first_covering rest methods) ≡ true)
+        → is_some (option_and_then (λ (one : Row). one.pattern) (cond covered (Some row) (find (covers_one methods) rest))) ≡ true
+    first_at row rest true tried any later = has_pattern row.pattern tried
+    first_at row rest false tried any later = later any
+
+    kept_at : (row : Row) (rest : List Row) (tried : Bool) → is_late row ≡ tried → list_any (covers_one methods) (cond tried (row ∷ rest) rest) ≡ true → (list_any (covers_one methods) rest ≡ true → is_some (first_covering rest methods) ≡ true)
+        → is_some (first_covering (cond tried (row ∷ rest) rest) methods) ≡ true
+    kept_at row rest true is any later = first_at row rest (covers_one methods row) is any later
+    kept_at row rest false is any later = later any
+
+    by_rows : (all : List Row) → list_any (covers_one methods) (filter is_late all) ≡ true → is_some (first_covering (filter is_late all) methods) ≡ true
+    by_rows [] any = absurd (false≢true any)
+    by_rows (row ∷ rest) any = kept_at row (filter is_late rest) (is_late row) refl any (by_rows rest)
+
+reported_reading : (pattern method : List ℕ) (methods : Methods) (other : Option (List ℕ)) → is_some other ≡ true → covers_method methods method ≡ true → list_any (says_read pattern method) (map (finding.ReadOtherwise pattern methods) (option_to_list other)) ≡ true
+reported_reading pattern method methods None some has = absurd (false≢true some)
+reported_reading pattern method methods (Some other) some has = ap (λ b. b || false) (both (bytes_eq pattern pattern) (covers_method methods method) (same_text pattern) has)
+
+module _ (constraints : List Constraint) (rules : Rules) (surroundings : Surroundings) (pattern method other : List ℕ) (its_reached : IsReached surroundings other) (listed : lists (all_patterns constraints) other ≡ true) (tried : is_tried_late other ≡ true) (covered : is_uncovered_at constraints other method ≡ false) where
+  abbrev late_ones : List Row
+  late_ones = late constraints rules surroundings
+
+  covering_some : (methods : Methods) → covers_method methods method ≡ true → list_any (covers_one methods) late_ones ≡ true
+  covering_some methods has =
+      kept_any (covers_one methods) is_late (the_rows constraints rules surroundings)
+      ∙ row_found constraints rules other surroundings (λ (row : Row). is_late row && covers_one methods row) listed its_reached
+      (both (is_late (row_at constraints rules other)) (covers_one methods (row_at constraints rules other)) tried (row_covers constraints rules other methods method has covered))
+
+  read_group : (group : Group) → has_method method group ≡ true → list_any (says_read pattern method) (read_as late_ones pattern group.methods) ≡ true
+  read_group group has = reported_reading pattern method group.methods (first_covering late_ones group.methods) (found_pattern group.methods (the_rows constraints rules surroundings) (covering_some group.methods has)) has
+
+  reading_reported : is_prefix (form pattern) ≡ true → rules.deny_uncovered ≡ false → is_uncovered_at constraints pattern method ≡ true → list_any (says_read pattern method) (read_at late_ones (Some pattern) (groups constraints rules pattern)) ≡ true
+  reading_reported prefixed open_to_all none =
+      ap (λ b. list_any (says_read pattern method) (cond b (flat_map (λ (group : Group). read_as late_ones pattern group.methods) (filter is_left_out (groups constraints rules pattern))) [])) prefixed
+      ∙ any_of_joined (says_read pattern method) (λ (group : Group). read_as late_ones pattern group.methods) (filter is_left_out (groups constraints rules pattern))
+      ∙ kept_any (λ (group : Group). list_any (says_read pattern method) (read_as late_ones pattern group.methods)) is_left_out (groups constraints rules pattern)
+      ∙ found (list_any (λ (group : Group). is_left_out group && list_any (says_read pattern method) (read_as late_ones pattern group.methods)) (groups constraints rules pattern) ≡ true) (λ (g : Group). is_left_out g && has_method method g) (groups constraints rules pattern) (left_out constraints rules pattern method none open_to_all)
+      (λ k d within it.
+      let group : Group = slice_index_or (groups constraints rules pattern) k d in
+      list_any_at (λ (one : Group). is_left_out one && list_any (says_read pattern method) (read_as late_ones pattern one.methods)) (groups constraints rules pattern) k d within
+      (both (is_left_out group) (list_any (says_read pattern method) (read_as late_ones pattern group.methods)) (and_left (is_left_out group) (has_method method group) it) (read_group group (and_right (is_left_out group) (has_method method group) it))))
+
+pub reading_found : ReadingIsFound
+reading_found constraints rules surroundings pattern method other reached its_reached open_to_all there listed prefixed tried none covered =
+    among_readings constraints rules surroundings (says_read pattern method)
+    (in_table constraints rules pattern surroundings (says_read pattern method) (read_at (late constraints rules surroundings)) there reached
+    (reading_reported constraints rules surroundings pattern method other its_reached listed tried covered prefixed open_to_all none))
+
+-- ---- Unreached patterns.
+pub unreached_found : UnreachedIsFound
+unreached_found constraints rules surroundings c pattern there listed none =
+    let is_out : List ℕ → Bool = is_unreached surroundings.contexts surroundings.path in
+    among_not_reached constraints rules surroundings (says_unreached c.number pattern)
+    (any_of_joined (says_unreached c.number pattern) (unreached_in surroundings.contexts surroundings.path) constraints
+    ∙ contained (λ (x : Constraint). list_any (says_unreached c.number pattern) (unreached_in surroundings.contexts surroundings.path x)) constraints c there
+    (any_seen (says_unreached c.number pattern) (finding.Unreached c.number) (filter is_out (patterns_in c))
+    ∙ kept_any (λ text. (c.number == c.number) && bytes_eq text pattern) is_out (patterns_in c)
+    ∙ any_in (λ text. is_out text && ((c.number == c.number) && bytes_eq text pattern)) (patterns_in c) pattern listed
+    (both (is_out pattern) ((c.number == c.number) && bytes_eq pattern pattern) (ap not none) (both (c.number == c.number) (bytes_eq pattern pattern) (same_number c.number) (same_text pattern)))))

@@ -3,3 +3,4 @@ pub mod OpenedLemmas
 pub mod OpenedSteps
 pub mod FindingLemmas
 pub mod FoundFindings
+pub mod Joined

@@ -192,10 +192,10 @@ unlisted [] text less = refl
 unlisted (name ∷ names) text less =
     or_from (bytes_eq name text) (lists names text) (too_long name text (bytes_eq name text) refl (omega (arith, less))) (unlisted names text (omega (arith, less)))
 
-abbrev fresh : List (List ℕ) → List ℕ
+abbrev pub fresh : List (List ℕ) → List ℕ
 fresh names = replicate (longest names + 1) 65
 
-is_fresh : (names : List (List ℕ)) → lists names (fresh names) ≡ false
+pub is_fresh : (names : List (List ℕ)) → lists names (fresh names) ≡ false
 is_fresh names = unlisted names (fresh names) (omega (arith, length-replicate {A = ℕ} (longest names + 1) 65))
 
 -- ---- The pair of a pattern.

@@ -9,10 +9,13 @@ use Rattle.sv_audit.specs.Shapes.{matches_nothing}
 use Rattle.sv_findings.specs.declared.finding.Finding.{Finding}
 use Rattle.sv_findings.specs.declared.finding.Finding.TheVariants as finding
 
--- Whether `/*` takes each path from the pattern: it matches every path of a context, and is chosen before `/` and
--- before extension patterns (section 12.1).
+-- Whether the pattern is `/` or an extension pattern, which are tried after all others (section 12.1).
+abbrev pub is_tried_late : List ℕ → Bool
+is_tried_late pattern = bytes_eq pattern (codes "/") || is_extension_pattern pattern
+
+-- Whether `/*` takes each path from the pattern: it matches every path of a context, and is tried before.
 abbrev pub is_beaten : Bool → List ℕ → Bool
-is_beaten has_prefix pattern = has_prefix && (bytes_eq pattern (codes "/") || is_extension_pattern pattern)
+is_beaten has_prefix pattern = has_prefix && is_tried_late pattern
 
 -- Whether the pattern is the best match of no canonical path.
 abbrev pub decides_nothing : Bool → List ℕ → Bool

@@ -3,6 +3,7 @@ use Rattle.std.specs.Prelude.{◌≡◌, ◌≢◌, ℕ, Bool, true, false, ◌&
 use Rattle.std.specs.List.{list_any}
 use Rattle.std.specs.Str.{bytes_eq}
 use Rattle.sv_mapping.specs.BestMatch.{best_pattern}
+use Rattle.sv_mapping.specs.Pattern.{form}
 use Rattle.sv_realm.specs.declared.caller.Caller.{Caller}
 use Rattle.sv_constraints.specs.Covering.{all_patterns, covers, covers_method, lists, patterns_in}
 use Rattle.sv_constraints.specs.Verdict.{is_open, verdict}
@@ -14,13 +15,16 @@ use Rattle.sv_constraints.specs.declared.constraint.Rules.{Rules}
 use Rattle.sv_policy.specs.Uncovered.{is_uncovered}
 use Rattle.sv_audit.specs.Access.{roles_meant}
 use Rattle.sv_audit.specs.Shapes.{IsServed}
-use Rattle.sv_findings.specs.Dead.{decides_nothing, is_escaped}
+use Rattle.sv_findings.specs.Dead.{decides_nothing, is_escaped, is_tried_late}
 use Rattle.sv_findings.specs.Findings.{findings_of}
+use Rattle.sv_findings.specs.Reach.{is_reached}
+use Rattle.sv_findings.specs.Readings.{is_prefix}
 use Rattle.sv_audit.specs.Reading.{Passes, kind_and_cause, said_to}
 use Rattle.sv_audit.specs.Rows.{table_of}
 use Rattle.sv_audit.specs.declared.access.Access.{Access}
 use Rattle.sv_findings.specs.declared.finding.Finding.{Finding}
-use Rattle.sv_findings.specs.declared.finding.Finding.TheVariants.{Opened, Uncovered, HeadDiffers, Dead, DeadPattern, Escaped, UnknownRole, UnheldRole, UnusedRole}
+use Rattle.sv_findings.specs.declared.finding.Finding.TheVariants.{Opened, Uncovered, ReadOtherwise, HeadDiffers, Dead, DeadPattern, Unreached, Escaped, UnknownRole, UnheldRole, UnusedRole}
+use Rattle.sv_findings.specs.declared.surroundings.Surroundings.{Surroundings}
 
 -- The names that an authorization constraint lists.
 abbrev pub names_in : Auth → List (List ℕ)
@@ -69,45 +73,57 @@ IsAccessOf constraints rules pattern method access =
 
 -- Everyone passes with each of the methods, which a constraint with an authorization constraint covers, too, and both
 -- constraints cover one of them; each method of the finding passes at each path of the pattern, since it is uncovered;
--- the accesses are those of GET and HEAD, and a caller, or a request without one, fares differently with them; the constraint covers nothing; the constraint has the pattern, which is never best; the
--- constraint has the pattern, with a percent sign; the constraint names the role, which is not declared; a constraint
--- means the role, which is declared if any is, and no user has it; the role is declared, and no constraint means it.
-abbrev pub IsRight : List Constraint → Rules → Option (List (List ℕ)) → Finding → Type 0
-IsRight constraints rules held (Opened pattern methods number other) = ((method : List ℕ) → IsTrue (covers_method methods method) → IsRestricted constraints pattern method × IsOpen constraints rules pattern method)
+-- each method is uncovered at a prefix pattern, but some constraint covers one of them at a pattern that is tried later;
+-- the accesses are those of GET and HEAD, and a caller, or a request without one, fares differently with them; the
+-- constraint covers nothing; the constraint has the pattern, which is never best; the constraint has the pattern, which
+-- is not reached; the constraint has the pattern, with a percent sign; the constraint names the role, which is not
+-- declared; a constraint means the role, which is declared if any is, and no user has it; the role is declared, and no
+-- constraint means it.
+abbrev pub IsRight : List Constraint → Rules → Surroundings → Finding → Type 0
+IsRight constraints rules surroundings (Opened pattern methods number other) = ((method : List ℕ) → IsTrue (covers_method methods method) → IsRestricted constraints pattern method × IsOpen constraints rules pattern method)
     × ((method : List ℕ) × IsTrue (covers_method methods method) × AreBothOn constraints pattern method number other)
-IsRight constraints rules held (Uncovered pattern methods) = (method path : List ℕ) (caller : Option Caller) → best_pattern (all_patterns constraints) path ≡ Some pattern →
+IsRight constraints rules surroundings (Uncovered pattern methods) = (method path : List ℕ) (caller : Option Caller) → best_pattern (all_patterns constraints) path ≡ Some pattern →
     IsTrue (covers_method methods method) → kind_and_cause (verdict constraints rules method path caller) ≡ (Passes, cause.Uncovered)
-IsRight constraints rules held (HeadDiffers pattern get head) = IsAccessOf constraints rules pattern (codes "GET") get × IsAccessOf constraints rules pattern (codes "HEAD") head
+IsRight constraints rules surroundings (ReadOtherwise pattern methods other) = IsTrue (is_prefix (form pattern)) × IsTrue (is_tried_late other) × (rules.deny_uncovered ≡ false)
+    × ((method : List ℕ) → IsTrue (covers_method methods method) → IsTrue (is_uncovered constraints pattern method))
+    × ((method : List ℕ) × IsTrue (covers_method methods method) × (is_uncovered constraints other method ≡ false))
+IsRight constraints rules surroundings (HeadDiffers pattern get head) = IsAccessOf constraints rules pattern (codes "GET") get × IsAccessOf constraints rules pattern (codes "HEAD") head
     × (caller : Option Caller) × ((path : List ℕ) → best_pattern (all_patterns constraints) path ≡ Some pattern →
     (kind_and_cause (verdict constraints rules (codes "GET") path caller)).0 ≢ (kind_and_cause (verdict constraints rules (codes "HEAD") path caller)).0)
-IsRight constraints rules held (Dead its_number) = (constraint : Constraint) × Contains constraints constraint × (constraint.number ≡ its_number) × CoversNothing constraints constraint
-IsRight constraints rules held (DeadPattern its_number pattern) = (constraint : Constraint) × Contains constraints constraint × (constraint.number ≡ its_number)
+IsRight constraints rules surroundings (Dead its_number) = (constraint : Constraint) × Contains constraints constraint × (constraint.number ≡ its_number) × CoversNothing constraints constraint
+IsRight constraints rules surroundings (DeadPattern its_number pattern) = (constraint : Constraint) × Contains constraints constraint × (constraint.number ≡ its_number)
     × IsTrue (lists (patterns_in constraint) pattern) × IsNeverBest constraints pattern
-IsRight constraints rules held (Escaped its_number pattern) = (constraint : Constraint) × Contains constraints constraint × (constraint.number ≡ its_number)
+IsRight constraints rules surroundings (Unreached its_number pattern) = (constraint : Constraint) × Contains constraints constraint × (constraint.number ≡ its_number)
+    × IsTrue (lists (patterns_in constraint) pattern) × (is_reached surroundings.contexts surroundings.path pattern ≡ false)
+IsRight constraints rules surroundings (Escaped its_number pattern) = (constraint : Constraint) × Contains constraints constraint × (constraint.number ≡ its_number)
     × IsTrue (lists (patterns_in constraint) pattern) × IsTrue (is_escaped pattern)
-IsRight constraints rules held (UnknownRole its_number role) = (constraint : Constraint) × Contains constraints constraint × (constraint.number ≡ its_number)
+IsRight constraints rules surroundings (UnknownRole its_number role) = (constraint : Constraint) × Contains constraints constraint × (constraint.number ≡ its_number)
     × IsTrue (lists (names_in constraint.auth) role) × (lists rules.declared role ≡ false)
-IsRight constraints rules held (UnheldRole role) = (users : List (List ℕ)) × (held ≡ Some users) × IsMeant constraints rules role
+IsRight constraints rules surroundings (UnheldRole role) = (users : List (List ℕ)) × (surroundings.held ≡ Some users) × IsMeant constraints rules role
     × IsTrue (length rules.declared == 0 || lists rules.declared role) × (lists users role ≡ false)
-IsRight constraints rules held (UnusedRole role) = IsTrue (lists rules.declared role)
+IsRight constraints rules surroundings (UnusedRole role) = IsTrue (lists rules.declared role)
     × ((constraint : Constraint) → Contains constraints constraint → lists (roles_meant rules.declared constraint.auth) role ≡ false)
-IsRight constraints rules held other = ⊥
+IsRight constraints rules surroundings other = ⊥
 
 -- Each finding of constraints and their table is right.
 abbrev pub FindingsAreRight : Type 0
-FindingsAreRight = (constraints : List Constraint) (rules : Rules) (held : Option (List (List ℕ))) → All (IsRight constraints rules held) (findings_of constraints rules (table_of constraints rules) held)
+FindingsAreRight = (constraints : List Constraint) (rules : Rules) (surroundings : Surroundings) → All (IsRight constraints rules surroundings) (findings_of constraints rules (table_of constraints rules) surroundings)
+
+-- Some requests may reach the pattern.
+abbrev pub IsReached : Surroundings → List ℕ → Type 0
+IsReached surroundings pattern = IsTrue (is_reached surroundings.contexts surroundings.path pattern)
 
 -- Whether the finding says that everyone may use the method at the pattern although it is restricted.
 abbrev pub says_opened : List ℕ → List ℕ → Finding → Bool
 says_opened pattern method (Opened its_pattern methods number other) = bytes_eq its_pattern pattern && covers_method methods method
 says_opened pattern method other = false
 
--- Each method is found that everyone may use at a path of the pattern, since a constraint needs no authorization, although
--- a constraint with an authorization constraint covers it.
+-- Each method is found that everyone may use at a path of a reached pattern, since a constraint needs no authorization,
+-- although a constraint with an authorization constraint covers it.
 abbrev pub OpenedIsFound : Type 0
-OpenedIsFound = (constraints : List Constraint) (rules : Rules) (held : Option (List (List ℕ))) (pattern method path : List ℕ) → IsRestricted constraints pattern method →
+OpenedIsFound = (constraints : List Constraint) (rules : Rules) (surroundings : Surroundings) (pattern method path : List ℕ) → IsReached surroundings pattern → IsRestricted constraints pattern method →
     best_pattern (all_patterns constraints) path ≡ Some pattern → kind_and_cause (verdict constraints rules method path None) ≡ (Passes, cause.Unauthenticated) →
-    IsTrue (list_any (says_opened pattern method) (findings_of constraints rules (table_of constraints rules) held))
+    IsTrue (list_any (says_opened pattern method) (findings_of constraints rules (table_of constraints rules) surroundings))
 
 -- Whether the finding says that the pattern of the constraint with this number decides nothing.
 abbrev pub says_dead : ℕ → List ℕ → Finding → Bool
@@ -117,9 +133,9 @@ says_dead number pattern other = false
 
 -- Each pattern of a constraint that decides nothing is found.
 abbrev pub DeadIsFound : Type 0
-DeadIsFound = (constraints : List Constraint) (rules : Rules) (held : Option (List (List ℕ))) (constraint : Constraint) (pattern : List ℕ) → Contains constraints constraint →
+DeadIsFound = (constraints : List Constraint) (rules : Rules) (surroundings : Surroundings) (constraint : Constraint) (pattern : List ℕ) → Contains constraints constraint →
     IsTrue (lists (patterns_in constraint) pattern) → IsTrue (decides_nothing (lists (all_patterns constraints) (codes "/*")) pattern) →
-    IsTrue (list_any (says_dead constraint.number pattern) (findings_of constraints rules (table_of constraints rules) held))
+    IsTrue (list_any (says_dead constraint.number pattern) (findings_of constraints rules (table_of constraints rules) surroundings))
 
 -- Whether the finding says that the method is uncovered at the pattern.
 abbrev pub says_uncovered : List ℕ → List ℕ → Finding → Bool
@@ -131,15 +147,38 @@ abbrev pub says_head : List ℕ → Finding → Bool
 says_head pattern (HeadDiffers its_pattern get head) = bytes_eq its_pattern pattern
 says_head pattern other = false
 
--- Unless uncovered methods are denied, each method is found that no constraint covers at a pattern of the constraints, if
--- they cover another method there.
+-- Unless uncovered methods are denied, each method is found that no constraint covers at a reached pattern of the
+-- constraints, if they cover another method there.
 abbrev pub UncoveredIsFound : Type 0
-UncoveredIsFound = (constraints : List Constraint) (rules : Rules) (held : Option (List (List ℕ))) (pattern method other : List ℕ) → rules.deny_uncovered ≡ false → IsTrue (lists (all_patterns constraints) pattern) →
-    IsTrue (is_uncovered constraints pattern method) → is_uncovered constraints pattern other ≡ false → IsTrue (list_any (says_uncovered pattern method) (findings_of constraints rules (table_of constraints rules) held))
+UncoveredIsFound = (constraints : List Constraint) (rules : Rules) (surroundings : Surroundings) (pattern method other : List ℕ) → IsReached surroundings pattern → rules.deny_uncovered ≡ false → IsTrue (lists (all_patterns constraints) pattern) →
+    IsTrue (is_uncovered constraints pattern method) → is_uncovered constraints pattern other ≡ false → IsTrue (list_any (says_uncovered pattern method) (findings_of constraints rules (table_of constraints rules) surroundings))
 
--- Each pattern is found that is the best match of a path at which a caller, or a request without one, fares differently
+-- Each reached pattern is found that is the best match of a path at which a caller, or a request without one, fares differently
 -- with GET and with HEAD.
 abbrev pub HeadIsFound : Type 0
-HeadIsFound = (constraints : List Constraint) (rules : Rules) (held : Option (List (List ℕ))) (pattern path : List ℕ) (caller : Option Caller) → best_pattern (all_patterns constraints) path ≡ Some pattern →
+HeadIsFound = (constraints : List Constraint) (rules : Rules) (surroundings : Surroundings) (pattern path : List ℕ) (caller : Option Caller) → IsReached surroundings pattern → best_pattern (all_patterns constraints) path ≡ Some pattern →
     (kind_and_cause (verdict constraints rules (codes "GET") path caller)).0 ≢ (kind_and_cause (verdict constraints rules (codes "HEAD") path caller)).0 →
-    IsTrue (list_any (says_head pattern) (findings_of constraints rules (table_of constraints rules) held))
+    IsTrue (list_any (says_head pattern) (findings_of constraints rules (table_of constraints rules) surroundings))
+
+-- Whether the finding says that the method is read otherwise at the pattern.
+abbrev pub says_read : List ℕ → List ℕ → Finding → Bool
+says_read pattern method (ReadOtherwise its_pattern methods other) = bytes_eq its_pattern pattern && covers_method methods method
+says_read pattern method other = false
+
+-- Unless uncovered methods are denied, each method is found that no constraint covers at a reached prefix pattern of the
+-- constraints, if they cover it at a reached pattern that is tried later.
+abbrev pub ReadingIsFound : Type 0
+ReadingIsFound = (constraints : List Constraint) (rules : Rules) (surroundings : Surroundings) (pattern method other : List ℕ) → IsReached surroundings pattern → IsReached surroundings other →
+    rules.deny_uncovered ≡ false → IsTrue (lists (all_patterns constraints) pattern) → IsTrue (lists (all_patterns constraints) other) → IsTrue (is_prefix (form pattern)) → IsTrue (is_tried_late other) →
+    IsTrue (is_uncovered constraints pattern method) → is_uncovered constraints other method ≡ false → IsTrue (list_any (says_read pattern method) (findings_of constraints rules (table_of constraints rules) surroundings))
+
+-- Whether the finding says that no request reaches the pattern of the constraint with this number.
+abbrev pub says_unreached : ℕ → List ℕ → Finding → Bool
+says_unreached number pattern (Unreached its_number its_pattern) = its_number == number && bytes_eq its_pattern pattern
+says_unreached number pattern other = false
+
+-- Each pattern of a constraint that no request reaches is found.
+abbrev pub UnreachedIsFound : Type 0
+UnreachedIsFound = (constraints : List Constraint) (rules : Rules) (surroundings : Surroundings) (constraint : Constraint) (pattern : List ℕ) → Contains constraints constraint →
+    IsTrue (lists (patterns_in constraint) pattern) → is_reached surroundings.contexts surroundings.path pattern ≡ false →
+    IsTrue (list_any (says_unreached constraint.number pattern) (findings_of constraints rules (table_of constraints rules) surroundings))

@@ -1,7 +1,11 @@
 pub mod Reach
+pub mod ReachedRows
 pub mod Dead
 pub mod Opened
-pub mod RoleFindings
+pub mod Uncovered
+pub mod Readings
 pub mod Heads
+pub mod Unreached
+pub mod RoleFindings
 pub mod Findings
 pub mod FindingLaws

@@ -1,5 +1,5 @@
 -- Whether requests reach a pattern of a context (Jakarta Servlet 6.0, sections 10.5, 12.1 and 12.2).
-use Rattle.std.specs.Prelude.{◌≡◌, ℕ, false, nat_lt, List, ◌++◌, length, codes, find, Option, None, Some, IsTrue, if◌then◌else◌}
+use Rattle.std.specs.Prelude.{◌≡◌, ℕ, true, Bool, false, nat_lt, List, ◌++◌, length, codes, find, Option, None, Some, IsTrue, if◌then◌else◌}
 use Rattle.std.specs.Option.{option_map_or}
 use Rattle.std.specs.Str.{bytes_eq}
 use Rattle.sv_mapping.specs.Chosen.{is_chosen}
@@ -39,6 +39,15 @@ reach_below contexts context front = option_map_or (reach_against context front)
 -- Whether requests reach a pattern of the context with this path, given the paths of all contexts.
 abbrev pub reach_of : List (List ℕ) → List ℕ → List ℕ → Reach
 reach_of contexts context pattern = option_map_or (reach_below contexts context) (front_of (form pattern)) Reached
+
+-- Whether some requests may reach a pattern of this reach, or a pattern of the context with this path.
+abbrev pub has_requests : Reach → Bool
+has_requests Reached = true
+has_requests Hidden = false
+has_requests (Elsewhere context) = false
+
+abbrev pub is_reached : List (List ℕ) → List ℕ → List ℕ → Bool
+is_reached contexts context pattern = has_requests (reach_of contexts context pattern)
 
 -- Each path of a hidden pattern is protected.
 abbrev pub HiddenIsProtected : Type 0

@@ -1,5 +1,5 @@
 -- Roles that are named, declared or held, but not all three (Jakarta Servlet 6.0, section 13.8).
-use Rattle.std.specs.Prelude.{ℕ, Bool, not, ◌&&◌, ◌||◌, ◌==◌, List, [], length, codes, filter, map, Option, None, Some}
+use Rattle.std.specs.Prelude.{ℕ, Bool, not, ◌&&◌, ◌||◌, ◌==◌, List, [], ◌++◌, length, codes, filter, map, Option, None, Some}
 use Rattle.std.specs.List.{flat_map}
 use Rattle.std.specs.Str.{bytes_eq}
 use Rattle.sv_constraints.specs.Covering.{lists}
@@ -47,3 +47,7 @@ is_unused named name = is_role name && not (lists named name)
 -- The declared roles that no constraint names, each once.
 abbrev pub unused_roles : List (List ℕ) → List Constraint → List Finding
 unused_roles declared constraints = map finding.UnusedRole (different (filter (is_unused (named_roles declared constraints)) declared))
+
+-- The findings of roles, given the declared ones and those that users have, if users are known.
+abbrev pub role_findings : List (List ℕ) → Option (List (List ℕ)) → List Constraint → List Finding
+role_findings declared held constraints = unknown_among declared constraints ++ unheld_roles declared held constraints ++ unused_roles declared constraints

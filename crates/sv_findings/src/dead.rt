@@ -12,7 +12,7 @@ use sv_audit::{all_patterns, is_among, is_extension_pattern, matches_nothing, pa
 use sv_constraints::Constraint;
 use sv_text::{NoMemory, Text};
 
-/// Appends the dead constraints, the dead patterns of others, and the patterns with percent signs.
+/// Appends the dead constraints, and the dead patterns of others.
 pub fn push_ineffective(
     findings: &mut Vec<Finding>,
     alloc: Global,
@@ -20,13 +20,11 @@ pub fn push_ineffective(
 ) -> Result<(), NoMemory>
     ensures { OnOk result (findings.new.items ≡ findings.old.items
         ++ spec.dead_among (covering.lists (covering.all_patterns constraints.now) (codes "/*")) constraints.now
-        ++ spec.dead_patterns (covering.lists (covering.all_patterns constraints.now) (codes "/*")) constraints.now
-        ++ spec.escaped constraints.now) }
+        ++ spec.dead_patterns (covering.lists (covering.all_patterns constraints.now) (codes "/*")) constraints.now) }
 {
     let has_prefix = lists_prefix(alloc, constraints)?;
     push_dead(findings, alloc, has_prefix, constraints)?;
-    push_dead_patterns(findings, alloc, has_prefix, constraints)?;
-    push_escaped(findings, alloc, constraints)
+    push_dead_patterns(findings, alloc, has_prefix, constraints)
 }
 
 /// Returns whether `/*` is among the patterns of the constraints.
@@ -86,7 +84,15 @@ fn decides_nothing(has_prefix: bool, pattern: &str) -> bool
 fn is_beaten(has_prefix: bool, pattern: &str) -> bool
     ensures { result ≡ spec.is_beaten has_prefix pattern.now }
 {
-    has_prefix && (pattern == "/" || is_extension_pattern(pattern))
+    has_prefix && is_tried_late(pattern)
+}
+
+/// Returns whether the pattern is `/` or an extension pattern, which are tried after all others (Jakarta Servlet 6.0,
+/// section 12.1).
+pub fn is_tried_late(pattern: &str) -> bool
+    ensures { result ≡ spec.is_tried_late pattern.now }
+{
+    pattern == "/" || is_extension_pattern(pattern)
 }
 
 fn push_dead_patterns(
@@ -143,7 +149,8 @@ fn push_dead_of(
     Ok(())
 }
 
-fn push_escaped(
+/// Appends the patterns with percent signs.
+pub fn push_escaped(
     findings: &mut Vec<Finding>,
     alloc: Global,
     constraints: &[Constraint],
@@ -167,7 +174,6 @@ fn push_escaped_in(
     push_escaped_of(findings, alloc, constraint.number, patterns.as_slice())
 }
 
-/// Appends the patterns with percent signs.
 fn push_escaped_of(
     findings: &mut Vec<Finding>,
     alloc: Global,

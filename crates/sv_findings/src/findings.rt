@@ -2,26 +2,29 @@
 
 ghost use Rattle.std.specs.Prelude.{◌≡◌, ◌++◌, OnOk, filter, map};
 ghost use Rattle.std.specs.List.{flat_map, list_all};
-ghost use Rattle.std.specs.Option.{option_copied};
 ghost use Rattle.sv_text.specs.Gives.{GivesAnswer};
 ghost use Rattle.sv_findings.specs.Findings as spec;
-ghost use Rattle.sv_findings.specs.Heads.{head_at};
-ghost use Rattle.sv_findings.specs.Opened.{opened_at};
+ghost use Rattle.sv_findings.specs.Uncovered as uncovered;
 ghost use Rattle.sv_findings.specs.declared.finding.Finding.TheVariants as finding;
 
-use crate::dead::push_ineffective;
+use crate::dead::{push_escaped, push_ineffective};
 use crate::finding::Finding;
 use crate::heads::push_heads;
 use crate::opened::push_opened;
+use crate::reach::Reaches;
+use crate::reached_rows::reached_rows;
+use crate::readings::push_read_otherwise;
 use crate::role_findings::push_by_role;
+use crate::surroundings::Surroundings;
+use crate::unreached::push_unreached;
 use std::alloc::Global;
 use sv_audit::{Access, Group, Row, Table};
 use sv_constraints::{Constraint, Rules};
 use sv_policy::copied_methods;
 use sv_text::{Listed, NoMemory, Text};
 
-/// Returns the findings of constraints, their rules and their access table, in the order of the variants of [`Finding`].
-/// `held` lists the roles that users have, or is none if no users are known.
+/// Returns the findings of constraints, their rules, their access table and what surrounds them, in the order of the
+/// variants of [`Finding`]. What a row opens is looked for only at patterns that requests reach.
 ///
 /// # Errors
 /// `NoMemory` if memory runs out.
@@ -30,49 +33,61 @@ pub fn findings_of(
     constraints: &[Constraint],
     rules: &Rules,
     table: &Table,
-    held: Option<&[Text]>,
+    surroundings: &Surroundings,
 ) -> Result<Listed<Finding>, NoMemory>
-    ensures { GivesAnswer result (spec.findings_of constraints.now rules.now table.now (option_copied held.entry)) }
+    ensures { GivesAnswer result (spec.findings_of constraints.now rules.now table.now surroundings.now) }
 {
-    let mut findings = Vec::new(alloc);
-    push_by_row(
-        &mut findings,
+    let reaches = Reaches::of(
         alloc,
-        constraints,
-        rules,
-        table.rows.as_slice(),
+        surroundings.contexts.as_slice(),
+        surroundings.path.as_str(),
     )?;
-    push_ineffective(&mut findings, alloc, constraints)?;
+    let mut findings = Vec::new(alloc);
+    let rows = reached_rows(alloc, &reaches, table.rows.as_slice())?;
+    push_by_row(&mut findings, alloc, constraints, rules, rows.as_slice())?;
+    push_by_pattern(&mut findings, alloc, constraints, &reaches)?;
     push_by_role(
         &mut findings,
         alloc,
         rules.declared.as_slice(),
-        held,
+        &surroundings.held,
         constraints,
     )?;
     Ok(Listed::from_vec(findings))
 }
 
-/// Appends the findings of the rows of the table.
+/// Appends the findings of rows of the table.
 fn push_by_row(
     findings: &mut Vec<Finding>,
     alloc: Global,
     constraints: &[Constraint],
     rules: &Rules,
-    rows: &[Row],
+    rows: &[&Row],
 ) -> Result<(), NoMemory>
-    ensures { OnOk result (findings.new.items ≡ findings.old.items
-        ++ flat_map (λ row. opened_at constraints.now row.pattern) rows.now
-        ++ flat_map (λ row. spec.uncovered_at row.pattern row.groups) rows.now
-        ++ flat_map (λ row. head_at row.pattern row.groups) rows.now) }
+    ensures { OnOk result (findings.new.items ≡ findings.old.items ++ spec.row_findings constraints.now (map (λ row. row.now) rows.now)) }
 {
     push_opened(findings, alloc, constraints, rules, rows)?;
     push_uncovered(findings, alloc, rows)?;
+    push_read_otherwise(findings, alloc, rows)?;
     push_heads(findings, alloc, rows)
 }
 
-fn push_uncovered(findings: &mut Vec<Finding>, alloc: Global, rows: &[Row]) -> Result<(), NoMemory>
-    ensures { OnOk result (findings.new.items ≡ findings.old.items ++ flat_map (λ row. spec.uncovered_at row.pattern row.groups) rows.now) }
+/// Appends the findings of the patterns of the constraints.
+fn push_by_pattern(
+    findings: &mut Vec<Finding>,
+    alloc: Global,
+    constraints: &[Constraint],
+    reaches: &Reaches<'_>,
+) -> Result<(), NoMemory>
+    ensures { OnOk result (findings.new.items ≡ findings.old.items ++ spec.pattern_findings constraints.now reaches.now.0 reaches.now.1) }
+{
+    push_ineffective(findings, alloc, constraints)?;
+    push_unreached(findings, alloc, reaches, constraints)?;
+    push_escaped(findings, alloc, constraints)
+}
+
+fn push_uncovered(findings: &mut Vec<Finding>, alloc: Global, rows: &[&Row]) -> Result<(), NoMemory>
+    ensures { OnOk result (findings.new.items ≡ findings.old.items ++ flat_map (λ row. uncovered.uncovered_at row.pattern row.groups) (map (λ row. row.now) rows.now)) }
 {
     for row in rows {
         push_uncovered_at(findings, alloc, &row.pattern, row.groups.as_slice())?;
@@ -87,7 +102,7 @@ fn push_uncovered_at(
     pattern: &Option<Text>,
     groups: &[Group],
 ) -> Result<(), NoMemory>
-    ensures { OnOk result (findings.new.items ≡ findings.old.items ++ spec.uncovered_at pattern.now groups.now) }
+    ensures { OnOk result (findings.new.items ≡ findings.old.items ++ uncovered.uncovered_at pattern.now groups.now) }
 {
     let Some(pattern) = pattern else {
         return Ok(());
@@ -104,7 +119,7 @@ fn push_left_out(
     pattern: &str,
     groups: &[Group],
 ) -> Result<(), NoMemory>
-    ensures { OnOk result (findings.new.items ≡ findings.old.items ++ map (λ group. finding.Uncovered pattern.now group.methods) (filter spec.is_left_out groups.now)) }
+    ensures { OnOk result (findings.new.items ≡ findings.old.items ++ map (λ group. finding.Uncovered pattern.now group.methods) (filter uncovered.is_left_out groups.now)) }
 {
     for group in groups {
         if is_left_out(group) {
@@ -118,20 +133,20 @@ fn push_left_out(
 }
 
 fn are_left_out(groups: &[Group]) -> bool
-    ensures { result ≡ list_all spec.is_left_out groups.now }
+    ensures { result ≡ list_all uncovered.is_left_out groups.now }
 {
     groups.iter().all(is_left_out)
 }
 
-fn is_left_out(group: &Group) -> bool
-    ensures { result ≡ spec.is_left_out group.now }
+/// Returns whether everyone may use the methods of the group since no constraint covers them.
+pub fn is_left_out(group: &Group) -> bool
+    ensures { result ≡ uncovered.is_left_out group.now }
 {
     is_left_open(&group.cell.access)
 }
 
-/// Returns whether everyone may use the methods since no constraint covers them (Jakarta Servlet 6.0, section 13.8.4).
 fn is_left_open(access: &Access) -> bool
-    ensures { result ≡ spec.is_left_open access.now }
+    ensures { result ≡ uncovered.is_left_open access.now }
 {
     matches!(access, Access::Uncovered)
 }

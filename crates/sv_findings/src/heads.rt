@@ -1,6 +1,6 @@
 //! Patterns at which GET and HEAD are open to different callers.
 
-ghost use Rattle.std.specs.Prelude.{◌≡◌, ◌++◌, OnOk, codes};
+ghost use Rattle.std.specs.Prelude.{◌≡◌, ◌++◌, OnOk, codes, map};
 ghost use Rattle.std.specs.List.{flat_map};
 ghost use Rattle.sv_constraints.specs.Covering.{covers_method};
 ghost use Rattle.sv_audit.specs.Callers.{has_method};
@@ -15,8 +15,8 @@ use sv_constraints::{Methods, lists};
 use sv_text::{NoMemory, Text};
 
 /// Appends the patterns of the rows at which GET and HEAD are open to different callers.
-pub fn push_heads(findings: &mut Vec<Finding>, alloc: Global, rows: &[Row]) -> Result<(), NoMemory>
-    ensures { OnOk result (findings.new.items ≡ findings.old.items ++ flat_map (λ row. spec.head_at row.pattern row.groups) rows.now) }
+pub fn push_heads(findings: &mut Vec<Finding>, alloc: Global, rows: &[&Row]) -> Result<(), NoMemory>
+    ensures { OnOk result (findings.new.items ≡ findings.old.items ++ flat_map (λ row. spec.head_at row.pattern row.groups) (map (λ row. row.now) rows.now)) }
 {
     for row in rows {
         push_head(findings, alloc, &row.pattern, row.groups.as_slice())?;
@@ -101,7 +101,8 @@ fn is_method_of(method: &str, group: &Group) -> bool
     covers_method(&group.methods, method)
 }
 
-fn covers_method(methods: &Methods, method: &str) -> bool
+/// Returns whether the method is among the methods.
+pub fn covers_method(methods: &Methods, method: &str) -> bool
     ensures { result ≡ covers_method methods.now method.now }
 {
     match methods {

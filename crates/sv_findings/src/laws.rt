@@ -1,31 +1,36 @@
 //! Theorems about findings, each the contract of a function that only calls other theorems.
 
 ghost use Rattle.sv_findings.specs.Reach.{ElsewhereIsForeign, HiddenIsProtected, ServedIsReached};
-ghost use Rattle.sv_findings.specs.FindingLaws.{DeadIsFound, FindingsAreRight, HeadIsFound, OpenedIsFound, UncoveredIsFound};
+ghost use Rattle.sv_findings.specs.FindingLaws.{DeadIsFound, FindingsAreRight, HeadIsFound, OpenedIsFound, ReadingIsFound, UncoveredIsFound, UnreachedIsFound};
 
 use sv_mapping::laws::best_is_a_match;
 use sv_uri::laws::canonical_has_shape;
 
 /// Each finding of constraints and their table is right. With each of the opened methods everyone passes, although a
 /// constraint with an authorization constraint covers it. The methods of an uncovered finding pass at each path of its
-/// pattern, since they are uncovered. Where GET and HEAD differ, their accesses are as reported, and there is a caller, or
-/// a request without one, that passes with one of them and not with the other, or is asked to log in only for one. A dead constraint covers no request, and a
-/// dead pattern is the best match of no canonical path. An unknown role is named and not declared, an unheld one is named
-/// and no user has it, and an unused one is declared and not named.
+/// pattern, since they are uncovered. Methods that are read otherwise are uncovered at their prefix pattern, and a
+/// constraint covers one of them at a pattern that is tried later. Where GET and HEAD differ, their accesses are as
+/// reported, and there is a caller, or a request without one, that passes with one of them and not with the other, or is
+/// asked to log in only for one. A dead constraint covers no request, a dead pattern is the best match of no canonical
+/// path, and an unreached one is hidden or belongs to another context. An unknown role is named and not declared, an
+/// unheld one is named and no user has it, and an unused one is declared and not named.
 pub fn findings_are_right()
     ensures { FindingsAreRight }
 {
     canonical_has_shape();
 }
 
-/// No method is missed that a constraint opens to everyone at a pattern and another one restricts. Unless uncovered
-/// methods are denied, none is missed at a pattern of the constraints at which another method is covered. No difference
-/// between GET and HEAD is missed, and no pattern that decides nothing.
+/// No method is missed that a constraint opens to everyone at a reached pattern and another one restricts. Unless
+/// uncovered methods are denied, none is missed at a reached pattern of the constraints at which another method is
+/// covered, and none that a pattern covers that is tried later. No difference between GET and HEAD at a reached pattern
+/// is missed, no pattern that decides nothing, and none that no request reaches.
 pub fn findings_are_complete()
     ensures opened { OpenedIsFound }
     ensures uncovered { UncoveredIsFound }
+    ensures readings { ReadingIsFound }
     ensures heads { HeadIsFound }
     ensures dead { DeadIsFound }
+    ensures unreached { UnreachedIsFound }
 {
     best_is_a_match();
 }

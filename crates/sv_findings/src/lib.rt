@@ -9,9 +9,14 @@ mod heads;
 mod laws;
 mod opened;
 mod reach;
+mod reached_rows;
+mod readings;
 mod role_findings;
+mod surroundings;
+mod unreached;
 
 pub use finding::Finding;
 pub use findings::findings_of;
 pub use laws::{findings_are_complete, findings_are_right, reach_is_right};
-pub use reach::{Reach, reach_by, reach_of};
+pub use reach::{Reach, Reaches, reach_of};
+pub use surroundings::{LoginPage, Surroundings};

@@ -26,9 +26,9 @@ pub fn push_opened(
     alloc: Global,
     constraints: &[Constraint],
     rules: &Rules,
-    rows: &[Row],
+    rows: &[&Row],
 ) -> Result<(), NoMemory>
-    ensures { OnOk result (findings.new.items ≡ findings.old.items ++ flat_map (λ row. spec.opened_at constraints.now row.pattern) rows.now) }
+    ensures { OnOk result (findings.new.items ≡ findings.old.items ++ flat_map (λ row. spec.opened_at constraints.now row.pattern) (map (λ row. row.now) rows.now)) }
 {
     let groups = grouped(alloc, constraints)?;
     for row in rows {

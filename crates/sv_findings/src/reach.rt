@@ -7,6 +7,7 @@ ghost use Rattle.sv_text.specs.Gives.{GivesAnswer};
 ghost use Rattle.sv_findings.specs.Reach as spec;
 
 use std::alloc::Global;
+use std::marker::Model;
 use sv_audit::form_of;
 use sv_mapping::{ContextIndex, Form, is_protected};
 use sv_text::{NoMemory, Text};
@@ -36,12 +37,77 @@ pub fn reach_of(
 ) -> Result<Reach, NoMemory>
     ensures { GivesAnswer result (spec.reach_of contexts.now context.now pattern.now) }
 {
-    let index = ContextIndex::of(alloc, contexts)?;
-    reach_by(alloc, &index, contexts, context, pattern)
+    Reaches::of(alloc, contexts, context)?.reach(alloc, pattern)
 }
 
-/// Returns the same by an index of the contexts.
-pub fn reach_by(
+/// The patterns of a context beside others, for questions on the reach of many patterns. Contracts see the paths of all
+/// contexts, and that of this one.
+#[derive(Drop)]
+pub struct Reaches<'a> {
+    index: ContextIndex,
+    contexts: &'a [Text],
+    context: &'a str,
+}
+
+impl<'a> Model for Reaches<'a> {
+    ghost use Rattle.std.specs.Prelude.{◌≡◌, ℕ, List};
+
+    ghost Value = { List (List ℕ) × List ℕ };
+
+    ghost view = { λ reaches. (reaches.contexts.now, reaches.context.now) };
+
+    ghost invariant = { λ reaches. reaches.index ≡ reaches.contexts.now };
+}
+
+impl<'a> Reaches<'a> {
+    /// Takes the paths of all contexts, and that of the context with the patterns.
+    ///
+    /// # Errors
+    /// `NoMemory` if memory runs out.
+    pub fn of(
+        alloc: Global,
+        contexts: &'a [Text],
+        context: &'a str,
+    ) -> Result<Reaches<'a>, NoMemory>
+        ensures { GivesAnswer result (contexts.now, context.now) }
+    {
+        let index = ContextIndex::of(alloc, contexts)?;
+        Ok(Reaches {
+            index,
+            contexts,
+            context,
+        })
+    }
+
+    /// Returns whether requests reach a pattern.
+    ///
+    /// # Errors
+    /// `NoMemory` if memory runs out.
+    pub fn reach(&self, alloc: Global, pattern: &str) -> Result<Reach, NoMemory>
+        ensures { GivesAnswer result (spec.reach_of self.now.0 self.now.1 pattern.now) }
+    {
+        reach_by(alloc, &self.index, self.contexts, self.context, pattern)
+    }
+
+    /// Returns whether some requests may reach a pattern.
+    ///
+    /// # Errors
+    /// `NoMemory` if memory runs out.
+    pub fn is_reached(&self, alloc: Global, pattern: &str) -> Result<bool, NoMemory>
+        ensures { GivesAnswer result (spec.is_reached self.now.0 self.now.1 pattern.now) }
+    {
+        let reach = self.reach(alloc, pattern)?;
+        Ok(has_requests(&reach))
+    }
+}
+
+fn has_requests(reach: &Reach) -> bool
+    ensures { result ≡ spec.has_requests reach.now }
+{
+    matches!(reach, Reach::Reached)
+}
+
+fn reach_by(
     alloc: Global,
     index: &ContextIndex,
     contexts: &[Text],

@@ -2,7 +2,6 @@
 
 ghost use Rattle.std.specs.Prelude.{◌≡◌, ◌++◌, IfOk, OnOk, filter, map};
 ghost use Rattle.std.specs.List.{flat_map};
-ghost use Rattle.std.specs.Option.{option_copied};
 ghost use Rattle.sv_constraints.specs.Covering as covering;
 ghost use Rattle.sv_policy.specs.Patterns.{different, kept_once};
 ghost use Rattle.sv_findings.specs.RoleFindings as spec;
@@ -12,7 +11,7 @@ use crate::finding::Finding;
 use std::alloc::Global;
 use sv_audit::{is_among, push_meant, sorted};
 use sv_constraints::{Auth, Constraint, EVERY_CALLER, EVERY_ROLE, lists};
-use sv_text::{NoMemory, Text};
+use sv_text::{Listed, NoMemory, Text};
 
 /// Appends the roles that are not declared, those that no user has, and those that no constraint names, given the
 /// declared roles and those that users have, if users are known.
@@ -20,13 +19,10 @@ pub fn push_by_role(
     findings: &mut Vec<Finding>,
     alloc: Global,
     declared: &[Text],
-    held: Option<&[Text]>,
+    held: &Option<Listed<Text>>,
     constraints: &[Constraint],
 ) -> Result<(), NoMemory>
-    ensures { OnOk result (findings.new.items ≡ findings.old.items
-        ++ spec.unknown_among declared.now constraints.now
-        ++ spec.unheld_roles declared.now (option_copied held.entry) constraints.now
-        ++ spec.unused_roles declared.now constraints.now) }
+    ensures { OnOk result (findings.new.items ≡ findings.old.items ++ spec.role_findings declared.now held.now constraints.now) }
 {
     push_unknown(findings, alloc, declared, constraints)?;
     push_unheld(findings, alloc, declared, held, constraints)?;
@@ -111,16 +107,16 @@ fn push_unheld(
     findings: &mut Vec<Finding>,
     alloc: Global,
     declared: &[Text],
-    held: Option<&[Text]>,
+    held: &Option<Listed<Text>>,
     constraints: &[Constraint],
 ) -> Result<(), NoMemory>
-    ensures { OnOk result (findings.new.items ≡ findings.old.items ++ spec.unheld_roles declared.now (option_copied held.entry) constraints.now) }
+    ensures { OnOk result (findings.new.items ≡ findings.old.items ++ spec.unheld_roles declared.now held.now constraints.now) }
 {
     let Some(held) = held else {
         return Ok(());
     };
     let named = named_roles(alloc, declared, constraints)?;
-    push_unheld_among(findings, alloc, declared, held, named.as_slice())
+    push_unheld_among(findings, alloc, declared, held.as_slice(), named.as_slice())
 }
 
 fn push_unheld_among(

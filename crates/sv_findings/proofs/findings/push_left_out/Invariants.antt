@@ -1,6 +1,6 @@
 use Rattle.std.proofs.Common.{◌≡◌, ◌++◌, map, take}
 use Rattle.std.specs.Prelude.{filter}
-use Rattle.sv_findings.specs.Findings.{is_left_out}
+use Rattle.sv_findings.specs.Uncovered.{is_left_out}
 use Rattle.sv_findings.specs.declared.finding.Finding.TheVariants as finding
 use Rattle.sv_findings.proofs.findings.push_left_out.Given as goal
 

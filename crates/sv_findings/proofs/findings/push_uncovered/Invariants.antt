@@ -1,7 +1,7 @@
-use Rattle.std.proofs.Common.{◌≡◌, ◌++◌, take}
+use Rattle.std.proofs.Common.{◌≡◌, ◌++◌, map, take}
 use Rattle.std.specs.List.{flat_map}
-use Rattle.sv_findings.specs.Findings.{uncovered_at}
+use Rattle.sv_findings.specs.Uncovered.{uncovered_at}
 use Rattle.sv_findings.proofs.findings.push_uncovered.Given as goal
 
 abbrev pub invariant-loop-row : goal.invariant-loop-row
-invariant-loop-row l = l.findings.items ≡ l.initial.findings.items ++ flat_map (λ row. uncovered_at row.pattern row.groups) (take l.row-index l.rows)
+invariant-loop-row l = l.findings.items ≡ l.initial.findings.items ++ flat_map (λ row. uncovered_at row.pattern row.groups) (map (λ row. row.now) (take l.row-index l.rows))

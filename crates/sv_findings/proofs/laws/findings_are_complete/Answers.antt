@@ -1,4 +1,4 @@
-use Rattle.sv_findings.proofs.FoundFindings.{dead_found, head_found, opened_found, uncovered_found}
+use Rattle.sv_findings.proofs.FoundFindings.{dead_found, head_found, opened_found, reading_found, uncovered_found, unreached_found}
 use Rattle.sv_findings.proofs.laws.findings_are_complete.Goals as goal
 
 pub returns-clause-opened : goal.returns-clause-opened
@@ -12,3 +12,9 @@ returns-clause-heads c = head_found c.best_is_a_match.ensures
 
 pub returns-clause-dead : goal.returns-clause-dead
 returns-clause-dead c = dead_found
+
+pub returns-clause-readings : goal.returns-clause-readings
+returns-clause-readings c = reading_found
+
+pub returns-clause-unreached : goal.returns-clause-unreached
+returns-clause-unreached c = unreached_found

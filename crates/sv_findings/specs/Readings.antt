@@ -1,0 +1,73 @@
+-- Prefix patterns that a server which takes only patterns that cover the method reads otherwise. The best match does not
+-- depend on the method (Jakarta Servlet 6.0, sections 12.1 and 13.8.3).
+use Rattle.std.specs.Prelude.{ℕ, Bool, true, false, ◌&&◌, List, [], filter, find, map, Option, None, Some, if◌then◌else◌}
+use Rattle.std.specs.List.{flat_map, list_any}
+use Rattle.std.specs.Option.{option_and_then, option_map_or, option_to_list}
+use Rattle.sv_constraints.specs.Covering.{covers_method}
+use Rattle.sv_constraints.specs.declared.constraint.Methods.{Methods}
+use Rattle.sv_constraints.specs.declared.constraint.Methods.TheVariants.{All, Only, Except}
+use Rattle.sv_mapping.specs.Pattern.{Form, Root, Default, Extension, Prefix, Exact, form}
+use Rattle.sv_audit.specs.declared.access.Access.{Access}
+use Rattle.sv_audit.specs.declared.access.Access.TheVariants.{Unconstrained, Uncovered, UncoveredDenied, Precluded, NeedsTls, Everyone, AnyLogin, Roles}
+use Rattle.sv_audit.specs.declared.rows.Group.{Group}
+use Rattle.sv_audit.specs.declared.rows.Row.{Row}
+use Rattle.sv_findings.specs.Dead.{is_tried_late}
+use Rattle.sv_findings.specs.Uncovered.{is_left_out}
+use Rattle.sv_findings.specs.declared.finding.Finding.{Finding}
+use Rattle.sv_findings.specs.declared.finding.Finding.TheVariants as finding
+
+-- Whether a constraint covers methods with this access.
+abbrev pub is_covered : Access → Bool
+is_covered Unconstrained = false
+is_covered Uncovered = false
+is_covered UncoveredDenied = false
+is_covered Precluded = true
+is_covered NeedsTls = true
+is_covered Everyone = true
+is_covered AnyLogin = true
+is_covered (Roles names) = true
+
+-- Whether one of the others is among all methods except some.
+abbrev pub holds_one : Methods → Methods → Bool
+holds_one methods All = true
+holds_one methods (Only names) = list_any (covers_method methods) names
+holds_one methods (Except names) = true
+
+-- Whether some method is in both sets.
+abbrev pub share_method : Methods → Methods → Bool
+share_method All others = holds_one All others
+share_method (Only names) others = list_any (covers_method others) names
+share_method (Except names) others = holds_one (Except names) others
+
+-- Whether a constraint covers one of the methods in this group of a row, or in the row.
+abbrev pub covers_part : Methods → Group → Bool
+covers_part methods group = is_covered group.cell.access && share_method methods group.methods
+
+abbrev pub covers_one : Methods → Row → Bool
+covers_one methods row = list_any (covers_part methods) row.groups
+
+abbrev pub is_late : Row → Bool
+is_late row = option_map_or is_tried_late row.pattern false
+
+abbrev pub is_prefix : Form → Bool
+is_prefix Root = false
+is_prefix Default = false
+is_prefix (Extension wanted) = false
+is_prefix (Prefix prefix) = true
+is_prefix (Exact text) = false
+
+-- The pattern of the first row that covers one of the methods.
+abbrev pub first_covering : List Row → Methods → Option (List ℕ)
+first_covering rows methods = option_and_then (λ row. row.pattern) (find (covers_one methods) rows)
+
+-- A pattern that is tried later covers one of these uncovered methods of a prefix pattern.
+abbrev pub read_as : List Row → List ℕ → Methods → List Finding
+read_as late pattern methods = map (finding.ReadOtherwise pattern methods) (option_to_list (first_covering late methods))
+
+abbrev pub read_at : List Row → Option (List ℕ) → List Group → List Finding
+read_at late None groups = []
+read_at late (Some pattern) groups = if is_prefix (form pattern) then flat_map (λ group. read_as late pattern group.methods) (filter is_left_out groups) else []
+
+-- The prefix patterns with uncovered methods of which an extension pattern or `/` covers one.
+abbrev pub read_otherwise : List Row → List Finding
+read_otherwise rows = flat_map (λ row. read_at (filter is_late rows) row.pattern row.groups) rows
