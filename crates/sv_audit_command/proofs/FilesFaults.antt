@@ -1,5 +1,5 @@
 -- The faults that the texts of files can have.
-use Rattle.std.proofs.Common.{◌≡◌, ℕ, Bool, true, false, if◌then◌else◌, List, [], ◌∷◌, Option, Some, None, Ok, Err, refl, subst}
+use Rattle.std.proofs.Common.{◌≡◌, ℕ, Bool, true, false, if◌then◌else◌, List, [], ◌∷◌, Option, Some, None, Result, Ok, Err, refl, subst}
 use Rattle.std.specs.Prelude.{is_some, option_copied}
 use Rattle.std.specs.List.{list_any}
 use Rattle.sv_deployments.specs.declared.folders.FoundContext.{FoundContext}
@@ -8,6 +8,10 @@ use Rattle.sv_descriptor.specs.Fault.{Located}
 use Rattle.sv_descriptor.specs.Server.{located_server}
 use Rattle.sv_descriptor.specs.Users.{located_users}
 use Rattle.sv_realm.specs.Realm.{caller_named}
+use Rattle.sv_explanation.specs.Explanation.{explanation}
+use Rattle.sv_explanation.specs.declared.explanation.Explanation.{Explanation}
+use Rattle.sv_policy.specs.declared.explain_fault.ExplainFault.{ExplainFault}
+use Rattle.sv_policy.specs.declared.explain_fault.ExplainFault.TheVariants as explain
 use Rattle.sv_text.specs.Steps.{◌>>=◌}
 use Rattle.sv_program.specs.Configuration.{Step, descriptor_in, each, read_from, server_in, text_of, users_in, users_named}
 use Rattle.sv_program.specs.FileStore.{FileText}
@@ -17,8 +21,10 @@ use Rattle.sv_program.specs.declared.command_fault.CommandFault.TheVariants.{Inp
 use Rattle.sv_program.specs.declared.command_fault.CommandFault.TheVariants as command
 use Rattle.sv_program.specs.declared.configuration.ContextTexts.{ContextTexts}
 use Rattle.sv_audit_command.specs.AuditCommand.{report_for}
-use Rattle.sv_audit_command.specs.Audited.{audited_context, context_users}
-use Rattle.sv_audit_command.specs.Report.{asked_text, report_on}
+use Rattle.sv_audit_command.specs.Audited.{audited_context, context_parts, kept_descriptor}
+use Rattle.sv_audit_command.specs.Report.{asked_text, report_by, report_on}
+use Rattle.sv_audit_command.specs.ExplainedRequest.{explained, method_of, sites_of, told}
+use Rattle.sv_audit_command.specs.LineFile.{located}
 use Rattle.sv_audit_command.specs.Viewer.{check_viewer}
 use Rattle.sv_audit_command.specs.declared.audited_context.AuditedContext.{AuditedContext}
 use Rattle.sv_audit_command.specs.declared.further_files.FurtherFiles.{FurtherFiles}
@@ -78,11 +84,30 @@ named_faults : (path : List ℕ) (name : Option (List ℕ)) (file : FileText) �
 named_faults path None file = done []
 named_faults path (Some name) file = onward (text_of name file) _ (text_faults name file) (λ text. users_read path name text (located_users text))
 
-realm_faults : (at : ContextTexts) → AreOfFiles (context_users at)
-realm_faults at = onward (users_in at) _ (named_faults at.context.path at.context.users at.users) (λ users. done _)
+kept_faults : (path : Option (List ℕ)) (at : ContextTexts) → AreOfFiles (kept_descriptor path at)
+kept_faults None at = done None
+kept_faults (Some target) at = onward (descriptor_in at) _ (app_faults at) (λ app. done (Some app))
 
-context_faults : (is_secure : Bool) (at : FoundContext) → AreOfFiles (audited_context is_secure at)
-context_faults is_secure at = onward (descriptor_in at.texts) _ (app_faults at.texts) (λ app. onward (context_users at.texts) _ (realm_faults at.texts) (λ users. done _))
+parts_faults : (options : AccessOptions) (at : ContextTexts) → AreOfFiles (context_parts options at)
+parts_faults options at =
+    onward (kept_descriptor (option_copied options.path) at) _ (kept_faults (option_copied options.path) at)
+    (λ kept. onward (users_in at) _ (named_faults at.context.path at.context.users at.users) (λ users. done _))
+
+context_faults : (options : AccessOptions) (at : FoundContext) → AreOfFiles (audited_context options at)
+context_faults options at =
+    onward (descriptor_in at.texts) _ (app_faults at.texts) (λ app. onward (context_parts options at.texts) _ (parts_faults options at.texts) (λ parts. done _))
+
+method_faults : (method target : List ℕ) (found : Result Explanation ExplainFault) → AreOfFiles (told method target found)
+method_faults method target (Ok found) = done _
+method_faults method target (Err explain.BadMethod) = λ fault h. only (command.Method (quoted method)) fault tt h
+method_faults method target (Err explain.NoSuchUser) = λ fault h. only (command.User (quoted [])) fault tt h
+method_faults method target (Err explain.NoMemory) = λ fault h. only command.NoMemory fault tt h
+
+by_faults : (options : AccessOptions) (path : Option (List ℕ)) (accepted : List ℕ) (contexts : List AuditedContext) → AreOfFiles (report_by options path accepted contexts)
+by_faults options None accepted contexts = done _
+by_faults options (Some target) accepted contexts =
+    onward (explained options target contexts) _
+    (method_faults (method_of options) target (explanation (sites_of options.viewer contexts) (method_of options) target)) (λ text. done _)
 
 further_faults : (name : Option (List ℕ)) (file : FileText) → AreOfFiles (asked_text name file)
 further_faults None file = done []
@@ -100,10 +125,11 @@ viewer_faults (Some (asked.Role role)) contexts = done {A = Unit {0}} tt
 
 report_faults : (options : AccessOptions) (texts : List FoundContext) (files : FurtherFiles) → AreOfFiles (report_on options texts files)
 report_faults options texts files =
-    onward (each (audited_context options.is_secure) texts) _ (each_faults (audited_context options.is_secure) (context_faults options.is_secure) texts) (λ contexts.
+    onward (each (audited_context options) texts) _ (each_faults (audited_context options) (context_faults options) texts) (λ contexts.
     onward (asked_text (option_copied options.accept) files.accept) _ (further_faults (option_copied options.accept) files.accept) (λ accepted.
     onward (asked_text (option_copied options.lines) files.lines) _ (further_faults (option_copied options.lines) files.lines) (λ lines.
-    onward (check_viewer options.viewer contexts) _ (viewer_faults options.viewer contexts) (λ known. done _))))
+    onward (check_viewer options.viewer contexts) _ (viewer_faults options.viewer contexts) (λ known.
+    by_faults options (option_copied options.path) accepted (located (option_copied options.lines) lines contexts)))))
 
 pub all_faults : (options : AccessOptions) (config : List ℕ) (file : FileText) (texts : List FoundContext) (files : FurtherFiles) → AreOfFiles (report_for options config file texts files)
 all_faults options config file texts files =

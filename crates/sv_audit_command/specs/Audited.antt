@@ -1,5 +1,5 @@
 -- A context of a server, from the texts of its descriptor and its users file.
-use Rattle.std.specs.Prelude.{ℕ, Bool, List, [], Option, Ok, Err, is_some, if◌then◌else◌}
+use Rattle.std.specs.Prelude.{ℕ, Bool, List, [], Option, None, Some, Ok, Err, is_some, option_copied, if◌then◌else◌}
 use Rattle.sv_text.specs.Steps.{◌>>=◌}
 use Rattle.sv_audit.specs.Secure.{secure}
 use Rattle.sv_constraints.specs.declared.constraint.Constraint.{Constraint}
@@ -12,8 +12,9 @@ use Rattle.sv_realm.specs.declared.account.User.{User}
 use Rattle.sv_audit_command.specs.ConstraintLines.{constraint_lines}
 use Rattle.sv_audit_command.specs.ContextFiles.{files_in}
 use Rattle.sv_audit_command.specs.Held.{held_in}
+use Rattle.sv_audit_command.specs.declared.access_options.AccessOptions.{AccessOptions}
 use Rattle.sv_audit_command.specs.declared.audited_context.AuditedContext.{AuditedContext}
-use Rattle.sv_audit_command.specs.declared.audited_context.ContextUsers.{ContextUsers}
+use Rattle.sv_audit_command.specs.declared.audited_context.ContextParts.{ContextParts}
 use Rattle.sv_audit_command.specs.declared.audited_context.Source.{Source}
 use Rattle.sv_audit_command.specs.declared.context_files.ContextFiles.{ContextFiles}
 
@@ -29,25 +30,34 @@ lines_in (Err why) = []
 abbrev pub source_of : ContextTexts → Source
 source_of texts = record { path = texts.context.path; file = texts.context.descriptor; lines = lines_in texts.descriptor }
 
--- The users of a context, and their roles.
-abbrev pub users_of : ContextTexts → List User → ContextUsers
-users_of texts users = record { realm = users; held = held_in texts.context.users users }
+-- The descriptor is kept if the report is on one request.
+abbrev pub kept_descriptor : Option (List ℕ) → ContextTexts → Step (Option WebApp)
+kept_descriptor None texts = Ok None
+kept_descriptor (Some target) texts = do
+  app ← descriptor_in texts
+  Ok (Some app)
 
-abbrev pub context_users : ContextTexts → Step ContextUsers
-context_users texts = do
+abbrev pub parts_of : ContextTexts → Option WebApp → List User → ContextParts
+parts_of texts kept users = record { descriptor = kept; realm = users; held = held_in texts.context.users users }
+
+-- The descriptor if it is kept, the users and their roles.
+abbrev pub context_parts : AccessOptions → ContextTexts → Step ContextParts
+context_parts options texts = do
+  kept ← kept_descriptor (option_copied options.path) texts
   users ← users_in texts
-  Ok (users_of texts users)
+  Ok (parts_of texts kept users)
 
--- The context with this descriptor, these users and these files.
-abbrev pub context_of : Bool → Source → WebApp → ContextUsers → ContextFiles → AuditedContext
-context_of is_secure its_source app users its_files = record {
+-- The context with this descriptor, these parts and these files.
+abbrev pub context_of : Bool → Source → WebApp → ContextParts → ContextFiles → AuditedContext
+context_of is_secure its_source app parts its_files = record {
   source = its_source;
   has_login = is_some app.login;
   constraints = constraints_over is_secure app.constraints;
   rules = app.rules;
   mappings = app.servlet_mappings;
-  realm = users.realm;
-  held = users.held;
+  realm = parts.realm;
+  held = parts.held;
+  descriptor = parts.descriptor;
   files = its_files;
 }
 
@@ -56,8 +66,8 @@ abbrev pub its_files : FoundContext → WebApp → ContextFiles
 its_files found app = files_in found.texts.context.files found.files app.login
 
 -- The context, or the first fault of its descriptor and then of its users.
-abbrev pub audited_context : Bool → FoundContext → Step AuditedContext
-audited_context is_secure found = do
+abbrev pub audited_context : AccessOptions → FoundContext → Step AuditedContext
+audited_context options found = do
   app ← descriptor_in found.texts
-  users ← context_users found.texts
-  Ok (context_of is_secure (source_of found.texts) app users (its_files found app))
+  parts ← context_parts options found.texts
+  Ok (context_of options.is_secure (source_of found.texts) app parts (its_files found app))

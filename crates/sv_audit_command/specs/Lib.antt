@@ -9,5 +9,6 @@ pub mod LineFile
 pub mod Key
 pub mod RowPaths
 pub mod ContextReports
+pub mod ExplainedRequest
 pub mod Report
 pub mod AuditCommand

@@ -30,6 +30,7 @@ located_by text context = record {
   mappings = context.mappings;
   realm = context.realm;
   held = context.held;
+  descriptor = context.descriptor;
   files = context.files;
 }
 

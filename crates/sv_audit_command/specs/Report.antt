@@ -16,6 +16,7 @@ use Rattle.sv_report.specs.declared.report.ContextReport.{ContextReport}
 use Rattle.sv_report.specs.declared.report.ReportedFinding.{ReportedFinding}
 use Rattle.sv_audit_command.specs.Audited.{audited_context}
 use Rattle.sv_audit_command.specs.ContextReports.{context_report}
+use Rattle.sv_audit_command.specs.ExplainedRequest.{explained}
 use Rattle.sv_audit_command.specs.Kinds.{lists_kind}
 use Rattle.sv_audit_command.specs.LineFile.{located}
 use Rattle.sv_audit_command.specs.Viewer.{check_viewer}
@@ -101,11 +102,26 @@ report_of options accepted contexts = record {
   count = failing_count (option_copied options.fail_on) (reports_of options accepted contexts);
 }
 
--- The report, or the first fault: of the contexts' files, of the accepting file, of the file of lines, of the viewer.
+-- A report on one request fails no audit.
+abbrev pub without_failures : List ℕ → Report
+without_failures its_text = record { text = its_text; count = 0 }
+
+abbrev pub explanation_report : AccessOptions → List ℕ → List AuditedContext → Step Report
+explanation_report options target contexts = do
+  its_text ← explained options target contexts
+  Ok (without_failures its_text)
+
+-- The report on one request if its target is named, and otherwise the one on all access.
+abbrev pub report_by : AccessOptions → Option (List ℕ) → List ℕ → List AuditedContext → Step Report
+report_by options None accepted contexts = Ok (report_of options accepted contexts)
+report_by options (Some target) accepted contexts = explanation_report options target contexts
+
+-- The report, or the first fault: of the contexts' files, of the accepting file, of the file of lines, of the viewer, and
+-- of the method.
 abbrev pub report_on : AccessOptions → List FoundContext → FurtherFiles → Step Report
 report_on options found files = do
-  contexts ← each (audited_context options.is_secure) found
+  contexts ← each (audited_context options) found
   accepted ← asked_text (option_copied options.accept) files.accept
   lines ← asked_text (option_copied options.lines) files.lines
   known ← check_viewer options.viewer contexts
-  Ok (report_of options accepted (located (option_copied options.lines) lines contexts))
+  report_by options (option_copied options.path) accepted (located (option_copied options.lines) lines contexts)

@@ -35,3 +35,13 @@ abbrev pub viewer_in : Option Asked → List User → Option Viewer
 viewer_in None users = None
 viewer_in (Some (asked.User name)) users = option_map user_viewer (caller_named users name.now)
 viewer_in (Some (asked.Role role)) users = Some (role_viewer role.now)
+
+-- A request by a caller with only this role, who is no user.
+abbrev pub role_caller : List ℕ → Caller
+role_caller role = record { number = 0; name = codes "role " ++ role; roles = role ∷ [] }
+
+-- The caller of a request in a context with these users.
+abbrev pub caller_in : Option Asked → List User → Option Caller
+caller_in None users = None
+caller_in (Some (asked.User name)) users = caller_named users name.now
+caller_in (Some (asked.Role role)) users = Some (role_caller role.now)

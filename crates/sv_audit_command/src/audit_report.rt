@@ -9,6 +9,7 @@ ghost use Rattle.sv_audit_command.specs.Report as spec;
 use crate::access_options::{AccessOptions, Format};
 use crate::audited_context::{AuditedContext, audited_contexts};
 use crate::context_reports::{Asking, context_reports};
+use crate::explained_request::explained;
 use crate::further_files::{FurtherFiles, asked_text};
 use crate::kinds::lists_kind;
 use crate::line_file::located;
@@ -32,8 +33,9 @@ pub struct Report {
 /// Returns the report on contexts of which this was found, and from these further files.
 ///
 /// # Errors
-/// The first fault: of the descriptor and the users of each context, of the accepting file, of the file of lines, and
-/// then [`CommandFault::User`] if no context has the user. Or [`CommandFault::NoMemory`].
+/// The first fault: of the descriptor and the users of each context, of the accepting file, of the file of lines, then
+/// [`CommandFault::User`] if no context has the user, and then [`CommandFault::Method`] if the method of the request that
+/// is explained is not a token. Or [`CommandFault::NoMemory`].
 pub(crate) fn report_on(
     alloc: Global,
     found: &[FoundContext],
@@ -42,12 +44,41 @@ pub(crate) fn report_on(
 ) -> Result<Report, CommandFault>
     ensures { Gives command_fault result (spec.report_on options.now found.now files.now) }
 {
-    let contexts = audited_contexts(alloc, found, options.is_secure)?;
+    let contexts = audited_contexts(alloc, found, options)?;
     let accepted = asked_text(alloc, options.accept, &files.accept)?;
     let lines = asked_text(alloc, options.lines, &files.lines)?;
     check_viewer(alloc, options.viewer, contexts.as_slice())?;
     let contexts = located(alloc, options.lines, lines.as_str(), contexts)?;
-    Ok(report_of(alloc, contexts, accepted.as_str(), options)?)
+    report_by(alloc, contexts, accepted.as_str(), options)
+}
+
+/// Returns the report on one request if its target is named, and otherwise the one on all access.
+fn report_by(
+    alloc: Global,
+    contexts: Listed<AuditedContext>,
+    accepted: &str,
+    options: &AccessOptions<'_>,
+) -> Result<Report, CommandFault>
+    ensures { Gives command_fault result (spec.report_by options.now (option_copied options.now.path) accepted.now contexts) }
+{
+    match options.path {
+        Some(target) => explanation_report(alloc, contexts, target, options),
+        None => Ok(report_of(alloc, contexts, accepted, options)?),
+    }
+}
+
+fn explanation_report(
+    alloc: Global,
+    contexts: Listed<AuditedContext>,
+    target: &str,
+    options: &AccessOptions<'_>,
+) -> Result<Report, CommandFault>
+    ensures { Gives command_fault result (spec.explanation_report options.now target.now contexts) }
+{
+    Ok(Report {
+        text: explained(alloc, contexts, target, options)?,
+        count: 0,
+    })
 }
 
 fn report_of(

@@ -1,10 +1,12 @@
 //! A context, from the texts of its files.
 
+ghost use Rattle.std.specs.Prelude.{option_copied};
 ghost use Rattle.sv_text.specs.Gives.{Gives, GivesAnswer};
 ghost use Rattle.sv_program.specs.CommandFault.{command_fault};
 ghost use Rattle.sv_program.specs.Configuration.{each};
 ghost use Rattle.sv_audit_command.specs.Audited as spec;
 
+use crate::access_options::AccessOptions;
 use crate::context_files::{ContextFiles, files_in};
 use crate::descriptor_lines::constraint_lines;
 use crate::held::held_in;
@@ -12,7 +14,7 @@ use std::alloc::Global;
 use sv_audit::without_transport;
 use sv_constraints::{Constraint, Rules};
 use sv_deployments::FoundContext;
-use sv_descriptor::{ServletMapping, WebApp};
+use sv_descriptor::{Descriptor, ServletMapping, WebApp};
 use sv_program::{CommandFault, ContextTexts, FileText, descriptor_in, realm_in};
 use sv_realm::Realm;
 use sv_text::{Listed, NoMemory, Text};
@@ -34,6 +36,8 @@ pub(crate) struct AuditedContext {
     pub(crate) realm: Realm,
     /// The roles of the users, if the context names a users file.
     pub(crate) held: Option<Listed<Text>>,
+    /// The descriptor, if it is kept.
+    pub(crate) descriptor: Option<Descriptor>,
     /// The static files.
     pub(crate) files: ContextFiles,
 }
@@ -50,7 +54,7 @@ pub(crate) struct Source {
 }
 
 /// Reads the contexts from what was found of them. Transport requirements are dropped if requests arrive over a
-/// connection whose transport is guaranteed.
+/// connection whose transport is guaranteed. Descriptors are kept if the report is on one request.
 ///
 /// # Errors
 /// The first fault, of the descriptor and then of the users of each context, in order: [`CommandFault::File`],
@@ -58,13 +62,13 @@ pub(crate) struct Source {
 pub(crate) fn audited_contexts(
     alloc: Global,
     found: &[FoundContext],
-    is_secure: bool,
+    options: &AccessOptions<'_>,
 ) -> Result<Listed<AuditedContext>, CommandFault>
-    ensures { Gives command_fault result (each (spec.audited_context is_secure) found.now) }
+    ensures { Gives command_fault result (each (spec.audited_context options.now) found.now) }
 {
     let mut contexts = Vec::new(alloc);
     for found in found {
-        let context = audited_context(alloc, found, is_secure)?;
+        let context = audited_context(alloc, found, options)?;
         contexts.push(context)?;
     }
     Ok(Listed::from_vec(contexts))
@@ -73,39 +77,64 @@ pub(crate) fn audited_contexts(
 fn audited_context(
     alloc: Global,
     found: &FoundContext,
-    is_secure: bool,
+    options: &AccessOptions<'_>,
 ) -> Result<AuditedContext, CommandFault>
-    ensures { Gives command_fault result (spec.audited_context is_secure found.now) }
+    ensures { Gives command_fault result (spec.audited_context options.now found.now) }
 {
     let web_app = descriptor_in(alloc, &found.texts)?.into_web_app();
-    let users = context_users(alloc, &found.texts)?;
-    Ok(context_of(alloc, found, web_app, users, is_secure)?)
+    let parts = context_parts(alloc, &found.texts, options)?;
+    Ok(context_of(alloc, found, web_app, parts, options.is_secure)?)
 }
 
-/// The users of a context, and their roles.
+/// What is read of a context beside its constraints: the descriptor if it is kept, the users, and their roles.
 #[derive(Drop)]
-pub(crate) struct ContextUsers {
+pub(crate) struct ContextParts {
+    descriptor: Option<Descriptor>,
     realm: Realm,
     held: Option<Listed<Text>>,
 }
 
-fn context_users(alloc: Global, texts: &ContextTexts) -> Result<ContextUsers, CommandFault>
-    ensures { Gives command_fault result (spec.context_users texts.now) }
+fn context_parts(
+    alloc: Global,
+    texts: &ContextTexts,
+    options: &AccessOptions<'_>,
+) -> Result<ContextParts, CommandFault>
+    ensures { Gives command_fault result (spec.context_parts options.now texts.now) }
 {
+    let descriptor = kept_descriptor(alloc, texts, options.path)?;
     let realm = realm_in(alloc, texts)?;
     let held = held_in(alloc, &texts.context.users, &realm)?;
-    Ok(ContextUsers { realm, held })
+    Ok(ContextParts {
+        descriptor,
+        realm,
+        held,
+    })
 }
 
-/// Returns the context with this descriptor and these users.
+/// Reads the descriptor if a request is explained. It is read a second time, since its constraints are taken out of the
+/// first one.
+fn kept_descriptor(
+    alloc: Global,
+    texts: &ContextTexts,
+    path: Option<&str>,
+) -> Result<Option<Descriptor>, CommandFault>
+    ensures { Gives command_fault result (spec.kept_descriptor (option_copied path.entry) texts.now) }
+{
+    match path {
+        Some(_) => Ok(Some(descriptor_in(alloc, texts)?)),
+        None => Ok(None),
+    }
+}
+
+/// Returns the context with this descriptor and these parts.
 fn context_of(
     alloc: Global,
     found: &FoundContext,
     web_app: WebApp,
-    users: ContextUsers,
+    parts: ContextParts,
     is_secure: bool,
 ) -> Result<AuditedContext, NoMemory>
-    ensures { GivesAnswer result (spec.context_of is_secure (spec.source_of found.now.texts) web_app users (spec.its_files found.now web_app)) }
+    ensures { GivesAnswer result (spec.context_of is_secure (spec.source_of found.now.texts) web_app parts (spec.its_files found.now web_app)) }
 {
     let source = source_of(alloc, &found.texts)?;
     let folder = found.texts.context.files.as_str();
@@ -118,8 +147,9 @@ fn context_of(
         constraints,
         rules: web_app.rules,
         mappings: web_app.servlet_mappings,
-        realm: users.realm,
-        held: users.held,
+        realm: parts.realm,
+        held: parts.held,
+        descriptor: parts.descriptor,
         files,
     })
 }

@@ -9,6 +9,7 @@ mod audited_context;
 mod context_files;
 mod context_reports;
 mod descriptor_lines;
+mod explained_request;
 mod further_files;
 mod held;
 mod key;

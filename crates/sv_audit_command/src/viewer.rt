@@ -93,3 +93,38 @@ fn role_viewer(alloc: Global, role: &str) -> Result<Viewer, NoMemory>
         roles: Listed::from_vec(roles),
     })
 }
+
+/// Returns the caller of a request in a context with these users. There is none if the context does not have the user.
+pub(crate) fn caller_in(
+    alloc: Global,
+    asked: Option<Asked<'_>>,
+    realm: &Realm,
+) -> Result<Option<Caller>, NoMemory>
+    ensures { GivesAnswer result (spec.caller_in asked.entry realm.now) }
+{
+    match asked {
+        Some(Asked::User(name)) => user_caller(alloc, realm.find(name)),
+        Some(Asked::Role(role)) => Ok(Some(role_caller(alloc, role)?)),
+        None => Ok(None),
+    }
+}
+
+fn user_caller(alloc: Global, caller: Option<&Caller>) -> Result<Option<Caller>, NoMemory>
+    ensures { GivesAnswer result (option_copied caller.entry) }
+{
+    match caller {
+        Some(caller) => Ok(Some(Caller::copy_of(alloc, caller)?)),
+        None => Ok(None),
+    }
+}
+
+fn role_caller(alloc: Global, role: &str) -> Result<Caller, NoMemory>
+    ensures { GivesAnswer result (spec.role_caller role.now) }
+{
+    let viewer = role_viewer(alloc, role)?;
+    Ok(Caller {
+        number: 0,
+        name: viewer.name,
+        roles: viewer.roles,
+    })
+}

@@ -7,4 +7,4 @@ use Rattle.sv_audit_command.proofs.audited_context.audited_contexts.Given as goa
 -- the remaining texts give the remaining contexts
 abbrev pub invariant-loop-found : goal.invariant-loop-found
 invariant-loop-found l =
-    (each (audited_context l.is_secure) (drop l.found-index l.found) >>= λ rest. Ok (l.contexts.items ++ rest)) ≡ each (audited_context l.is_secure) l.found
+    (each (audited_context l.options) (drop l.found-index l.found) >>= λ rest. Ok (l.contexts.items ++ rest)) ≡ each (audited_context l.options) l.found
