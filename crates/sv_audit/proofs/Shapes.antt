@@ -112,7 +112,7 @@ split_step : (b : ℕ) (text : List ℕ) (others : List (List ℕ)) (slash : Boo
 split_step b text others true = refl
 split_step b text others false = onto_append b (between_slashes text) others (parts_some text)
 
-split_at_slash : (front rest : List ℕ) → between_slashes (front ++ 47 ∷ rest) ≡ between_slashes front ++ between_slashes rest
+pub split_at_slash : (front rest : List ℕ) → between_slashes (front ++ 47 ∷ rest) ≡ between_slashes front ++ between_slashes rest
 split_at_slash [] rest = refl
 split_at_slash (b ∷ front) rest =
     ap (λ parts. cond (is_slash b) ([] ∷ parts) (onto_first b parts)) (split_at_slash front rest) ∙ split_step b front (between_slashes rest) (is_slash b)

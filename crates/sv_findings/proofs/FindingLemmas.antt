@@ -52,6 +52,8 @@ use Rattle.sv_findings.specs.Uncovered.{is_left_open, is_left_out, uncovered_at}
 use Rattle.sv_findings.specs.ReachedRows.{is_row_reached}
 use Rattle.sv_findings.specs.Reach.{is_reached}
 use Rattle.sv_findings.specs.Readings.{covers_one, covers_part, first_covering, is_covered, is_late, is_prefix, read_as, read_at, read_otherwise, share_method}
+use Rattle.sv_findings.proofs.MeetingForms.{none_held, none_meets}
+use Rattle.sv_findings.specs.Unserved.{are_many, is_unserved, may_answer, may_be_among, unserved, unserved_among, unserved_in}
 use Rattle.sv_findings.specs.Unreached.{is_unreached, unreached, unreached_in}
 use Rattle.sv_findings.specs.declared.surroundings.Surroundings.{Surroundings}
 use Rattle.sv_findings.specs.Heads.{head_at, head_on, straying, strays}
@@ -498,6 +500,39 @@ module _ (constraints : List Constraint) (rules : Rules) (surroundings : Surroun
   unreached_right : All (IsRight constraints rules surroundings) (unreached surroundings.contexts surroundings.path constraints)
   unreached_right = joined (IsRight constraints rules surroundings) (unreached_in surroundings.contexts surroundings.path) constraints (λ k d within. unreached_at (slice_index_or constraints k d) (All-contains_itself constraints k d within))
 
+-- ---- Unserved patterns.
+module _ (constraints : List Constraint) (rules : Rules) (surroundings : Surroundings) where
+  abbrev is_out : List (List ℕ) → List ℕ → Bool
+  is_out files = is_unserved surroundings.contexts surroundings.path (lists (all_patterns constraints) (codes "/*")) surroundings.servlets files
+
+  unserved_at : (files : List (List ℕ)) → surroundings.files ≡ Some files → (c : Constraint) → Contains constraints c → All (IsRight constraints rules surroundings) (unserved_in (is_out files) c)
+  unserved_at files known c there =
+      All-map (IsRight constraints rules surroundings) (finding.Unserved c.number) (filter (is_out files) (patterns_in c))
+      (kept_all (λ pattern. IsRight constraints rules surroundings (finding.Unserved c.number pattern)) (is_out files) (patterns_in c)
+      (λ k d within out.
+      let pattern : List ℕ = slice_index_or (patterns_in c) k d in
+      let left : ((is_reached surroundings.contexts surroundings.path pattern && not (decides_nothing (lists (all_patterns constraints) (codes "/*")) pattern) && not (may_answer (form pattern) surroundings.servlets)) ≡ true) × (not (may_be_among (form pattern) files) ≡ true) =
+      and_parts (is_reached surroundings.contexts surroundings.path pattern && not (decides_nothing (lists (all_patterns constraints) (codes "/*")) pattern) && not (may_answer (form pattern) surroundings.servlets)) (not (may_be_among (form pattern) files)) out in (
+        c,
+        there,
+        refl,
+        in_texts (patterns_in c) pattern (All-contains_itself (patterns_in c) k d within),
+        files,
+        known,
+        λ path matched. (
+          none_meets pattern path surroundings.servlets matched (not-true (may_answer (form pattern) surroundings.servlets) (and_right (is_reached surroundings.contexts surroundings.path pattern && not (decides_nothing (lists (all_patterns constraints) (codes "/*")) pattern)) (not (may_answer (form pattern) surroundings.servlets)) left.0)),
+          none_held pattern path files matched (not-true (may_be_among (form pattern) files) left.1),
+        ),
+      )))
+
+  unserved_in_all : (files : List (List ℕ)) → surroundings.files ≡ Some files → (many : Bool) → All (IsRight constraints rules surroundings) (cond many [] (flat_map (unserved_in (is_out files)) constraints))
+  unserved_in_all files known true = All-nil (IsRight constraints rules surroundings)
+  unserved_in_all files known false = joined (IsRight constraints rules surroundings) (unserved_in (is_out files)) constraints (λ k d within. unserved_at files known (slice_index_or constraints k d) (All-contains_itself constraints k d within))
+
+  unserved_right : (files : Option (List (List ℕ))) → surroundings.files ≡ files → All (IsRight constraints rules surroundings) (option_map_or (unserved_among surroundings.contexts surroundings.path surroundings.servlets constraints) files [])
+  unserved_right None known = All-nil (IsRight constraints rules surroundings)
+  unserved_right (Some files) known = unserved_in_all files known (are_many constraints)
+
 module _ (constraints : List Constraint) (rules : Rules) (surroundings : Surroundings) where
   abbrev The : Finding → Type 0
   The = IsRight constraints rules surroundings
@@ -536,12 +571,17 @@ module _ (constraints : List Constraint) (rules : Rules) (surroundings : Surroun
   abbrev pub not_reached : List Finding
   not_reached = unreached surroundings.contexts surroundings.path constraints
 
-  by_pattern_right : CanonicalHasShape → All The (pattern_findings constraints surroundings.contexts surroundings.path)
+  abbrev pub not_served : List Finding
+  not_served = unserved surroundings.contexts surroundings.path surroundings constraints
+
+  by_pattern_right : CanonicalHasShape → All The (pattern_findings constraints surroundings.contexts surroundings.path surroundings)
   by_pattern_right shapes =
-      All-append The (dead ++ partly_dead ++ not_reached) (escaped constraints)
+      All-append The (dead ++ partly_dead ++ not_reached ++ not_served) (escaped constraints)
+      (All-append The (dead ++ partly_dead ++ not_reached) not_served
       (All-append The (dead ++ partly_dead) not_reached
       (All-append The dead partly_dead (dead_right shapes constraints rules surroundings) (dead_patterns_right shapes constraints rules surroundings))
       (unreached_right constraints rules surroundings))
+      (unserved_right constraints rules surroundings surroundings.files refl))
       (escaped_right shapes constraints rules surroundings)
 
   by_role_right : All The (role_findings rules.declared surroundings.held constraints)
@@ -552,8 +592,8 @@ module _ (constraints : List Constraint) (rules : Rules) (surroundings : Surroun
 
   all_right : CanonicalHasShape → All The (findings_of constraints rules (table_of constraints rules) surroundings)
   all_right shapes =
-      All-append The (row_findings constraints rows ++ pattern_findings constraints surroundings.contexts surroundings.path) (role_findings rules.declared surroundings.held constraints)
-      (All-append The (row_findings constraints rows) (pattern_findings constraints surroundings.contexts surroundings.path) by_row_right (by_pattern_right shapes)) by_role_right
+      All-append The (row_findings constraints rows ++ pattern_findings constraints surroundings.contexts surroundings.path surroundings) (role_findings rules.declared surroundings.held constraints)
+      (All-append The (row_findings constraints rows) (pattern_findings constraints surroundings.contexts surroundings.path surroundings) by_row_right (by_pattern_right shapes)) by_role_right
 
 pub findings_right : CanonicalHasShape → FindingsAreRight
 findings_right shapes constraints rules surroundings = all_right constraints rules surroundings shapes

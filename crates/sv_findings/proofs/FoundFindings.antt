@@ -23,7 +23,7 @@ use Rattle.sv_policy.proofs.Rising.{same_text}
 use Rattle.sv_policy.proofs.Steps.{any_of_joined, any_same}
 use Rattle.sv_policy.specs.Uncovered.{is_uncovered as is_uncovered_at}
 use Rattle.sv_audit.proofs.Equal.{and_left, and_right, both}
-use Rattle.sv_findings.proofs.FindingLemmas.{dead, heads, in_row, late, not_reached, opened, partly_dead, readings, says, the_rows, uncovered}
+use Rattle.sv_findings.proofs.FindingLemmas.{dead, heads, in_row, late, not_reached, not_served, opened, partly_dead, readings, says, the_rows, uncovered}
 use Rattle.sv_audit.proofs.Witness.{found}
 use Rattle.sv_audit.proofs.Found.{in_texts, ordered_lists}
 use Rattle.sv_audit.proofs.RowCells.{row_cell}
@@ -167,7 +167,7 @@ module _ (constraints : List Constraint) (rules : Rules) (surroundings : Surroun
   by_row = o ++ u ++ r ++ h
 
   abbrev by_pattern : List Finding
-  by_pattern = pattern_findings constraints surroundings.contexts surroundings.path
+  by_pattern = pattern_findings constraints surroundings.contexts surroundings.path surroundings
 
   abbrev by_role : List Finding
   by_role = role_findings rules.declared surroundings.held constraints
@@ -190,14 +190,20 @@ module _ (constraints : List Constraint) (rules : Rules) (surroundings : Surroun
   among_heads : list_any test h ≡ true → IsAmong
   among_heads some = among_rows (any_last test (o ++ u ++ r) h some)
 
+  abbrev s : List Finding
+  s = not_served constraints rules surroundings
+
+  among_first : list_any test (d ++ p ++ n) ≡ true → IsAmong
+  among_first some = among_patterns (any_first test (d ++ p ++ n ++ s) (escaped constraints) (any_first test (d ++ p ++ n) s some))
+
   among_dead : list_any test d ≡ true → IsAmong
-  among_dead some = among_patterns (any_first test (d ++ p ++ n) (escaped constraints) (any_first test (d ++ p) n (any_first test d p some)))
+  among_dead some = among_first (any_first test (d ++ p) n (any_first test d p some))
 
   among_partly_dead : list_any test p ≡ true → IsAmong
-  among_partly_dead some = among_patterns (any_first test (d ++ p ++ n) (escaped constraints) (any_first test (d ++ p) n (any_last test d p some)))
+  among_partly_dead some = among_first (any_first test (d ++ p) n (any_last test d p some))
 
   among_not_reached : list_any test n ≡ true → IsAmong
-  among_not_reached some = among_patterns (any_first test (d ++ p ++ n) (escaped constraints) (any_last test (d ++ p) n some))
+  among_not_reached some = among_first (any_last test (d ++ p) n some)
 
 pub uncovered_found : UncoveredIsFound
 uncovered_found constraints rules surroundings pattern method other reached open_to_all there none some =

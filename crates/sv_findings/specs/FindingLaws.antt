@@ -3,7 +3,7 @@ use Rattle.std.specs.Prelude.{◌≡◌, ◌≢◌, ℕ, Bool, true, false, ◌&
 use Rattle.std.specs.List.{list_any}
 use Rattle.std.specs.Str.{bytes_eq}
 use Rattle.sv_mapping.specs.BestMatch.{best_pattern}
-use Rattle.sv_mapping.specs.Pattern.{form}
+use Rattle.sv_mapping.specs.Pattern.{form, matches}
 use Rattle.sv_realm.specs.declared.caller.Caller.{Caller}
 use Rattle.sv_constraints.specs.Covering.{all_patterns, covers, covers_method, lists, patterns_in}
 use Rattle.sv_constraints.specs.Verdict.{is_open, verdict}
@@ -19,11 +19,12 @@ use Rattle.sv_findings.specs.Dead.{decides_nothing, is_escaped, is_tried_late}
 use Rattle.sv_findings.specs.Findings.{findings_of}
 use Rattle.sv_findings.specs.Reach.{is_reached}
 use Rattle.sv_findings.specs.Readings.{is_prefix}
+use Rattle.sv_findings.specs.Unserved.{holds}
 use Rattle.sv_audit.specs.Reading.{Passes, kind_and_cause, said_to}
 use Rattle.sv_audit.specs.Rows.{table_of}
 use Rattle.sv_audit.specs.declared.access.Access.{Access}
 use Rattle.sv_findings.specs.declared.finding.Finding.{Finding}
-use Rattle.sv_findings.specs.declared.finding.Finding.TheVariants.{Opened, Uncovered, ReadOtherwise, HeadDiffers, Dead, DeadPattern, Unreached, Escaped, UnknownRole, UnheldRole, UnusedRole}
+use Rattle.sv_findings.specs.declared.finding.Finding.TheVariants.{Opened, Uncovered, ReadOtherwise, HeadDiffers, Dead, DeadPattern, Unreached, Unserved, Escaped, UnknownRole, UnheldRole, UnusedRole}
 use Rattle.sv_findings.specs.declared.surroundings.Surroundings.{Surroundings}
 
 -- The names that an authorization constraint lists.
@@ -76,9 +77,10 @@ IsAccessOf constraints rules pattern method access =
 -- each method is uncovered at a prefix pattern, but some constraint covers one of them at a pattern that is tried later;
 -- the accesses are those of GET and HEAD, and a caller, or a request without one, fares differently with them; the
 -- constraint covers nothing; the constraint has the pattern, which is never best; the constraint has the pattern, which
--- is not reached; the constraint has the pattern, with a percent sign; the constraint names the role, which is not
--- declared; a constraint means the role, which is declared if any is, and no user has it; the role is declared, and no
--- constraint means it.
+-- is not reached; the constraint has the pattern, the files are known, and at no path that it matches is there a servlet,
+-- a file or a folder that holds one; the constraint has the pattern, with a percent sign; the constraint names the role,
+-- which is not declared; a constraint means the role, which is declared if any is, and no user has it; the role is
+-- declared, and no constraint means it.
 abbrev pub IsRight : List Constraint → Rules → Surroundings → Finding → Type 0
 IsRight constraints rules surroundings (Opened pattern methods number other) = ((method : List ℕ) → IsTrue (covers_method methods method) → IsRestricted constraints pattern method × IsOpen constraints rules pattern method)
     × ((method : List ℕ) × IsTrue (covers_method methods method) × AreBothOn constraints pattern method number other)
@@ -95,6 +97,9 @@ IsRight constraints rules surroundings (DeadPattern its_number pattern) = (const
     × IsTrue (lists (patterns_in constraint) pattern) × IsNeverBest constraints pattern
 IsRight constraints rules surroundings (Unreached its_number pattern) = (constraint : Constraint) × Contains constraints constraint × (constraint.number ≡ its_number)
     × IsTrue (lists (patterns_in constraint) pattern) × (is_reached surroundings.contexts surroundings.path pattern ≡ false)
+IsRight constraints rules surroundings (Unserved its_number pattern) = (constraint : Constraint) × Contains constraints constraint × (constraint.number ≡ its_number)
+    × IsTrue (lists (patterns_in constraint) pattern) × (files : List (List ℕ)) × (surroundings.files ≡ Some files)
+    × ((path : List ℕ) → IsTrue (matches pattern path) → (list_any (λ servlet. matches servlet path) surroundings.servlets ≡ false) × (list_any (holds path) files ≡ false))
 IsRight constraints rules surroundings (Escaped its_number pattern) = (constraint : Constraint) × Contains constraints constraint × (constraint.number ≡ its_number)
     × IsTrue (lists (patterns_in constraint) pattern) × IsTrue (is_escaped pattern)
 IsRight constraints rules surroundings (UnknownRole its_number role) = (constraint : Constraint) × Contains constraints constraint × (constraint.number ≡ its_number)

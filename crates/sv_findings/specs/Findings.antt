@@ -14,6 +14,7 @@ use Rattle.sv_findings.specs.Readings.{read_otherwise}
 use Rattle.sv_findings.specs.RoleFindings.{role_findings}
 use Rattle.sv_findings.specs.Uncovered.{uncovered_at}
 use Rattle.sv_findings.specs.Unreached.{unreached}
+use Rattle.sv_findings.specs.Unserved.{unserved}
 use Rattle.sv_findings.specs.declared.finding.Finding.{Finding}
 use Rattle.sv_findings.specs.declared.surroundings.Surroundings.{Surroundings}
 
@@ -26,11 +27,12 @@ row_findings constraints rows =
     ++ flat_map (λ row. head_at row.pattern row.groups) rows
 
 -- The findings of the patterns of constraints, given the paths of all contexts and that of this one.
-abbrev pub pattern_findings : List Constraint → List (List ℕ) → List ℕ → List Finding
-pattern_findings constraints contexts context =
+abbrev pub pattern_findings : List Constraint → List (List ℕ) → List ℕ → Surroundings → List Finding
+pattern_findings constraints contexts context surroundings =
     dead_among (lists (all_patterns constraints) (codes "/*")) constraints
     ++ dead_patterns (lists (all_patterns constraints) (codes "/*")) constraints
     ++ unreached contexts context constraints
+    ++ unserved contexts context surroundings constraints
     ++ escaped constraints
 
 abbrev pub reached_rows : Surroundings → List Row → List Row
@@ -39,4 +41,4 @@ reached_rows surroundings rows = filter (is_row_reached surroundings.contexts su
 -- The findings of constraints and their table, given what surrounds them.
 abbrev pub findings_of : List Constraint → Rules → Table → Surroundings → List Finding
 findings_of constraints rules table surroundings =
-    row_findings constraints (reached_rows surroundings table.rows) ++ pattern_findings constraints surroundings.contexts surroundings.path ++ role_findings rules.declared surroundings.held constraints
+    row_findings constraints (reached_rows surroundings table.rows) ++ pattern_findings constraints surroundings.contexts surroundings.path surroundings ++ role_findings rules.declared surroundings.held constraints

@@ -6,6 +6,7 @@ pub mod Uncovered
 pub mod Readings
 pub mod Heads
 pub mod Unreached
+pub mod Unserved
 pub mod RoleFindings
 pub mod Findings
 pub mod FindingLaws

@@ -28,7 +28,7 @@ pub fn push_ineffective(
 }
 
 /// Returns whether `/*` is among the patterns of the constraints.
-fn lists_prefix(alloc: Global, constraints: &[Constraint]) -> Result<bool, NoMemory>
+pub fn lists_prefix(alloc: Global, constraints: &[Constraint]) -> Result<bool, NoMemory>
     ensures { IfOk result (λ found. found ≡ covering.lists (covering.all_patterns constraints.now) (codes "/*")) }
 {
     let patterns = all_patterns(alloc, constraints)?;
@@ -74,7 +74,7 @@ fn decide_nothing(has_prefix: bool, patterns: &[&str]) -> bool
 }
 
 /// Returns whether the pattern is the best match of no canonical path, given whether `/*` is among the patterns.
-fn decides_nothing(has_prefix: bool, pattern: &str) -> bool
+pub fn decides_nothing(has_prefix: bool, pattern: &str) -> bool
     ensures { result ≡ spec.decides_nothing has_prefix pattern.now }
 {
     is_beaten(has_prefix, pattern) || matches_nothing(pattern)

@@ -17,6 +17,7 @@ use crate::readings::push_read_otherwise;
 use crate::role_findings::push_by_role;
 use crate::surroundings::Surroundings;
 use crate::unreached::push_unreached;
+use crate::unserved::push_unserved;
 use std::alloc::Global;
 use sv_audit::{Access, Group, Row, Table};
 use sv_constraints::{Constraint, Rules};
@@ -45,7 +46,7 @@ pub fn findings_of(
     let mut findings = Vec::new(alloc);
     let rows = reached_rows(alloc, &reaches, table.rows.as_slice())?;
     push_by_row(&mut findings, alloc, constraints, rules, rows.as_slice())?;
-    push_by_pattern(&mut findings, alloc, constraints, &reaches)?;
+    push_by_pattern(&mut findings, alloc, constraints, &reaches, surroundings)?;
     push_by_role(
         &mut findings,
         alloc,
@@ -78,11 +79,13 @@ fn push_by_pattern(
     alloc: Global,
     constraints: &[Constraint],
     reaches: &Reaches<'_>,
+    surroundings: &Surroundings,
 ) -> Result<(), NoMemory>
-    ensures { OnOk result (findings.new.items ≡ findings.old.items ++ spec.pattern_findings constraints.now reaches.now.0 reaches.now.1) }
+    ensures { OnOk result (findings.new.items ≡ findings.old.items ++ spec.pattern_findings constraints.now reaches.now.0 reaches.now.1 surroundings.now) }
 {
     push_ineffective(findings, alloc, constraints)?;
     push_unreached(findings, alloc, reaches, constraints)?;
+    push_unserved(findings, alloc, reaches, surroundings, constraints)?;
     push_escaped(findings, alloc, constraints)
 }
 

@@ -1,5 +1,7 @@
 //! Theorems about findings, each the contract of a function that only calls other theorems.
 
+ghost use Rattle.std.specs.Prelude.{◌≡◌};
+ghost use Rattle.sv_findings.specs.declared.unserved.TheConstants.{MAX_SERVED_PATTERNS};
 ghost use Rattle.sv_findings.specs.Reach.{ElsewhereIsForeign, HiddenIsProtected, ServedIsReached};
 ghost use Rattle.sv_findings.specs.FindingLaws.{DeadIsFound, FindingsAreRight, HeadIsFound, OpenedIsFound, ReadingIsFound, UncoveredIsFound, UnreachedIsFound};
 
@@ -12,7 +14,8 @@ use sv_uri::laws::canonical_has_shape;
 /// constraint covers one of them at a pattern that is tried later. Where GET and HEAD differ, their accesses are as
 /// reported, and there is a caller, or a request without one, that passes with one of them and not with the other, or is
 /// asked to log in only for one. A dead constraint covers no request, a dead pattern is the best match of no canonical
-/// path, and an unreached one is hidden or belongs to another context. An unknown role is named and not declared, an
+/// path, an unreached one is hidden or belongs to another context, and at no path that an unserved one matches is there a
+/// servlet, a file or a folder that holds one. An unknown role is named and not declared, an
 /// unheld one is named and no user has it, and an unused one is declared and not named.
 pub fn findings_are_right()
     ensures { FindingsAreRight }
@@ -42,4 +45,9 @@ pub fn reach_is_right()
     ensures hidden { HiddenIsProtected }
     ensures elsewhere { ElsewhereIsForeign }
     ensures reached { ServedIsReached }
+{}
+
+/// The limits of this crate as numbers.
+pub fn limits_are_as_stated()
+    ensures patterns { MAX_SERVED_PATTERNS ≡ 2000 }
 {}

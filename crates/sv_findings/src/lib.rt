@@ -14,9 +14,11 @@ mod readings;
 mod role_findings;
 mod surroundings;
 mod unreached;
+mod unserved;
 
 pub use finding::Finding;
 pub use findings::findings_of;
-pub use laws::{findings_are_complete, findings_are_right, reach_is_right};
+pub use laws::{findings_are_complete, findings_are_right, limits_are_as_stated, reach_is_right};
 pub use reach::{Reach, Reaches, reach_of};
 pub use surroundings::{LoginPage, Surroundings};
+pub use unserved::MAX_SERVED_PATTERNS;
