@@ -2,7 +2,7 @@
 use Rattle.std.proofs.lemmas.Bool.{and_from, and_parts, false≢true}
 use Rattle.std.proofs.lemmas.List.Elements.{All-head, All-tail}
 use Rattle.std.proofs.Common.{◌≡◌, ℕ, Bool, true, false, not, ◌&&◌, ◌||◌, List, [], ◌∷◌, length, refl, ap, ap₂, sym, ◌∙◌, cond, inl, inr, Option, None, Some, is_none, is_some}
-use Rattle.std.specs.Prelude.{All, filter, find, nat_lt}
+use Rattle.std.specs.Prelude.{◌≢◌, All, filter, find, nat_lt}
 use Rattle.std.specs.Cmp.{both_ways}
 use Rattle.std.specs.List.{list_any}
 use Rattle.std.specs.Option.{option_map, option_map_or}
@@ -26,7 +26,7 @@ use Rattle.sv_audit.specs.Reading.{Kind, Passes, ServedPathsAreRooted, is_same}
 use Rattle.sv_audit.specs.declared.difference.Difference.{Difference}
 use Rattle.sv_findings.specs.Reach.{ServedIsReached, chosen_path}
 use Rattle.sv_difference.specs.ServerDifference.{compared_paths, context_at, difference_at, differences_between, is_reached, paths_of, row_is_reached, rows_are_reached, server_difference, shown_side}
-use Rattle.sv_difference.specs.ServerLaws.{ChangesOutcomes, HasFate, HaveUrlPatterns, IsHidden, IsUnchanged, LoginTest, LogsIn, NoContext, Outcome, ReportedDifferencesAreRight, UnchangedHaveSameOutcomes, configuration_of, outcome, outcome_at, outcome_in}
+use Rattle.sv_difference.specs.ServerLaws.{ChangesOutcomes, HasFate, HaveUrlPatterns, IsHidden, IsUnchanged, LoginTest, LoginsChangeOutcomes, LogsIn, NoContext, Outcome, ReportedDifferencesAreRight, UnchangedHaveSameOutcomes, configuration_of, outcome, outcome_at, outcome_in}
 use Rattle.sv_difference.specs.declared.contexts.ComparedContext.{ComparedContext}
 use Rattle.sv_difference.specs.declared.contexts.ContextSide.{ContextSide}
 
@@ -217,18 +217,46 @@ fate_in LogsIn = Passes
 fate_in IsHidden = Passes
 fate_in (HasFate kind) = kind
 
+abbrev logs : Outcome → Bool
+logs NoContext = false
+logs LogsIn = true
+logs IsHidden = false
+logs (HasFate kind) = false
+
 no_login : (has_login : Bool) (answer : Outcome) → cond (has_login && false) LogsIn answer ≡ answer
 no_login true answer = refl
 no_login false answer = refl
 
 module _ (logs_in : LoginTest) (contexts : List ComparedContext) (its_path : List ℕ) (context : ComparedContext) (method path : List ℕ) (visitor : Option Caller) (at : context_at contexts its_path ≡ Some context)
-    (chosen : chosen_path (paths_of contexts) path ≡ Some its_path) (shown : is_protected (path_within its_path path) ≡ false) (decided : logs_in method path ≡ false) where
-  fated : outcome logs_in contexts method path visitor ≡ HasFate (fate_of (configuration_of context) method (path_within its_path path) visitor)
-  fated =
+    (chosen : chosen_path (paths_of contexts) path ≡ Some its_path) where
+  served : outcome logs_in contexts method path visitor ≡ outcome_in logs_in context its_path method path visitor
+  served =
       ap (λ found. option_map_or (outcome_at logs_in contexts method path visitor) found NoContext) chosen
-      ∙ (ap (λ found. option_map_or (λ (it : ComparedContext). outcome_in logs_in it its_path method path visitor) found NoContext) at
-      ∙ (ap₂ (λ (logs hidden : Bool). cond (context.has_login && logs) LogsIn (cond hidden IsHidden (HasFate (fate_of (configuration_of context) method (path_within its_path path) visitor)))) decided shown
-      ∙ no_login context.has_login (HasFate (fate_of (configuration_of context) method (path_within its_path path) visitor))))
+      ∙ ap (λ found. option_map_or (λ (it : ComparedContext). outcome_in logs_in it its_path method path visitor) found NoContext) at
+
+  abbrev its_fate : Outcome
+  its_fate = HasFate (fate_of (configuration_of context) method (path_within its_path path) visitor)
+
+  fated : is_protected (path_within its_path path) ≡ false → logs_in method path ≡ false → outcome logs_in contexts method path visitor ≡ its_fate
+  fated shown decided =
+      served ∙ (ap₂ (λ (logs hidden : Bool). cond (context.has_login && logs) LogsIn (cond hidden IsHidden its_fate)) decided shown ∙ no_login context.has_login its_fate)
+
+  logged_in : context.has_login ≡ true → logs_in method path ≡ true → outcome logs_in contexts method path visitor ≡ LogsIn
+  logged_in has_login logs = served ∙ ap₂ (λ (has logs : Bool). cond (has && logs) LogsIn (cond (is_protected (path_within its_path path)) IsHidden its_fate)) has_login logs
+
+  not_logged_in : context.has_login ≡ false → outcome logs_in contexts method path visitor ≢ LogsIn
+  not_logged_in has_none same =
+      false≢true
+      (sym (elsewhere (is_protected (path_within its_path path)))
+      ∙ ap logs (sym (served ∙ ap (λ (has : Bool). cond (has && logs_in method path) LogsIn (cond (is_protected (path_within its_path path)) IsHidden its_fate)) has_none) ∙ same))
+    where
+      elsewhere : (hidden : Bool) → logs (cond hidden IsHidden its_fate) ≡ false
+      elsewhere true = refl
+      elsewhere false = refl
+
+pub logins_change : LoginsChangeOutcomes
+logins_change contexts others its_path context other at there has_login has_none logs_in method path visitor chosen taken logs =
+    (logged_in logs_in contexts its_path context method path visitor at chosen has_login logs, not_logged_in logs_in others its_path other method path visitor there taken has_none)
 
 module _ (right : DifferencesAreRight) (befores afters : List ComparedContext) (its_path : List ℕ) (before after : ComparedContext) (befores_url : HaveUrlPatterns befores) (afters_url : HaveUrlPatterns afters)
     (at : context_at befores its_path ≡ Some before) (there : context_at afters its_path ≡ Some after) where
@@ -241,11 +269,11 @@ module _ (right : DifferencesAreRight) (befores afters : List ComparedContext) (
   changes : (difference : Difference) → IsRight first_side second_side difference → ChangesOutcomes befores afters its_path first_side second_side difference
   changes difference is = (
     is.differs.0,
-    λ logs_in method path served same.
-        is.differs.1 method (path_within its_path path) served.is_of
+    λ logs_in method path request same.
+        is.differs.1 method (path_within its_path path) request.is_of
         (ap fate_in
-        (sym (fated logs_in befores its_path before method path is.differs.0 at served.chosen_before served.shown served.decided)
-        ∙ (same ∙ fated logs_in afters its_path after method path is.differs.0 there served.chosen_after served.shown served.decided))),
+        (sym (fated logs_in befores its_path before method path is.differs.0 at request.chosen_before request.shown request.decided)
+        ∙ (same ∙ fated logs_in afters its_path after method path is.differs.0 there request.chosen_after request.shown request.decided))),
   )
 
   right_at : (difference : Difference) → In difference (difference_at befores afters its_path).differences → IsRight first_side second_side difference × ChangesOutcomes befores afters its_path first_side second_side difference

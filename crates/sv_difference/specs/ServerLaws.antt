@@ -1,5 +1,5 @@
 -- What a report says of the answers of two servers (Jakarta Servlet 6.0, sections 10.5, 12.1, 13.6.3 and 13.8).
-use Rattle.std.specs.Prelude.{◌≡◌, ◌≢◌, ℕ, Bool, ◌&&◌, false, List, [], Option, Some, All, Ok, if◌then◌else◌}
+use Rattle.std.specs.Prelude.{◌≡◌, ◌≢◌, ℕ, Bool, ◌&&◌, false, List, [], Option, Some, All, Ok, if◌then◌else◌, IsTrue}
 use Rattle.std.specs.Option.{option_map_or}
 use Rattle.sv_mapping.specs.Protected.{is_protected}
 use Rattle.sv_mapping.specs.Within.{path_within}
@@ -89,3 +89,9 @@ ReportedDifferencesAreRight = (befores afters : List ComparedContext) (path : Li
     context_at befores path ≡ Some before → context_at afters path ≡ Some after →
     All (λ difference. IsRight (configuration_of before) (configuration_of after) difference × ChangesOutcomes befores afters path (configuration_of before) (configuration_of after) difference)
     (difference_at befores afters path).differences
+
+-- If only one of two contexts with the same path has a login configuration, requests log in only there.
+abbrev pub LoginsChangeOutcomes : Type 0
+LoginsChangeOutcomes = (contexts others : List ComparedContext) (its_path : List ℕ) (context other : ComparedContext) → context_at contexts its_path ≡ Some context → context_at others its_path ≡ Some other →
+    IsTrue context.has_login → other.has_login ≡ false → (logs_in : LoginTest) (method path : List ℕ) (visitor : Option Caller) → chosen_path (paths_of contexts) path ≡ Some its_path →
+    chosen_path (paths_of others) path ≡ Some its_path → IsTrue (logs_in method path) → (outcome logs_in contexts method path visitor ≡ LogsIn) × (outcome logs_in others method path visitor ≢ LogsIn)

@@ -1,6 +1,6 @@
 //! Theorems about reports, each the contract of a function that only calls other theorems.
 
-ghost use Rattle.sv_difference.specs.ServerLaws.{ReportedDifferencesAreRight, UnchangedHaveSameOutcomes};
+ghost use Rattle.sv_difference.specs.ServerLaws.{LoginsChangeOutcomes, ReportedDifferencesAreRight, UnchangedHaveSameOutcomes};
 
 use sv_audit::{differences_are_complete, differences_are_right, served_paths_are_rooted};
 use sv_findings::reach_is_right;
@@ -22,8 +22,10 @@ pub fn unchanged_have_same_outcomes()
 /// its requests has another outcome before than after, if the contexts serve the request, it does not log in, and it is
 /// not for a hidden folder. Whether clients can send such a request is not part of this theorem: only a row that is
 /// hidden, or belongs to another context, is known to have none.
+/// If only one of two contexts with the same path has a login configuration, requests log in only there.
 pub fn reported_differences_are_right()
-    ensures { ReportedDifferencesAreRight }
+    ensures differences { ReportedDifferencesAreRight }
+    ensures logins { LoginsChangeOutcomes }
 {
     differences_are_right();
 }
