@@ -26,7 +26,7 @@ table_in context = table_of context.constraints context.rules
 
 -- The findings of a context, given the text of the accepting file.
 abbrev pub findings_in : AuditedContext → List ℕ → Table → List ReportedFinding
-findings_in context accepted table = map (reported_finding context accepted) (findings_of context.constraints context.rules table context.held)
+findings_in context accepted table = map (reported_finding context accepted) (findings_of context.constraints context.rules table context.surroundings)
 
 -- What follows from its constraints.
 abbrev pub audit_of : Option Asked → List ℕ → AuditedContext → Audit

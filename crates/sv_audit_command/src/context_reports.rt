@@ -1,6 +1,6 @@
 //! What is reported of contexts.
 
-ghost use Rattle.std.specs.Prelude.{◌≡◌, ℕ, List, map, option_copied};
+ghost use Rattle.std.specs.Prelude.{ℕ, List, map};
 ghost use Rattle.sv_descriptor.specs.Names.{HaveSame};
 ghost use Rattle.sv_policy.specs.Groups.{IsGrouped};
 ghost use Rattle.sv_text.specs.Gives.{GivesAnswer};
@@ -19,7 +19,7 @@ use sv_descriptor::Names;
 use sv_findings::{Finding, findings_of};
 use sv_policy::{Groups, grouped};
 use sv_report::{ContextReport, ReportedFinding, ReportedRow, Viewer};
-use sv_text::{Listed, NoMemory, Text};
+use sv_text::{Listed, NoMemory};
 
 /// What is asked of contexts: the caller whose access is shown, and the text of the accepting file.
 #[derive(Clone, Copy)]
@@ -94,18 +94,14 @@ fn findings_in(
     ensures { GivesAnswer result (spec.findings_in context.now accepted.now table.now) }
 {
     let constraints = context.constraints.as_slice();
-    let held = held_texts(&context.held);
-    let findings = findings_of(alloc, constraints, &context.rules, table, held)?;
+    let findings = findings_of(
+        alloc,
+        constraints,
+        &context.rules,
+        table,
+        &context.surroundings,
+    )?;
     reported_findings(alloc, context, accepted, findings)
-}
-
-fn held_texts(held: &Option<Listed<Text>>) -> Option<&[Text]>
-    ensures { option_copied result ≡ held.now }
-{
-    match held {
-        Some(held) => Some(held.as_slice()),
-        None => None,
-    }
 }
 
 fn reported_findings(
@@ -138,7 +134,7 @@ fn reported_finding(
 {
     let constraints = context.constraints.as_slice();
     let key = key_of(alloc, context.source.path.as_str(), constraints, &finding)?;
-    let constraint = constraint_of(groups, &finding);
+    let constraint = constraint_of(constraints, groups, &finding);
     let is_accepted = is_accepted(lines, key.as_str());
     Ok(ReportedFinding {
         finding,
