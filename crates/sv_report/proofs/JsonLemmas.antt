@@ -4,9 +4,12 @@ use Rattle.serde_json.specs.Data.{Data, boolean, no_members, object, string}
 use Rattle.serde_json.specs.View.{items_of}
 use Rattle.serde_json.specs.Written.{has_float, items_have_float}
 use Rattle.sv_policy.specs.Covering.{method_names}
+use Rattle.sv_findings.specs.declared.reach.Reach.{Reach}
+use Rattle.sv_findings.specs.declared.reach.Reach.TheVariants.{Reached, Hidden, Elsewhere}
+use Rattle.sv_report.specs.Details.{example_location}
 use Rattle.sv_report.specs.FindingJson.{finding_members, finding_value, with_subject}
 use Rattle.sv_report.specs.FindingWords.{kind_name}
-use Rattle.sv_report.specs.Json.{group_value, named_viewer, row_value, viewer_enters, viewer_value}
+use Rattle.sv_report.specs.Json.{elsewhere, group_value, named_viewer, row_value, viewer_enters, viewer_value}
 use Rattle.sv_report.specs.JsonParts.{number_value, roles_in, strings, text_value, truth_value}
 use Rattle.sv_report.specs.Places.{line_of}
 use Rattle.sv_findings.specs.declared.finding.Finding.{Finding}
@@ -47,13 +50,19 @@ in_group context group =
     (ap₂ (λ a b. a || b) (in_strings (method_names group.methods))
     (ap₂ (λ a b. a || (b || false)) (in_strings (roles_in group.cell.access)) (in_truth (viewer_enters context.viewer context.has_login group.cell.access)))))
 
+in_elsewhere : (reach : Reach) → has_float (elsewhere reach) ≡ false
+in_elsewhere Reached = refl
+in_elsewhere Hidden = refl
+in_elsewhere (Elsewhere path) = refl
+
 pub in_row : (context : ContextReport) (reported : ReportedRow) → has_float (row_value context reported) ≡ false
 unfolding row_value
 in_row context reported =
-    ap₂ (λ a b. a || b) (in_text reported.example)
+    ap₂ (λ a b. a || b) (in_elsewhere reported.reach)
+    (ap₂ (λ a b. a || b) (in_text (example_location context.path reported.example))
     (ap₂ (λ a b. a || b) (no_floats (group_value context) (in_group context) reported.row.groups)
     (ap₂ (λ a b. a || b) (in_strings reported.narrower.patterns)
-    (ap₂ (λ a b. a || (b || false)) (in_text reported.row.pattern) (in_text reported.servlet))))
+    (ap₂ (λ a b. a || (b || false)) (in_text reported.row.pattern) (in_text reported.servlet)))))
 
 pub in_viewer : (viewer : Option Viewer) → has_float (viewer_value viewer) ≡ false
 unfolding named_viewer

@@ -7,6 +7,7 @@ use Rattle.serde_json.specs.View.{items_of}
 use Rattle.serde_json.specs.Written.{compact_text, has_float, items_text}
 use Rattle.sv_uri.specs.ContextPath.{shown_context}
 use Rattle.sv_report.specs.Json.{audit_value, context_value, findings_value, rows_value, viewer_value}
+use Rattle.sv_report.specs.JsonParts.{strings}
 use Rattle.sv_report.specs.declared.report.ContextReport.{ContextReport}
 use Rattle.sv_text.specs.declared.no_memory.NoMemory.{NoMemory}
 use Rattle.serde_json.proofs.OnLiterals.{serde_json_on_literals}
@@ -30,45 +31,53 @@ list_text value x xs = ap (λ rest. 91 ∷ (compact_text (value x) ++ rest)) (la
 grouped : (a x b y c rest : List ℕ) → a ++ (x ++ (b ++ (y ++ (c ++ rest)))) ≡ (a ++ x ++ b ++ y ++ c) ++ rest
 grouped a x b y c rest = search (rules, append_assoc)
 
-grouped_three : (a x b rest : List ℕ) → a ++ (x ++ (b ++ rest)) ≡ (a ++ x ++ b) ++ rest
-grouped_three a x b rest = search (rules, append_assoc)
+grouped_more : (a x b y c z d rest : List ℕ) → a ++ (x ++ (b ++ (y ++ (c ++ (z ++ (d ++ rest)))))) ≡ (a ++ x ++ b ++ y ++ c ++ z ++ d) ++ rest
+grouped_more a x b y c z d rest = search (rules, append_assoc)
 
 abbrev start_text : ContextReport → List ℕ
 start_text context =
     codes "{\"context\":" ++ compact_text (string (shown_context context.path)) ++ codes ",\"file\":" ++ compact_text (string context.file) ++ codes ",\"findings\":"
 
-abbrev login_text : ContextReport → List ℕ
-login_text context = codes ",\"login\":" ++ compact_text (boolean context.has_login) ++ codes ",\"rows\":"
+abbrev facts_text : ContextReport → List ℕ
+facts_text context =
+    codes ",\"hidden\":[\"/WEB-INF/*\",\"/META-INF/*\"],\"login\":" ++ compact_text (boolean context.has_login) ++ codes ",\"loginPost\":" ++ compact_text (boolean context.has_login)
+    ++ codes ",\"otherContexts\":" ++ compact_text (strings context.others) ++ codes ",\"rows\":"
 
 abbrev end_text : ContextReport → List ℕ
 end_text context = codes ",\"viewer\":" ++ compact_text (viewer_value context.viewer) ++ codes "}"
 
-members_of : (path file findings login rows viewer : Data)
+members_of : (path file findings login post others rows viewer : Data)
     → compact_text (object (member (codes "context") path (member (codes "file") file (member (codes "findings") findings
-    (member (codes "login") login (member (codes "rows") rows (member (codes "viewer") viewer no_members)))))))
+    (member (codes "hidden") (strings (codes "/WEB-INF/*" ∷ codes "/META-INF/*" ∷ [])) (member (codes "login") login (member (codes "loginPost") post
+    (member (codes "otherContexts") others (member (codes "rows") rows (member (codes "viewer") viewer no_members))))))))))
     ≡ codes "{\"context\":" ++ (compact_text path ++ (codes ",\"file\":" ++ (compact_text file ++ (codes ",\"findings\":" ++ (compact_text findings
-    ++ (codes ",\"login\":" ++ (compact_text login ++ (codes ",\"rows\":" ++ (compact_text rows ++ (codes ",\"viewer\":" ++ (compact_text viewer ++ codes "}")))))))))))
+    ++ (codes ",\"hidden\":[\"/WEB-INF/*\",\"/META-INF/*\"],\"login\":" ++ (compact_text login ++ (codes ",\"loginPost\":" ++ (compact_text post
+    ++ (codes ",\"otherContexts\":" ++ (compact_text others ++ (codes ",\"rows\":" ++ (compact_text rows
+    ++ (codes ",\"viewer\":" ++ (compact_text viewer ++ codes "}")))))))))))))))
 unfolding serde_json_on_literals
-members_of path file findings login rows viewer = refl
+members_of path file findings login post others rows viewer = refl
+
+in_groups : (path file findings login post others rows viewer : List ℕ)
+    → codes "{\"context\":" ++ (path ++ (codes ",\"file\":" ++ (file ++ (codes ",\"findings\":" ++ (findings
+    ++ (codes ",\"hidden\":[\"/WEB-INF/*\",\"/META-INF/*\"],\"login\":" ++ (login ++ (codes ",\"loginPost\":" ++ (post ++ (codes ",\"otherContexts\":" ++ (others ++ (codes ",\"rows\":"
+    ++ (rows ++ (codes ",\"viewer\":" ++ (viewer ++ codes "}")))))))))))))))
+    ≡ (codes "{\"context\":" ++ path ++ codes ",\"file\":" ++ file ++ codes ",\"findings\":") ++ (findings ++ ((codes ",\"hidden\":[\"/WEB-INF/*\",\"/META-INF/*\"],\"login\":"
+    ++ login ++ codes ",\"loginPost\":" ++ post ++ codes ",\"otherContexts\":" ++ others ++ codes ",\"rows\":")
+    ++ (rows ++ (codes ",\"viewer\":" ++ viewer ++ codes "}"))))
+in_groups path file findings login post others rows viewer =
+    grouped (codes "{\"context\":") path (codes ",\"file\":") file (codes ",\"findings\":") _
+    ∙ ap (λ rest. (codes "{\"context\":" ++ path ++ codes ",\"file\":" ++ file ++ codes ",\"findings\":") ++ (findings ++ rest))
+    (grouped_more (codes ",\"hidden\":[\"/WEB-INF/*\",\"/META-INF/*\"],\"login\":") login (codes ",\"loginPost\":") post (codes ",\"otherContexts\":") others (codes ",\"rows\":") _)
 
 -- The text of a context.
 context_text : (context : ContextReport)
-    → compact_text (context_value context) ≡ start_text context ++ (compact_text (findings_value context) ++ (login_text context ++ (compact_text (rows_value context) ++ end_text context)))
+    → compact_text (context_value context) ≡ start_text context ++ (compact_text (findings_value context) ++ (facts_text context ++ (compact_text (rows_value context) ++ end_text context)))
 unfolding context_value
 context_text context =
-    members_of (string (shown_context context.path)) (string context.file) (findings_value context) (boolean context.has_login) (rows_value context) (viewer_value context.viewer)
-    ∙ of_parts (compact_text (string (shown_context context.path))) (compact_text (string context.file)) (compact_text (findings_value context)) (compact_text (boolean context.has_login))
-    (compact_text (rows_value context)) (compact_text (viewer_value context.viewer))
-  where
-    of_parts : (path file findings login rows viewer : List ℕ)
-        → codes "{\"context\":" ++ (path ++ (codes ",\"file\":" ++ (file ++ (codes ",\"findings\":" ++ (findings ++ (codes ",\"login\":" ++ (login ++ (codes ",\"rows\":"
-        ++ (rows ++ (codes ",\"viewer\":" ++ (viewer ++ codes "}")))))))))))
-        ≡ (codes "{\"context\":" ++ path ++ codes ",\"file\":" ++ file ++ codes ",\"findings\":") ++ (findings ++ ((codes ",\"login\":" ++ login ++ codes ",\"rows\":")
-        ++ (rows ++ (codes ",\"viewer\":" ++ viewer ++ codes "}"))))
-    of_parts path file findings login rows viewer =
-        grouped (codes "{\"context\":") path (codes ",\"file\":") file (codes ",\"findings\":") _
-        ∙ ap (λ rest. (codes "{\"context\":" ++ path ++ codes ",\"file\":" ++ file ++ codes ",\"findings\":") ++ (findings ++ rest))
-        (grouped_three (codes ",\"login\":") login (codes ",\"rows\":") _)
+    members_of (string (shown_context context.path)) (string context.file) (findings_value context) (boolean context.has_login) (boolean context.has_login) (strings context.others)
+    (rows_value context) (viewer_value context.viewer)
+    ∙ in_groups (compact_text (string (shown_context context.path))) (compact_text (string context.file)) (compact_text (findings_value context)) (compact_text (boolean context.has_login))
+    (compact_text (boolean context.has_login)) (compact_text (strings context.others)) (compact_text (rows_value context)) (compact_text (viewer_value context.viewer))
 
 audit_text : (contexts : List ContextReport)
     → compact_text (audit_value contexts) ++ codes "\n" ≡ codes "{\"contexts\":" ++ (compact_text (array (items_of (map context_value contexts))) ++ codes "}" ++ codes "\n")
@@ -104,12 +113,25 @@ places_of_parts path file t0 t1 t2 t3 t4 t5 p q r s t =
     in_order : (a b c d e : List ℕ) → t1 ≡ t0 ++ a → t2 ≡ t1 ++ b → t3 ≡ t2 ++ c → t4 ≡ t3 ++ d → t5 ≡ t4 ++ e → t5 ≡ t0 ++ (a ++ b ++ c ++ d ++ e)
     in_order a b c d e p q r s t = search (rules, append_assoc)
 
+-- What is known of a context, whose parts were appended one by one.
+pub facts_of_parts : (context : ContextReport) (t0 t1 t2 t3 t4 t5 t6 t7 login post others : List ℕ)
+    → login ≡ compact_text (boolean context.has_login) → post ≡ compact_text (boolean context.has_login) → others ≡ compact_text (strings context.others)
+    → t1 ≡ t0 ++ codes ",\"hidden\":[\"/WEB-INF/*\",\"/META-INF/*\"],\"login\":" → t2 ≡ t1 ++ login → t3 ≡ t2 ++ codes ",\"loginPost\":" → t4 ≡ t3 ++ post
+    → t5 ≡ t4 ++ codes ",\"otherContexts\":" → t6 ≡ t5 ++ others → t7 ≡ t6 ++ codes ",\"rows\":" → t7 ≡ t0 ++ facts_text context
+facts_of_parts context t0 t1 t2 t3 t4 t5 t6 t7 login post others l o s p q r u v w x =
+    in_order (codes ",\"hidden\":[\"/WEB-INF/*\",\"/META-INF/*\"],\"login\":") login (codes ",\"loginPost\":") post (codes ",\"otherContexts\":") others (codes ",\"rows\":") p q r u v w x
+    ∙ rw l (rw o (rw s refl))
+  where
+    in_order : (a b c d e f g : List ℕ) → t1 ≡ t0 ++ a → t2 ≡ t1 ++ b → t3 ≡ t2 ++ c → t4 ≡ t3 ++ d → t5 ≡ t4 ++ e → t6 ≡ t5 ++ f → t7 ≡ t6 ++ g
+        → t7 ≡ t0 ++ (a ++ b ++ c ++ d ++ e ++ f ++ g)
+    in_order a b c d e f g p q r s t u v = search (rules, append_assoc)
+
 -- A context whose parts were appended one by one.
-pub context_of_parts : (context : ContextReport) (t0 t1 t2 t3 t4 t5 : List ℕ) → t1 ≡ t0 ++ start_text context → t2 ≡ t1 ++ compact_text (findings_value context)
-    → t3 ≡ t2 ++ login_text context → t4 ≡ t3 ++ compact_text (rows_value context) → t5 ≡ t4 ++ end_text context
+context_of_parts : (context : ContextReport) (t0 t1 t2 t3 t4 t5 : List ℕ) → t1 ≡ t0 ++ start_text context → t2 ≡ t1 ++ compact_text (findings_value context)
+    → t3 ≡ t2 ++ facts_text context → t4 ≡ t3 ++ compact_text (rows_value context) → t5 ≡ t4 ++ end_text context
     → t5 ≡ t0 ++ compact_text (context_value context)
 context_of_parts context t0 t1 t2 t3 t4 t5 p q r s t =
-    five t0 t1 t2 t3 t4 t5 (start_text context) (compact_text (findings_value context)) (login_text context) (compact_text (rows_value context)) (end_text context) p q r s t
+    five t0 t1 t2 t3 t4 t5 (start_text context) (compact_text (findings_value context)) (facts_text context) (compact_text (rows_value context)) (end_text context) p q r s t
     ∙ ap (λ text. t0 ++ text) (sym (context_text context))
 
 abbrev contexts_text : List ContextReport → List ℕ
@@ -123,3 +145,10 @@ audit_of_parts contexts t0 t1 t2 t3 none p q r =
     ∙ ap (λ text. text ++ (codes "{\"contexts\":" ++ (contexts_text contexts ++ codes "}\n"))) none
     ∙ ap (λ text. codes "{\"contexts\":" ++ text) (sym (append_assoc (contexts_text contexts) (codes "}") (codes "\n")))
     ∙ sym (audit_text contexts)
+
+pub context_written : {A : Type 0} (context : ContextReport) (result : Result A NoMemory) (t0 t1 t2 t3 t4 t5 findings rows : List ℕ)
+    → findings ≡ compact_text (findings_value context) → rows ≡ compact_text (rows_value context) → t1 ≡ t0 ++ start_text context → t2 ≡ t1 ++ findings
+    → t3 ≡ t2 ++ facts_text context → t4 ≡ t3 ++ rows → OnOk result (t5 ≡ t4 ++ end_text context) → OnOk result (t5 ≡ t0 ++ compact_text (context_value context))
+context_written context (Ok a) t0 t1 t2 t3 t4 t5 findings rows f o p q r s t =
+    context_of_parts context t0 t1 t2 t3 t4 t5 p (q ∙ ap (λ text. t1 ++ text) f) r (s ∙ ap (λ text. t3 ++ text) o) t
+context_written context (Err fault) t0 t1 t2 t3 t4 t5 findings rows f o p q r s t = tt

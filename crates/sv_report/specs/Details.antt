@@ -1,6 +1,7 @@
 -- What the row of an access table means for paths.
-use Rattle.std.specs.Prelude.{ℕ, Bool, ◌||◌, ◌==◌, List, [], ◌∷◌, codes, length, Option, None, Some, if◌then◌else◌}
+use Rattle.std.specs.Prelude.{ℕ, Bool, ◌||◌, ◌==◌, List, [], ◌∷◌, ◌++◌, codes, length, Option, None, Some, if◌then◌else◌}
 use Rattle.std.specs.List.{flat_map}
+use Rattle.sv_uri.specs.LocationField.{location}
 use Rattle.sv_report.specs.Escaped.{escaped}
 use Rattle.sv_report.specs.Parts.{joined}
 use Rattle.sv_report.specs.Words.{pattern_text}
@@ -12,10 +13,15 @@ abbrev pub servlet_text : Option (List ℕ) → List ℕ
 servlet_text None = codes "files"
 servlet_text (Some name) = joined (codes "servlet " ∷ escaped name ∷ [])
 
--- A path of the row, with the path of its context, and what answers it.
-abbrev pub example_text : List ℕ → Option (List ℕ) → Option (List ℕ) → List ℕ
-example_text context None servlet = []
-example_text context (Some path) servlet = joined (codes "such as " ∷ escaped context ∷ escaped path ∷ codes ", answered by " ∷ servlet_text servlet ∷ [])
+-- The path of a row as a client requests it, with the path of its context.
+abbrev pub example_location : List ℕ → Option (List ℕ) → Option (List ℕ)
+example_location context None = None
+example_location context (Some path) = Some (location (context ++ path))
+
+-- The location of an example, and what answers it.
+abbrev pub example_text : Option (List ℕ) → Option (List ℕ) → List ℕ
+example_text None servlet = []
+example_text (Some place) servlet = joined (codes "such as " ∷ place ∷ codes ", answered by " ∷ servlet_text servlet ∷ [])
 
 abbrev pub other_pattern : List ℕ → List ℕ
 other_pattern pattern = joined (codes ", " ∷ pattern_text (Some pattern) ∷ [])
@@ -39,7 +45,7 @@ detail_of example exceptions = joined (example ∷ between example exceptions �
 
 -- An example, and the exceptions.
 unfoldable pub detail_text : List ℕ → ReportedRow → List ℕ
-detail_text context row = detail_of (example_text context row.example row.servlet) (exceptions_text row.narrower)
+detail_text context row = detail_of (example_text (example_location context row.example) row.servlet) (exceptions_text row.narrower)
 
 abbrev pub indented : List ℕ → List ℕ
 indented text = if length text == 0 then text else joined (codes "  " ∷ text ∷ codes "\n" ∷ [])

@@ -1,5 +1,5 @@
 -- Access tables and their findings as JSON (RFC 8259).
-use Rattle.std.specs.Prelude.{ℕ, Bool, List, ◌++◌, codes, map, Option, None, Some}
+use Rattle.std.specs.Prelude.{ℕ, Bool, List, [], ◌∷◌, ◌++◌, codes, map, Option, None, Some}
 use Rattle.serde_json.specs.Data.{Data, Members, null, boolean, string, array, object, member, no_members, put as with_member}
 use Rattle.serde_json.specs.View.{items_of}
 use Rattle.serde_json.specs.Written.{compact_text}
@@ -7,6 +7,9 @@ use Rattle.sv_policy.specs.Covering.{method_names}
 use Rattle.sv_uri.specs.ContextPath.{shown_context}
 use Rattle.sv_audit.specs.declared.access.Access.{Access}
 use Rattle.sv_audit.specs.declared.rows.Group.{Group}
+use Rattle.sv_findings.specs.declared.reach.Reach.{Reach}
+use Rattle.sv_findings.specs.declared.reach.Reach.TheVariants.{Reached, Hidden, Elsewhere}
+use Rattle.sv_report.specs.Details.{example_location}
 use Rattle.sv_report.specs.FindingJson.{finding_value}
 use Rattle.sv_report.specs.JsonParts.{are_excepted, because, enters, number_value, roles_in, strings, text_value, truth_value}
 use Rattle.sv_report.specs.Places.{line_of}
@@ -36,15 +39,29 @@ group_value context group = object
     (with_member (codes "line") (number_value (line_of context.lines group.cell.constraint))
     (with_member (codes "constraint") (number_value group.cell.constraint) (with_access context group.cell.access no_members)))))
 
+-- Whether requests reach a pattern, in one word.
+abbrev pub reach_word : Reach → List ℕ
+reach_word Reached = codes "reached"
+reach_word Hidden = codes "hidden"
+reach_word (Elsewhere path) = codes "elsewhere"
+
+-- The path of the context that has the paths of a pattern instead.
+abbrev pub elsewhere : Reach → Data
+elsewhere Reached = null
+elsewhere Hidden = null
+elsewhere (Elsewhere path) = string path
+
 -- A row.
 unfoldable pub row_value : ContextReport → ReportedRow → Data
 row_value context reported = object
-    (member (codes "example") (text_value reported.example)
+    (member (codes "context") (elsewhere reported.reach)
+    (member (codes "example") (text_value (example_location context.path reported.example))
     (member (codes "groups") (array (items_of (map (group_value context) reported.row.groups)))
     (member (codes "narrower") (strings reported.narrower.patterns)
     (member (codes "narrowerComplete") (boolean reported.narrower.are_all)
     (member (codes "pattern") (text_value reported.row.pattern)
-    (member (codes "servlet") (text_value reported.servlet) no_members))))))
+    (member (codes "reach") (string (reach_word reported.reach))
+    (member (codes "servlet") (text_value reported.servlet) no_members))))))))
 
 unfoldable pub named_viewer : Viewer → Data
 named_viewer viewer = object (member (codes "name") (string viewer.name) (member (codes "roles") (strings viewer.roles) no_members))
@@ -59,15 +76,19 @@ findings_value context = array (items_of (map (finding_value context) context.fi
 abbrev pub rows_value : ContextReport → Data
 rows_value context = array (items_of (map (row_value context) context.rows))
 
--- The table of a context, and its findings.
+-- The table of a context, its findings, and the paths that constraints do not decide: the protected folders (sections
+-- 10.5 and 10.6), the login post of a form login (section 13.6.3.1) and other contexts (section 12.1).
 unfoldable pub context_value : ContextReport → Data
 context_value context = object
     (member (codes "context") (string (shown_context context.path))
     (member (codes "file") (string context.file)
     (member (codes "findings") (findings_value context)
+    (member (codes "hidden") (strings (codes "/WEB-INF/*" ∷ codes "/META-INF/*" ∷ []))
     (member (codes "login") (boolean context.has_login)
+    (member (codes "loginPost") (boolean context.has_login)
+    (member (codes "otherContexts") (strings context.others)
     (member (codes "rows") (rows_value context)
-    (member (codes "viewer") (viewer_value context.viewer) no_members))))))
+    (member (codes "viewer") (viewer_value context.viewer) no_members)))))))))
 
 unfoldable pub audit_value : List ContextReport → Data
 audit_value contexts = object (member (codes "contexts") (array (items_of (map context_value contexts))) no_members)

@@ -8,23 +8,22 @@ use Rattle.sv_report.specs.Folded.{folded}
 use Rattle.sv_report.specs.FindingText.{finding_lines}
 use Rattle.sv_report.specs.Parts.{joined}
 use Rattle.sv_report.specs.Places.{constraint_text}
-use Rattle.sv_report.specs.Viewers.{entry_text, hidden_text, viewer_title}
+use Rattle.sv_report.specs.Viewers.{context_text, entry_text, hidden_text, viewer_title}
 use Rattle.sv_report.specs.Words.{methods_text, pattern_text}
 use Rattle.sv_report.specs.declared.lines.TheConstants.{METHODS_WIDTH, PATTERN_WIDTH, WHO_WIDTH}
 use Rattle.sv_report.specs.declared.report.ContextReport.{ContextReport}
 use Rattle.sv_report.specs.declared.report.ReportedRow.{ReportedRow}
 use Rattle.sv_report.specs.declared.report.Viewer.{Viewer}
 use Rattle.sv_audit.specs.declared.rows.Group.{Group}
+use Rattle.sv_findings.specs.declared.reach.Reach.{Reach}
+use Rattle.sv_findings.specs.declared.reach.Reach.TheVariants.{Reached, Hidden, Elsewhere}
 
-abbrev pub gap_of : ℕ → ℕ → ℕ
-gap_of width used = if nat_lt used width then width - used else 2
-
--- The number of spaces after a text in a column of this width, in characters.
-abbrev pub gap_after : ℕ → List ℕ → ℕ
-gap_after width text = gap_of width (length (chars text))
+-- The number of spaces after a text of so many characters in a column of this width.
+abbrev pub gap_after : ℕ → ℕ → ℕ
+gap_after width used = if nat_lt used width then width - used else 2
 
 abbrev pub padded : ℕ → List ℕ → List ℕ
-padded width text = text ++ replicate (gap_after width text) 32
+padded width text = text ++ replicate (gap_after width (length (chars text))) 32
 
 -- A line of four columns.
 unfoldable pub line_text : List ℕ → List ℕ → List ℕ → List ℕ → List ℕ
@@ -40,9 +39,18 @@ abbrev pub group_lines : ContextReport → List ℕ → List Group → List ℕ
 group_lines context pattern [] = []
 group_lines context pattern (group ∷ groups) = group_line context pattern group ++ flat_map (group_line context []) groups
 
--- The lines of a row, and what it means for paths.
+-- The line of a pattern whose constraints are never asked.
+abbrev pub unreached_line : List ℕ → List ℕ → List ℕ
+unreached_line pattern who = line_text pattern (codes "all") who (codes "-")
+
+-- The lines of a pattern: of its groups, with what they mean for paths, or why no request reaches it.
+abbrev pub reach_lines : ContextReport → ReportedRow → Reach → List ℕ → List ℕ
+reach_lines context reported Reached pattern = group_lines context pattern reported.row.groups ++ detail_line context.path reported
+reach_lines context reported Hidden pattern = unreached_line pattern (hidden_text context.viewer)
+reach_lines context reported (Elsewhere path) pattern = unreached_line pattern (context_text path)
+
 abbrev pub row_lines : ContextReport → ReportedRow → List ℕ
-row_lines context reported = group_lines context (pattern_text reported.row.pattern) reported.row.groups ++ detail_line context.path reported
+row_lines context reported = reach_lines context reported reported.reach (pattern_text reported.row.pattern)
 
 abbrev pub heading_line : ContextReport → List ℕ
 heading_line context = joined (codes "context " ∷ escaped (shown_context context.path) ∷ codes " (" ∷ escaped context.file ∷ codes ")\n" ∷ [])
@@ -52,23 +60,28 @@ title_line viewer = line_text (codes "pattern") (codes "methods") (viewer_title 
 
 -- The protected folders (sections 10.5 and 10.6).
 abbrev pub hidden_line : Option Viewer → List ℕ
-hidden_line viewer = line_text (codes "/WEB-INF/*, /META-INF/*") (codes "all") (hidden_text viewer) (codes "-")
+hidden_line viewer = unreached_line (codes "/WEB-INF/*, /META-INF/*") (hidden_text viewer)
 
 -- The login post of a form login (section 13.6.3.1).
 abbrev pub login_line : Bool → List ℕ
 login_line has_login = if has_login then line_text (codes "*/j_security_check") (codes "POST") (codes "login post") (codes "-") else []
 
+-- The paths of another context within the one with this path (section 12.1).
+abbrev pub other_line : List ℕ → List ℕ → List ℕ
+other_line context other = unreached_line (joined (escaped other ∷ codes "/*" ∷ [])) (context_text (joined (context ∷ other ∷ [])))
+
 -- The lines of a context.
-abbrev pub context_text : ContextReport → List ℕ
-context_text context =
+abbrev pub context_lines : ContextReport → List ℕ
+context_lines context =
     heading_line context ++ title_line context.viewer
     ++ flat_map (row_lines context) context.rows ++ hidden_line context.viewer ++ login_line context.has_login
+    ++ flat_map (other_line context.path) context.others
     ++ flat_map (finding_lines context) context.findings
 
 -- The lines of contexts, with an empty line between two.
 abbrev pub contexts_text : List ContextReport → List ℕ
 contexts_text [] = []
-contexts_text (context ∷ contexts) = context_text context ++ flat_map (λ other. codes "\n" ++ context_text other) contexts
+contexts_text (context ∷ contexts) = context_lines context ++ flat_map (λ other. codes "\n" ++ context_lines other) contexts
 
 -- The same with lines of at most 100 characters.
 abbrev pub audit_text : List ContextReport → List ℕ

@@ -44,3 +44,7 @@ entry_text (Some viewer) has_login access = answer_text (may_enter viewer has_lo
 abbrev pub hidden_text : Option Viewer → List ℕ
 hidden_text None = codes "nobody (hidden)"
 hidden_text (Some viewer) = codes "no (hidden)"
+
+-- Another context that has the paths (section 12.1).
+abbrev pub context_text : List ℕ → List ℕ
+context_text path = joined (codes "context " ∷ escaped path ∷ [])

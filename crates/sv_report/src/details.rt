@@ -12,6 +12,7 @@ use crate::words::shown_pattern;
 use std::alloc::Global;
 use sv_audit::Narrower;
 use sv_text::{NoMemory, Text};
+use sv_uri::location;
 
 /// Returns the line of an example and of the exceptions of a row, or nothing if there is neither.
 pub fn detail_line(alloc: Global, context: &str, row: &ReportedRow) -> Result<Text, NoMemory>
@@ -29,7 +30,8 @@ pub fn detail_line(alloc: Global, context: &str, row: &ReportedRow) -> Result<Te
 pub fn detail_text(alloc: Global, context: &str, row: &ReportedRow) -> Result<Text, NoMemory>
     ensures { GivesAnswer result (spec.detail_text context.now row.now) }
 {
-    let example = example_text(alloc, context, &row.example, &row.servlet)?;
+    let example = example_location(alloc, context, &row.example)?;
+    let example = example_text(alloc, &example, &row.servlet)?;
     let exceptions = exceptions_text(alloc, &row.narrower)?;
     let between = between(example.as_str(), exceptions.as_str());
     joined(alloc, &[example.as_str(), between, exceptions.as_str()])
@@ -45,40 +47,42 @@ fn between(example: &str, exceptions: &str) -> &'static str
     }
 }
 
-fn example_text(
+/// Returns the path of a row as a client requests it, with the path of its context.
+pub fn example_location(
     alloc: Global,
     context: &str,
     example: &Option<Text>,
+) -> Result<Option<Text>, NoMemory>
+    ensures { GivesAnswer result (spec.example_location context.now example.now) }
+{
+    let Some(path) = example else {
+        return Ok(None);
+    };
+    let path = joined(alloc, &[context, path.as_str()])?;
+    let place = location(alloc, path.as_str())?;
+    Ok(Some(Text::from_string(place)))
+}
+
+fn example_text(
+    alloc: Global,
+    example: &Option<Text>,
     servlet: &Option<Text>,
 ) -> Result<Text, NoMemory>
-    ensures { GivesAnswer result (spec.example_text context.now example.now servlet.now) }
+    ensures { GivesAnswer result (spec.example_text example.now servlet.now) }
 {
     match example {
         None => Text::copy_of(alloc, ""),
-        Some(path) => answered_path(alloc, context, path.as_str(), servlet),
+        Some(place) => answered_place(alloc, place.as_str(), servlet),
     }
 }
 
-fn answered_path(
-    alloc: Global,
-    context: &str,
-    path: &str,
-    servlet: &Option<Text>,
-) -> Result<Text, NoMemory>
-    ensures { GivesAnswer result (spec.example_text context.now (Some path.now) servlet.now) }
+fn answered_place(alloc: Global, place: &str, servlet: &Option<Text>) -> Result<Text, NoMemory>
+    ensures { GivesAnswer result (spec.example_text (Some place.now) servlet.now) }
 {
-    let context = escaped(alloc, context)?;
-    let path = escaped(alloc, path)?;
     let servlet = servlet_text(alloc, servlet)?;
     joined(
         alloc,
-        &[
-            "such as ",
-            context.as_str(),
-            path.as_str(),
-            ", answered by ",
-            servlet.as_str(),
-        ],
+        &["such as ", place, ", answered by ", servlet.as_str()],
     )
 }
 
@@ -130,14 +134,8 @@ fn other_patterns(alloc: Global, others: &[Text]) -> Result<Text, NoMemory>
 {
     let mut text = String::new(alloc);
     for other in others {
-        push_pattern(&mut text, alloc, other.as_str())?;
+        let pattern = shown_pattern(alloc, other.as_str())?;
+        push_all(&mut text, &[", ", pattern.as_str()])?;
     }
     Ok(Text::from_string(text))
-}
-
-fn push_pattern(text: &mut String, alloc: Global, pattern: &str) -> Result<(), NoMemory>
-    ensures { OnOk result (string_bytes text.new ≡ string_bytes text.old ++ spec.other_pattern pattern.now) }
-{
-    let pattern = shown_pattern(alloc, pattern)?;
-    push_all(text, &[", ", pattern.as_str()])
 }

@@ -9,8 +9,10 @@ ghost use Rattle.sv_uri.specs.ContextPath.{shown_context};
 ghost use Rattle.sv_text.specs.Gives.{GivesAnswer};
 ghost use Rattle.sv_report.specs.FindingJson.{finding_value as value_of};
 ghost use Rattle.sv_report.specs.Json as spec;
+ghost use Rattle.sv_report.specs.JsonParts.{strings as strings_of};
 
 use crate::finding_values::finding_value;
+use crate::members::strings;
 use crate::report::{ContextReport, ReportedFinding, ReportedRow, Viewer};
 use crate::values::{row_value, viewer_value};
 use serde_json::Value;
@@ -69,7 +71,7 @@ fn push_context(text: &mut String, alloc: Global, context: &ContextReport) -> Re
 {
     push_start(text, alloc, context)?;
     push_findings(text, alloc, context, context.findings.as_slice())?;
-    push_login(text, context.has_login)?;
+    push_facts(text, alloc, context)?;
     push_rows(text, alloc, context, context.rows.as_slice())?;
     push_end(text, alloc, &context.viewer)
 }
@@ -79,28 +81,32 @@ fn push_start(text: &mut String, alloc: Global, context: &ContextReport) -> Resu
     ensures { OnOk result (string_bytes text.new ≡ string_bytes text.old ++ (codes "{\"context\":" ++ compact_text (string (shown_context context.now.path))
         ++ codes ",\"file\":" ++ compact_text (string context.now.file) ++ codes ",\"findings\":")) }
 {
-    let path = shown_context(context.path.as_str());
-    push_places(text, alloc, path, context.file.as_str())
-}
-
-fn push_places(text: &mut String, alloc: Global, path: &str, file: &str) -> Result<(), NoMemory>
-    ensures { OnOk result (string_bytes text.new ≡ string_bytes text.old ++ (codes "{\"context\":" ++ compact_text (string path.now)
-        ++ codes ",\"file\":" ++ compact_text (string file.now) ++ codes ",\"findings\":")) }
-{
     text.push_str("{\"context\":")?;
-    push_text(text, alloc, path)?;
+    push_text(text, alloc, shown_context(context.path.as_str()))?;
     text.push_str(",\"file\":")?;
-    push_text(text, alloc, file)?;
+    push_text(text, alloc, context.file.as_str())?;
     Ok(text.push_str(",\"findings\":")?)
 }
 
 /// Appends the members of a context between its findings and its rows.
-fn push_login(text: &mut String, has_login: bool) -> Result<(), NoMemory>
-    ensures { OnOk result (string_bytes text.new ≡ string_bytes text.old ++ (codes ",\"login\":" ++ compact_text (boolean has_login) ++ codes ",\"rows\":")) }
+fn push_facts(text: &mut String, alloc: Global, context: &ContextReport) -> Result<(), NoMemory>
+    ensures { OnOk result (string_bytes text.new ≡ string_bytes text.old ++ (codes ",\"hidden\":[\"/WEB-INF/*\",\"/META-INF/*\"],\"login\":" ++ compact_text (boolean context.now.has_login)
+        ++ codes ",\"loginPost\":" ++ compact_text (boolean context.now.has_login) ++ codes ",\"otherContexts\":" ++ compact_text (strings_of context.now.others) ++ codes ",\"rows\":")) }
 {
-    text.push_str(",\"login\":")?;
-    text.push_str(truth_word(has_login))?;
+    text.push_str(",\"hidden\":[\"/WEB-INF/*\",\"/META-INF/*\"],\"login\":")?;
+    text.push_str(truth_word(context.has_login))?;
+    text.push_str(",\"loginPost\":")?;
+    text.push_str(truth_word(context.has_login))?;
+    text.push_str(",\"otherContexts\":")?;
+    push_strings(text, alloc, context.others.as_slice())?;
     Ok(text.push_str(",\"rows\":")?)
+}
+
+fn push_strings(text: &mut String, alloc: Global, texts: &[Text]) -> Result<(), NoMemory>
+    ensures { OnOk result (string_bytes text.new ≡ string_bytes text.old ++ compact_text (strings_of texts.now)) }
+{
+    let value = strings(alloc, texts)?;
+    push_value(text, alloc, &value)
 }
 
 /// Appends the members of a context after its rows.

@@ -19,7 +19,7 @@ mod values;
 mod viewers;
 mod words;
 
-pub use details::detail_text;
+pub use details::{detail_text, example_location};
 pub use finding_words::{heading, kind_name, problem_text, remedy};
 pub use folded_lines::{
     LATER_WIDTH, LINE_WIDTH, folded, lines_of, parts_fit, parts_keep_characters,
@@ -32,5 +32,5 @@ pub use members::{put_text, put_text_if, put_texts, put_truth, put_truth_if, put
 pub use parts::{joined, push_all};
 pub use places::{constraint_text, number_text, place_text};
 pub use report::{ContextReport, ReportedFinding, ReportedRow, Viewer};
-pub use viewers::{entry_text, hidden_text, viewer_title};
+pub use viewers::{context_text, entry_text, hidden_text, viewer_title};
 pub use words::{methods_text, pattern_text, who_text};

@@ -3,19 +3,22 @@
 ghost use Rattle.std.specs.Prelude.{◌≡◌, ◌++◌, [], OnOk, chars, codes, length, replicate, string_bytes};
 ghost use Rattle.std.specs.List.{flat_map};
 ghost use Rattle.sv_text.specs.Gives.{GivesAnswer};
+ghost use Rattle.sv_report.specs.Details as details;
 ghost use Rattle.sv_report.specs.Text as spec;
+ghost use Rattle.sv_report.specs.Viewers as words;
 
 use crate::details::detail_line;
 use crate::escaped::escaped;
 use crate::finding_lines::push_findings;
 use crate::folded_lines::folded;
-use crate::parts::push_all;
+use crate::parts::{joined, push_all};
 use crate::places::constraint_text;
 use crate::report::{ContextReport, ReportedRow, Viewer};
-use crate::viewers::{entry_text, hidden_text, viewer_title};
+use crate::viewers::{context_text, entry_text, hidden_text, viewer_title};
 use crate::words::{methods_text, pattern_text};
 use std::alloc::Global;
 use sv_audit::Group;
+use sv_findings::Reach;
 use sv_text::{NoMemory, Text};
 use sv_uri::shown_context;
 
@@ -38,8 +41,8 @@ struct Columns<'a> {
 }
 
 /// Returns the text of the access tables of contexts: a line for each group of methods, one for the example and the
-/// exceptions of each row, lines for the folders that are never served and for the login post, and two lines for each
-/// finding. Control characters are escaped, and no line has more than 100 characters (see `folded`).
+/// exceptions of each row, lines for the folders that are never served, for the login post and for other contexts, and
+/// two lines for each finding. A row that no request reaches has one line. Control characters are escaped, and no line has more than 100 characters (see `folded`).
 ///
 /// # Errors
 /// `NoMemory` if memory runs out.
@@ -71,33 +74,29 @@ fn push_other_contexts(
     alloc: Global,
     others: &[ContextReport],
 ) -> Result<(), NoMemory>
-    ensures { OnOk result (string_bytes text.new ≡ string_bytes text.old ++ flat_map (λ other. codes "\n" ++ spec.context_text other) others.now) }
+    ensures { OnOk result (string_bytes text.new ≡ string_bytes text.old ++ flat_map (λ other. codes "\n" ++ spec.context_lines other) others.now) }
 {
     for other in others {
-        push_other_context(text, alloc, other)?;
+        text.push_str("\n")?;
+        push_context(text, alloc, other)?;
     }
     Ok(())
 }
 
-fn push_other_context(
-    text: &mut String,
-    alloc: Global,
-    context: &ContextReport,
-) -> Result<(), NoMemory>
-    ensures { OnOk result (string_bytes text.new ≡ string_bytes text.old ++ (codes "\n" ++ spec.context_text context.now)) }
-{
-    text.push_str("\n")?;
-    push_context(text, alloc, context)
-}
-
 fn push_context(text: &mut String, alloc: Global, context: &ContextReport) -> Result<(), NoMemory>
-    ensures { OnOk result (string_bytes text.new ≡ string_bytes text.old ++ spec.context_text context.now) }
+    ensures { OnOk result (string_bytes text.new ≡ string_bytes text.old ++ spec.context_lines context.now) }
 {
     push_heading(text, alloc, context)?;
     push_title(text, alloc, &context.viewer)?;
     push_rows(text, alloc, context, context.rows.as_slice())?;
     push_hidden(text, &context.viewer)?;
     push_login(text, context.has_login)?;
+    push_others(
+        text,
+        alloc,
+        context.path.as_str(),
+        context.others.as_slice(),
+    )?;
     push_findings(text, alloc, context, context.findings.as_slice())
 }
 
@@ -130,15 +129,54 @@ fn push_title(text: &mut String, alloc: Global, viewer: &Option<Viewer>) -> Resu
 fn push_hidden(text: &mut String, viewer: &Option<Viewer>) -> Result<(), NoMemory>
     ensures { OnOk result (string_bytes text.new ≡ string_bytes text.old ++ spec.hidden_line viewer.now) }
 {
+    push_unreached(text, "/WEB-INF/*, /META-INF/*", hidden_text(viewer))
+}
+
+/// Appends the line of a pattern whose constraints are never asked.
+fn push_unreached(text: &mut String, pattern: &str, who: &str) -> Result<(), NoMemory>
+    ensures { OnOk result (string_bytes text.new ≡ string_bytes text.old ++ spec.unreached_line pattern.now who.now) }
+{
     push_line(
         text,
         Columns {
-            pattern: "/WEB-INF/*, /META-INF/*",
+            pattern,
             methods: "all",
-            who: hidden_text(viewer),
+            who,
             constraint: "-",
         },
     )
+}
+
+/// Appends a line for each other context within the one with this path.
+fn push_others(
+    text: &mut String,
+    alloc: Global,
+    context: &str,
+    others: &[Text],
+) -> Result<(), NoMemory>
+    ensures { OnOk result (string_bytes text.new ≡ string_bytes text.old ++ flat_map (spec.other_line context.now) others.now) }
+{
+    for other in others {
+        push_other(text, alloc, context, other.as_str())?;
+    }
+    Ok(())
+}
+
+fn push_other(text: &mut String, alloc: Global, context: &str, other: &str) -> Result<(), NoMemory>
+    ensures { OnOk result (string_bytes text.new ≡ string_bytes text.old ++ spec.other_line context.now other.now) }
+{
+    let path = joined(alloc, &[context, other])?;
+    let other = escaped(alloc, other)?;
+    let pattern = joined(alloc, &[other.as_str(), "/*"])?;
+    push_foreign(text, alloc, pattern.as_str(), path.as_str())
+}
+
+/// Appends the line of a pattern whose paths belong to another context.
+fn push_foreign(text: &mut String, alloc: Global, pattern: &str, path: &str) -> Result<(), NoMemory>
+    ensures { OnOk result (string_bytes text.new ≡ string_bytes text.old ++ spec.unreached_line pattern.now (words.context_text path.now)) }
+{
+    let who = context_text(alloc, path)?;
+    push_unreached(text, pattern, who.as_str())
 }
 
 fn push_login(text: &mut String, has_login: bool) -> Result<(), NoMemory>
@@ -181,13 +219,24 @@ fn push_row(
     ensures { OnOk result (string_bytes text.new ≡ string_bytes text.old ++ spec.row_lines context.now row.now) }
 {
     let pattern = pattern_text(alloc, &row.row.pattern)?;
-    push_pattern(
-        text,
-        alloc,
-        context,
-        pattern.as_str(),
-        row.row.groups.as_slice(),
-    )?;
+    match &row.reach {
+        Reach::Reached => push_reached(text, alloc, context, pattern.as_str(), row),
+        Reach::Hidden => push_unreached(text, pattern.as_str(), hidden_text(&context.viewer)),
+        Reach::Elsewhere(path) => push_foreign(text, alloc, pattern.as_str(), path.as_str()),
+    }
+}
+
+/// Appends the lines of a row that requests reach.
+fn push_reached(
+    text: &mut String,
+    alloc: Global,
+    context: &ContextReport,
+    pattern: &str,
+    row: &ReportedRow,
+) -> Result<(), NoMemory>
+    ensures { OnOk result (string_bytes text.new ≡ string_bytes text.old ++ (spec.group_lines context.now pattern.now row.now.row.groups ++ details.detail_line context.now.path row.now)) }
+{
+    push_pattern(text, alloc, context, pattern, row.row.groups.as_slice())?;
     let details = detail_line(alloc, context.path.as_str(), row)?;
     Ok(text.push_str(details.as_str())?)
 }
@@ -268,25 +317,19 @@ fn push_padded(text: &mut String, column: &str, width: usize) -> Result<(), NoMe
     ensures { OnOk result (string_bytes text.new ≡ string_bytes text.old ++ spec.padded width column.now) }
 {
     text.push_str(column)?;
-    push_spaces(text, gap_after(width, column))
+    push_spaces(text, gap_after(width, character_count(column)))
 }
 
-fn gap_after(width: usize, column: &str) -> usize
-    ensures { result ≡ spec.gap_after width column.now }
+fn gap_after(width: usize, used: usize) -> usize
+    ensures { result ≡ spec.gap_after width used }
 {
-    gap_of(width, character_count(column))
+    if used < width { width - used } else { 2 }
 }
 
 fn character_count(text: &str) -> usize
     ensures { result ≡ length (chars text.now) }
 {
     text.chars().count()
-}
-
-fn gap_of(width: usize, used: usize) -> usize
-    ensures { result ≡ spec.gap_of width used }
-{
-    if used < width { width - used } else { 2 }
 }
 
 fn push_spaces(text: &mut String, count: usize) -> Result<(), NoMemory>

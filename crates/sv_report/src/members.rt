@@ -96,7 +96,8 @@ pub fn put_truth(
     Ok(put(members, alloc, name, Value::Bool(holds))?)
 }
 
-fn strings(alloc: Global, texts: &[Text]) -> Result<Value, NoMemory>
+/// Returns a list of texts as a value.
+pub fn strings(alloc: Global, texts: &[Text]) -> Result<Value, NoMemory>
     ensures { IfOk result (λ value. view value ≡ spec.strings texts.now) }
 {
     let mut values = Vec::with_capacity(alloc, texts.len())?;

@@ -1,7 +1,7 @@
 //! What is reported of a context.
 
 use sv_audit::{Narrower, Row};
-use sv_findings::Finding;
+use sv_findings::{Finding, Reach};
 use sv_text::{Listed, Text};
 
 /// Who may reach what in a context, as it is reported.
@@ -15,6 +15,8 @@ pub struct ContextReport {
     pub has_login: bool,
     /// The caller whose access is shown, if one is asked for.
     pub viewer: Option<Viewer>,
+    /// The paths of the other contexts within this one, without the path of this one.
+    pub others: Listed<Text>,
     /// The rows of the access table.
     pub rows: Listed<ReportedRow>,
     /// The findings of the constraints and the table.
@@ -43,6 +45,8 @@ pub struct ReportedRow {
     pub servlet: Option<Text>,
     /// The patterns that are chosen before this one at some of its paths.
     pub narrower: Narrower,
+    /// Whether requests reach the pattern.
+    pub reach: Reach,
 }
 
 /// A finding, with where it belongs and whether it is accepted.

@@ -5,6 +5,7 @@ ghost use Rattle.serde_json.specs.Data.{array};
 ghost use Rattle.serde_json.specs.View.{items_of, members_view, view};
 ghost use Rattle.sv_report.specs.Json as spec;
 
+use crate::details::example_location;
 use crate::json_words::{are_excepted, because, enters, names_in, roles_in};
 use crate::members::{
     put_number, put_text, put_text_if, put_texts, put_truth, put_truth_if, put_value,
@@ -15,6 +16,7 @@ use crate::viewers::may_enter;
 use serde_json::{Map, Value};
 use std::alloc::Global;
 use sv_audit::{Access, Group};
+use sv_findings::Reach;
 use sv_text::NoMemory;
 
 /// Returns the viewer as a value, or null.
@@ -45,9 +47,12 @@ pub fn row_value(
     ensures { IfOk result (λ value. view value ≡ spec.row_value context.now row.now) }
 {
     let groups = group_values(alloc, context, row.row.groups.as_slice())?;
+    let example = example_location(alloc, context.path.as_str(), &row.example)?;
+    let other = elsewhere(alloc, &row.reach)?;
     let narrower = row.narrower.patterns.as_slice();
     let mut members = Map::new(alloc);
-    put_text_if(&mut members, alloc, "example", &row.example)?;
+    put_value(&mut members, alloc, "context", other)?;
+    put_text_if(&mut members, alloc, "example", &example)?;
     put_value(&mut members, alloc, "groups", groups)?;
     put_texts(&mut members, alloc, "narrower", narrower)?;
     put_truth(
@@ -57,8 +62,30 @@ pub fn row_value(
         row.narrower.are_all,
     )?;
     put_text_if(&mut members, alloc, "pattern", &row.row.pattern)?;
+    put_text(&mut members, alloc, "reach", reach_word(&row.reach))?;
     put_text_if(&mut members, alloc, "servlet", &row.servlet)?;
     Ok(Value::Object(members))
+}
+
+fn reach_word(reach: &Reach) -> &'static str
+    ensures { result.now ≡ spec.reach_word reach.now }
+{
+    match reach {
+        Reach::Reached => "reached",
+        Reach::Hidden => "hidden",
+        Reach::Elsewhere(_) => "elsewhere",
+    }
+}
+
+/// Returns the path of the context that has the paths of a pattern instead, or null.
+fn elsewhere(alloc: Global, reach: &Reach) -> Result<Value, NoMemory>
+    ensures { IfOk result (λ value. view value ≡ spec.elsewhere reach.now) }
+{
+    match reach {
+        Reach::Reached => Ok(Value::Null),
+        Reach::Hidden => Ok(Value::Null),
+        Reach::Elsewhere(path) => Ok(Value::try_from_str(alloc, path.as_str())?),
+    }
 }
 
 fn group_values(alloc: Global, context: &ContextReport, groups: &[Group]) -> Result<Value, NoMemory>

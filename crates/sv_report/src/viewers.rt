@@ -83,3 +83,11 @@ pub fn hidden_text(viewer: &Option<Viewer>) -> &'static str
         Some(_) => "no (hidden)",
     }
 }
+
+/// Returns the text of another context that has the paths of a row.
+pub fn context_text(alloc: Global, path: &str) -> Result<Text, NoMemory>
+    ensures { GivesAnswer result (spec.context_text path.now) }
+{
+    let path = escaped(alloc, path)?;
+    joined(alloc, &["context ", path.as_str()])
+}

@@ -2,7 +2,6 @@
 
 ghost use Rattle.std.specs.Prelude.{◌≡◌, ◌++◌, OnOk, codes, string_bytes};
 ghost use Rattle.sv_text.specs.Gives.{GivesAnswer};
-ghost use Rattle.sv_report.specs.Escaped as escapes;
 ghost use Rattle.sv_report.specs.Words as spec;
 
 use crate::escaped::escaped;
@@ -72,16 +71,9 @@ fn push_others(text: &mut String, alloc: Global, others: &[Text]) -> Result<(), 
     ensures { OnOk result (string_bytes text.new ≡ string_bytes text.old ++ spec.others_text others.now) }
 {
     for other in others {
-        push_other(text, alloc, other.as_str())?;
+        text.push_str(", ")?;
+        text.push_str(escaped(alloc, other.as_str())?.as_str())?;
     }
-    Ok(())
-}
-
-fn push_other(text: &mut String, alloc: Global, name: &str) -> Result<(), NoMemory>
-    ensures { OnOk result (string_bytes text.new ≡ string_bytes text.old ++ (codes ", " ++ escapes.escaped name.now)) }
-{
-    text.push_str(", ")?;
-    text.push_str(escaped(alloc, name)?.as_str())?;
     Ok(())
 }
 
