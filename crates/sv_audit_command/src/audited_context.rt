@@ -108,14 +108,7 @@ fn audited_context(
 {
     let web_app = descriptor_in(alloc, &found.texts)?.into_web_app();
     let parts = context_parts(alloc, &found.texts, options)?;
-    Ok(context_of(
-        alloc,
-        found,
-        web_app,
-        parts,
-        paths,
-        options.is_secure,
-    )?)
+    Ok(context_of(alloc, found, web_app, parts, paths, options.is_secure)?)
 }
 
 /// What is read of a context beside its constraints: the descriptor if it is kept, the users, and their roles.

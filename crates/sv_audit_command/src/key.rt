@@ -9,9 +9,9 @@ ghost use Rattle.sv_text.specs.Gives.{GivesAnswer};
 ghost use Rattle.sv_audit_command.specs.Key as spec;
 
 use std::alloc::Global;
-use sv_findings::Finding;
 use sv_audit::Access;
 use sv_constraints::{Auth, Constraint, Methods, lists};
+use sv_findings::Finding;
 use sv_mapping::Pattern;
 use sv_policy::Groups;
 use sv_report::escaped::escaped;
