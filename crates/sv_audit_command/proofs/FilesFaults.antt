@@ -21,13 +21,15 @@ use Rattle.sv_program.specs.declared.command_fault.CommandFault.TheVariants.{Inp
 use Rattle.sv_program.specs.declared.command_fault.CommandFault.TheVariants as command
 use Rattle.sv_program.specs.declared.configuration.ContextTexts.{ContextTexts}
 use Rattle.sv_audit_command.specs.AuditCommand.{report_for}
-use Rattle.sv_audit_command.specs.Audited.{audited_context, context_parts, kept_descriptor}
-use Rattle.sv_audit_command.specs.Report.{asked_text, report_by, report_on}
+use Rattle.sv_audit_command.specs.Audited.{audited_context, audited_contexts, context_parts, kept_descriptor, paths_of}
+use Rattle.sv_audit_command.specs.Report.{access_report, asked_text, difference_report, report_by, report_on}
+use Rattle.sv_audit_command.specs.ComparedServers.{checked_server, other_context, other_server}
 use Rattle.sv_audit_command.specs.ExplainedRequest.{explained, method_of, sites_of, told}
 use Rattle.sv_audit_command.specs.LineFile.{located}
 use Rattle.sv_audit_command.specs.Viewer.{check_viewer}
 use Rattle.sv_audit_command.specs.declared.audited_context.AuditedContext.{AuditedContext}
 use Rattle.sv_audit_command.specs.declared.further_files.FurtherFiles.{FurtherFiles}
+use Rattle.sv_audit_command.specs.declared.further_files.OtherFiles.{OtherFiles}
 use Rattle.sv_audit_command.specs.declared.access_options.AccessOptions.{AccessOptions}
 use Rattle.sv_audit_command.specs.declared.access_options.Asked.{Asked}
 use Rattle.sv_audit_command.specs.declared.access_options.Asked.TheVariants as asked
@@ -93,9 +95,27 @@ parts_faults options at =
     onward (kept_descriptor (option_copied options.path) at) _ (kept_faults (option_copied options.path) at)
     (λ kept. onward (users_in at) _ (named_faults at.context.path at.context.users at.users) (λ users. done _))
 
-context_faults : (options : AccessOptions) (at : FoundContext) → AreOfFiles (audited_context options at)
-context_faults options at =
+context_faults : (options : AccessOptions) (paths : List (List ℕ)) (at : FoundContext) → AreOfFiles (audited_context options paths at)
+context_faults options paths at =
     onward (descriptor_in at.texts) _ (app_faults at.texts) (λ app. onward (context_parts options at.texts) _ (parts_faults options at.texts) (λ parts. done _))
+
+other_faults : (is_secure : Bool) (at : ContextTexts) → AreOfFiles (other_context is_secure at)
+other_faults is_secure at =
+    onward (descriptor_in at) _ (app_faults at) (λ app. onward (users_in at) _ (named_faults at.context.path at.context.users at.users) (λ users. done _))
+
+server_faults : (name : List ℕ) (file : FileText) → AreOfFiles (server_in name file)
+server_faults name file = onward (text_of name file) _ (text_faults name file) (λ text. server_read name text (located_server text))
+
+difference_faults : (options : AccessOptions) (name : List ℕ) (other : OtherFiles) (contexts : List AuditedContext) → AreOfFiles (difference_report options name other contexts)
+difference_faults options name other contexts =
+    onward (other_server options.is_secure name other) _
+    (onward (checked_server name other) _ (onward (server_in name other.server) _ (server_faults name other.server) (λ server. done {A = Unit {0}} tt))
+    (λ known. each_faults (other_context options.is_secure) (other_faults options.is_secure) other.contexts))
+    (λ others. done _)
+
+access_faults : (options : AccessOptions) (diff : Option (List ℕ)) (accepted : List ℕ) (other : OtherFiles) (contexts : List AuditedContext) → AreOfFiles (access_report options diff accepted other contexts)
+access_faults options None accepted other contexts = done _
+access_faults options (Some name) accepted other contexts = difference_faults options name other contexts
 
 method_faults : (method target : List ℕ) (found : Result Explanation ExplainFault) → AreOfFiles (told method target found)
 method_faults method target (Ok found) = done _
@@ -103,9 +123,9 @@ method_faults method target (Err explain.BadMethod) = λ fault h. only (command.
 method_faults method target (Err explain.NoSuchUser) = λ fault h. only (command.User (quoted [])) fault tt h
 method_faults method target (Err explain.NoMemory) = λ fault h. only command.NoMemory fault tt h
 
-by_faults : (options : AccessOptions) (path : Option (List ℕ)) (accepted : List ℕ) (contexts : List AuditedContext) → AreOfFiles (report_by options path accepted contexts)
-by_faults options None accepted contexts = done _
-by_faults options (Some target) accepted contexts =
+by_faults : (options : AccessOptions) (path : Option (List ℕ)) (accepted : List ℕ) (other : OtherFiles) (contexts : List AuditedContext) → AreOfFiles (report_by options path accepted other contexts)
+by_faults options None accepted other contexts = access_faults options (option_copied options.diff) accepted other contexts
+by_faults options (Some target) accepted other contexts =
     onward (explained options target contexts) _
     (method_faults (method_of options) target (explanation (sites_of options.viewer contexts) (method_of options) target)) (λ text. done _)
 
@@ -125,13 +145,13 @@ viewer_faults (Some (asked.Role role)) contexts = done {A = Unit {0}} tt
 
 report_faults : (options : AccessOptions) (texts : List FoundContext) (files : FurtherFiles) → AreOfFiles (report_on options texts files)
 report_faults options texts files =
-    onward (each (audited_context options) texts) _ (each_faults (audited_context options) (context_faults options) texts) (λ contexts.
+    onward (audited_contexts options texts) _ (each_faults (audited_context options (paths_of texts)) (context_faults options (paths_of texts)) texts) (λ contexts.
     onward (asked_text (option_copied options.accept) files.accept) _ (further_faults (option_copied options.accept) files.accept) (λ accepted.
     onward (asked_text (option_copied options.lines) files.lines) _ (further_faults (option_copied options.lines) files.lines) (λ lines.
     onward (check_viewer options.viewer contexts) _ (viewer_faults options.viewer contexts) (λ known.
-    by_faults options (option_copied options.path) accepted (located (option_copied options.lines) lines contexts)))))
+    by_faults options (option_copied options.path) accepted files.other (located (option_copied options.lines) lines contexts)))))
 
 pub all_faults : (options : AccessOptions) (config : List ℕ) (file : FileText) (texts : List FoundContext) (files : FurtherFiles) → AreOfFiles (report_for options config file texts files)
 all_faults options config file texts files =
-    onward (server_in config file) _ (onward (text_of config file) _ (text_faults config file) (λ text. server_read config text (located_server text)))
+    onward (server_in config file) _ (server_faults config file)
     (λ server. report_faults options texts files)

@@ -23,9 +23,10 @@ names_more mappings i mapping before after name patterns within is so_far its li
     ∙ ap (λ tail. servlet_names (take i mappings) ++ tail) (append-nil (names_of (get_or mappings i mapping)))))))))
 
 -- The same rows of the same patterns.
-pub same_rows : (Is : List ReportedRow → Type 0) (found made : ContextPatterns) (others texts : List (List ℕ)) (rows : List Row) → found ≡ made → others ≡ texts
-    → Is (map (reported_row found others) rows) → Is (map (reported_row made texts) rows)
-same_rows Is found made others texts rows patterns_are others_are is =
-    let of_made : ContextPatterns → Type 0 = λ patterns. Is (map (reported_row patterns texts) rows) in
-    let of_texts : List (List ℕ) → Type 0 = λ listed. Is (map (reported_row found listed) rows) in
+pub same_rows : (Is : List ReportedRow → Type 0) (found made : ContextPatterns) (others texts : List (List ℕ)) (reaches : List (List ℕ) × List ℕ) (rows : List Row)
+    → found ≡ made → others ≡ texts
+    → Is (map (reported_row found others reaches) rows) → Is (map (reported_row made texts reaches) rows)
+same_rows Is found made others texts reaches rows patterns_are others_are is =
+    let of_made : ContextPatterns → Type 0 = λ patterns. Is (map (reported_row patterns texts reaches) rows) in
+    let of_texts : List (List ℕ) → Type 0 = λ listed. Is (map (reported_row found listed reaches) rows) in
     subst of_made patterns_are (subst of_texts others_are is)

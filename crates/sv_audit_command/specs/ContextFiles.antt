@@ -5,12 +5,12 @@ use Rattle.sv_deployments.specs.Folders.{FolderFiles}
 use Rattle.sv_descriptor.specs.declared.login.FormLogin.{FormLogin}
 use Rattle.sv_files.specs.Files.{file_at}
 use Rattle.sv_files.specs.declared.files.File.{File}
+use Rattle.sv_findings.specs.declared.surroundings.LoginPage.{LoginPage}
 use Rattle.sv_program.specs.FileLine.{text_of}
 use Rattle.sv_uri.specs.Canonical.{canonical}
 use Rattle.sv_uri.specs.declared.fault.PathFault.{PathFault}
 use Rattle.sv_uri.specs.declared.path.Canon.{Canon}
 use Rattle.sv_audit_command.specs.declared.context_files.ContextFiles.{ContextFiles}
-use Rattle.sv_audit_command.specs.declared.context_files.LoginPage.{LoginPage}
 
 -- The files in the folder of this name, if they are known. An empty name means no folder, and so no files.
 abbrev pub known_files : List ℕ → FolderFiles → Option (List File)

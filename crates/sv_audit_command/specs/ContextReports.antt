@@ -1,11 +1,17 @@
 -- What is reported of a context (Jakarta Servlet 6.0, section 13.8).
-use Rattle.std.specs.Prelude.{ℕ, List, map, Option}
+use Rattle.std.specs.Prelude.{ℕ, List, [], ◌∷◌, map, Option, if◌then◌else◌}
+use Rattle.std.specs.List.{flat_map}
+use Rattle.std.specs.Str.{bytes_eq}
 use Rattle.sv_findings.specs.Findings.{findings_of}
 use Rattle.sv_audit.specs.Rows.{table_of}
 use Rattle.sv_findings.specs.declared.finding.Finding.{Finding}
+use Rattle.sv_audit.specs.declared.rows.Row.{Row}
 use Rattle.sv_audit.specs.declared.rows.Table.{Table}
+use Rattle.sv_mapping.specs.Pattern.{is_at_or_below}
+use Rattle.sv_mapping.specs.Within.{path_within}
 use Rattle.sv_report.specs.declared.report.ContextReport.{ContextReport}
 use Rattle.sv_report.specs.declared.report.ReportedFinding.{ReportedFinding}
+use Rattle.sv_report.specs.declared.report.ReportedRow.{ReportedRow}
 use Rattle.sv_audit_command.specs.Accepted as accepting
 use Rattle.sv_audit_command.specs.Key as finding_key
 use Rattle.sv_audit_command.specs.RowPaths.{reported_rows}
@@ -26,13 +32,25 @@ table_in context = table_of context.constraints context.rules
 
 -- The findings of a context, given the text of the accepting file.
 abbrev pub findings_in : AuditedContext → List ℕ → Table → List ReportedFinding
-findings_in context accepted table = map (reported_finding context accepted) (findings_of context.constraints context.rules table context.held)
+findings_in context accepted table = map (reported_finding context accepted) (findings_of context.constraints context.rules table context.surroundings)
+
+-- The path of another context within this one, without the path of this one (section 12.1).
+abbrev pub nested_of : List ℕ → List ℕ → List (List ℕ)
+nested_of path other = if bytes_eq other path then [] else if is_at_or_below path other then path_within path other ∷ [] else []
+
+abbrev pub nested_paths : List (List ℕ) → List ℕ → List (List ℕ)
+nested_paths paths path = flat_map (nested_of path) paths
+
+-- What is reported of the rows.
+abbrev pub rows_in : AuditedContext → List Row → List ReportedRow
+rows_in context rows = reported_rows context.constraints context.mappings (context.surroundings.contexts, context.surroundings.path) rows
 
 -- What follows from its constraints.
 abbrev pub audit_of : Option Asked → List ℕ → AuditedContext → Audit
 audit_of asked accepted context = record {
   viewer = viewer_in asked context.realm;
-  rows = reported_rows context.constraints context.mappings (table_in context).rows;
+  others = nested_paths context.surroundings.contexts context.surroundings.path;
+  rows = rows_in context (table_in context).rows;
   findings = findings_in context accepted (table_in context);
 }
 
@@ -44,6 +62,7 @@ context_report asked accepted context =
       file = context.source.file;
       has_login = context.has_login;
       viewer = its_audit.viewer;
+      others = its_audit.others;
       rows = its_audit.rows;
       findings = its_audit.findings;
       lines = context.source.lines;

@@ -1,15 +1,20 @@
 -- The keys of findings, by which an accepting file names them.
-use Rattle.std.specs.Prelude.{ℕ, List, [], ◌∷◌, ◌++◌, codes, filter, find, map, nat_eq, slice_get, Option, None, Some}
+use Rattle.std.specs.Prelude.{ℕ, Bool, true, false, ◌||◌, List, [], ◌∷◌, ◌++◌, codes, filter, find, map, nat_eq, slice_get, Option, None, Some}
 use Rattle.std.specs.List.{flat_map}
 use Rattle.std.specs.Option.{option_map, option_map_or}
 use Rattle.sv_findings.specs.declared.finding.Finding.{Finding}
-use Rattle.sv_findings.specs.declared.finding.Finding.TheVariants.{Opened, Uncovered, HeadDiffers, Dead, DeadPattern, Escaped, UnknownRole, UnheldRole, UnusedRole}
+use Rattle.sv_findings.specs.declared.finding.Finding.TheVariants.{Opened, Uncovered, ReadOtherwise, HeadDiffers, Dead, DeadPattern, Unreached, Unserved, Escaped, LoginNeeds, UnknownRole, UnheldRole, UnusedRole}
+use Rattle.sv_audit.specs.declared.access.Access.{Access}
+use Rattle.sv_constraints.specs.Covering.{lists}
+use Rattle.sv_constraints.specs.declared.constraint.Auth.{Auth}
+use Rattle.sv_constraints.specs.declared.constraint.Auth.TheVariants as auth
 use Rattle.sv_constraints.specs.declared.constraint.Constraint.{Constraint}
 use Rattle.sv_constraints.specs.declared.constraint.Methods.{Methods}
 use Rattle.sv_policy.specs.Patterns.{lists_pattern}
 use Rattle.sv_program.specs.Uncovered.{methods_text, names_text}
 use Rattle.sv_report.specs.Escaped.{escaped}
 use Rattle.sv_report.specs.FindingWords.{kind_name}
+use Rattle.sv_report.specs.Words.{who_text}
 use Rattle.sv_uri.specs.ContextPath.{shown_context}
 
 -- The pattern, or two quotation marks for the empty one.
@@ -30,17 +35,29 @@ abbrev pub patterns_text : List Constraint → ℕ → List ℕ
 patterns_text constraints number = option_map_or (λ constraint. names_text (words_of constraint)) (constraint_numbered constraints number) []
 
 -- A pattern, and methods as a script has them: `*`, names, or `!` and names.
-abbrev pub uncovered_subject : List ℕ → Methods → List ℕ
-uncovered_subject pattern methods = pattern_word pattern ++ codes " " ++ methods_text methods
+abbrev pub covered_subject : List ℕ → Methods → List ℕ
+covered_subject pattern methods = pattern_word pattern ++ codes " " ++ methods_text methods
 
--- What the finding is about: a pattern with methods, a pattern, the patterns of a constraint, or a role.
+-- The same, and the pattern that decides on other servers.
+abbrev pub otherwise_subject : List ℕ → Methods → List ℕ → List ℕ
+otherwise_subject pattern methods other = covered_subject pattern methods ++ codes " " ++ pattern_word other
+
+-- A pattern, and who may use GET and HEAD there.
+abbrev pub heads_subject : List ℕ → Access → Access → List ℕ
+heads_subject pattern get head = pattern_word pattern ++ codes " GET " ++ who_text true get ++ codes " HEAD " ++ who_text true head
+
+-- What the finding is about: a pattern, with what it opens if it does, the patterns of a constraint, a path, or a role.
 abbrev pub subject : List Constraint → Finding → List ℕ
-subject constraints (Opened pattern number other) = pattern_word pattern
-subject constraints (Uncovered pattern methods) = uncovered_subject pattern methods
-subject constraints (HeadDiffers pattern) = pattern_word pattern
+subject constraints (Opened pattern methods number other) = covered_subject pattern methods
+subject constraints (Uncovered pattern methods) = covered_subject pattern methods
+subject constraints (ReadOtherwise pattern methods other) = otherwise_subject pattern methods other
+subject constraints (HeadDiffers pattern get head) = heads_subject pattern get head
 subject constraints (Dead number) = patterns_text constraints number
 subject constraints (DeadPattern number pattern) = pattern_word pattern
+subject constraints (Unreached number pattern) = pattern_word pattern
+subject constraints (Unserved number pattern) = pattern_word pattern
 subject constraints (Escaped number pattern) = pattern_word pattern
+subject constraints (LoginNeeds path) = path
 subject constraints (UnknownRole number role) = role
 subject constraints (UnheldRole role) = role
 subject constraints (UnusedRole role) = role
@@ -57,14 +74,27 @@ first_number constraints = option_map (λ constraint. constraint.number) (slice_
 abbrev pub first_with : List Constraint → List ℕ → Option ℕ
 first_with constraints pattern = first_number (filter (λ constraint. lists_pattern constraint pattern) constraints)
 
--- The constraint to change: that of the finding, or the first one that has its pattern.
+-- Whether an authorization constraint names the role, or all declared roles (section 13.8.1).
+abbrev pub names_role : Auth → List ℕ → Bool
+names_role auth.Absent role = false
+names_role (auth.Roles names) role = lists names role || lists names (codes "*")
+
+-- The number of the first constraint that names the role.
+abbrev pub first_naming : List Constraint → List ℕ → Option ℕ
+first_naming constraints role = option_map (λ constraint. constraint.number) (find (λ constraint. names_role constraint.auth role) constraints)
+
+-- The constraint to change: that of the finding, or the first one that has its pattern or names its role.
 abbrev pub constraint_of : List Constraint → Finding → Option ℕ
-constraint_of constraints (Opened pattern number other) = Some number
+constraint_of constraints (Opened pattern methods number other) = Some number
 constraint_of constraints (Uncovered pattern methods) = first_with constraints pattern
-constraint_of constraints (HeadDiffers pattern) = first_with constraints pattern
+constraint_of constraints (ReadOtherwise pattern methods other) = first_with constraints pattern
+constraint_of constraints (HeadDiffers pattern get head) = first_with constraints pattern
 constraint_of constraints (Dead number) = Some number
 constraint_of constraints (DeadPattern number pattern) = Some number
+constraint_of constraints (Unreached number pattern) = Some number
+constraint_of constraints (Unserved number pattern) = Some number
 constraint_of constraints (Escaped number pattern) = Some number
+constraint_of constraints (LoginNeeds path) = None
 constraint_of constraints (UnknownRole number role) = Some number
-constraint_of constraints (UnheldRole role) = None
+constraint_of constraints (UnheldRole role) = first_naming constraints role
 constraint_of constraints (UnusedRole role) = None

@@ -1,14 +1,15 @@
 pub mod ConstraintLines
 pub mod Held
 pub mod ContextFiles
+pub mod RowPaths
 pub mod Audited
 pub mod Viewer
 pub mod Kinds
 pub mod Accepted
 pub mod LineFile
 pub mod Key
-pub mod RowPaths
 pub mod ContextReports
 pub mod ExplainedRequest
+pub mod ComparedServers
 pub mod Report
 pub mod AuditCommand

@@ -29,9 +29,8 @@ located_by text context = record {
   rules = context.rules;
   mappings = context.mappings;
   realm = context.realm;
-  held = context.held;
   descriptor = context.descriptor;
-  files = context.files;
+  surroundings = context.surroundings;
 }
 
 abbrev pub first_located : List ℕ → List AuditedContext → List AuditedContext

@@ -4,7 +4,8 @@ use Rattle.std.specs.List.{flat_map}
 use Rattle.sv_text.specs.Steps.{◌>>=◌}
 use Rattle.sv_deployments.specs.declared.folders.FoundContext.{FoundContext}
 use Rattle.sv_descriptor.specs.declared.server.ContextEntry.{ContextEntry}
-use Rattle.sv_program.specs.Configuration.{Step, each, server_in, text_of}
+use Rattle.sv_difference.specs.declared.contexts.ServerDifference.{ServerDifference}
+use Rattle.sv_program.specs.Configuration.{Step, server_in, text_of}
 use Rattle.sv_program.specs.ConfigurationFiles.{contexts_in, readings}
 use Rattle.sv_program.specs.FileStore.{AreRead, FileText, Giving, Reading}
 use Rattle.sv_report.specs.FindingWords.{kind_name}
@@ -14,7 +15,9 @@ use Rattle.sv_report.specs.Keys.{keys_text}
 use Rattle.sv_report.specs.Text.{audit_text}
 use Rattle.sv_report.specs.declared.report.ContextReport.{ContextReport}
 use Rattle.sv_report.specs.declared.report.ReportedFinding.{ReportedFinding}
-use Rattle.sv_audit_command.specs.Audited.{audited_context}
+use Rattle.sv_audit_command.specs.Audited.{audited_contexts}
+use Rattle.sv_audit_command.specs.ComparedServers as compared
+use Rattle.sv_audit_command.specs.ComparedServers.{difference, opened_count, other_server}
 use Rattle.sv_audit_command.specs.ContextReports.{context_report}
 use Rattle.sv_audit_command.specs.ExplainedRequest.{explained}
 use Rattle.sv_audit_command.specs.Kinds.{lists_kind}
@@ -111,17 +114,31 @@ explanation_report options target contexts = do
   its_text ← explained options target contexts
   Ok (without_failures its_text)
 
--- The report on one request if its target is named, and otherwise the one on all access.
-abbrev pub report_by : AccessOptions → Option (List ℕ) → List ℕ → List AuditedContext → Step Report
-report_by options None accepted contexts = Ok (report_of options accepted contexts)
-report_by options (Some target) accepted contexts = explanation_report options target contexts
+abbrev pub difference_in : AccessOptions → ServerDifference → Report
+difference_in options found = record { text = compared.written options.format found; count = opened_count (option_copied options.fail_on) found }
+
+-- The report on what the contexts decide otherwise than those of the other server, whose file has this name.
+abbrev pub difference_report : AccessOptions → List ℕ → OtherFiles → List AuditedContext → Step Report
+difference_report options name other contexts = do
+  others ← other_server options.is_secure name other
+  Ok (difference_in options (difference contexts others))
+
+abbrev pub access_report : AccessOptions → Option (List ℕ) → List ℕ → OtherFiles → List AuditedContext → Step Report
+access_report options None accepted other contexts = Ok (report_of options accepted contexts)
+access_report options (Some name) accepted other contexts = difference_report options name other contexts
+
+-- The report on one request if its target is named, otherwise the one on differences if another server file is named, and
+-- otherwise the one on all access.
+abbrev pub report_by : AccessOptions → Option (List ℕ) → List ℕ → OtherFiles → List AuditedContext → Step Report
+report_by options None accepted other contexts = access_report options (option_copied options.diff) accepted other contexts
+report_by options (Some target) accepted other contexts = explanation_report options target contexts
 
 -- The report, or the first fault: of the contexts' files, of the accepting file, of the file of lines, of the viewer, and
--- of the method.
+-- of the method or of the other server's files.
 abbrev pub report_on : AccessOptions → List FoundContext → FurtherFiles → Step Report
 report_on options found files = do
-  contexts ← each (audited_context options) found
+  contexts ← audited_contexts options found
   accepted ← asked_text (option_copied options.accept) files.accept
   lines ← asked_text (option_copied options.lines) files.lines
   known ← check_viewer options.viewer contexts
-  report_by options (option_copied options.path) accepted (located (option_copied options.lines) lines contexts)
+  report_by options (option_copied options.path) accepted files.other (located (option_copied options.lines) lines contexts)

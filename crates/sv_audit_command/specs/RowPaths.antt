@@ -9,6 +9,9 @@ use Rattle.sv_audit.specs.declared.rows.Row.{Row}
 use Rattle.sv_constraints.specs.Covering.{all_patterns}
 use Rattle.sv_constraints.specs.declared.constraint.Constraint.{Constraint}
 use Rattle.sv_descriptor.specs.declared.servlet.ServletMapping.{ServletMapping}
+use Rattle.sv_findings.specs.Reach.{reach_of}
+use Rattle.sv_findings.specs.declared.reach.Reach.{Reach}
+use Rattle.sv_findings.specs.declared.reach.Reach.TheVariants.{Reached}
 use Rattle.sv_mapping.specs.BestMatch.{best}
 use Rattle.sv_report.specs.declared.report.ReportedRow.{ReportedRow}
 use Rattle.sv_audit_command.specs.declared.row_paths.ContextPatterns.{ContextPatterns}
@@ -53,17 +56,24 @@ abbrev pub narrower_of : List (List ℕ) → Option (List ℕ) → Narrower
 narrower_of others None = none_listed
 narrower_of others (Some pattern) = narrower_in others pattern
 
--- A row with an example, the servlet that answers it, and the patterns that are chosen before that of the row.
-abbrev pub reported_row : ContextPatterns → List (List ℕ) → Row → ReportedRow
-reported_row patterns others its_row = record {
+-- Whether requests reach a pattern, given the paths of all contexts and of this one. Without a pattern they do.
+abbrev pub reach_at : List (List ℕ) × List ℕ → Option (List ℕ) → Reach
+reach_at reaches None = Reached
+reach_at reaches (Some pattern) = reach_of reaches.0 reaches.1 pattern
+
+-- A row with an example, the servlet that answers it, the patterns that are chosen before that of the row, and whether
+-- requests reach it.
+abbrev pub reported_row : ContextPatterns → List (List ℕ) → List (List ℕ) × List ℕ → Row → ReportedRow
+reported_row patterns others reaches its_row = record {
   row = its_row;
   example = examples.example patterns.constraints its_row.pattern;
   servlet = servlet_of patterns (examples.example patterns.constraints its_row.pattern);
   narrower = narrower_of others its_row.pattern;
+  reach = reach_at reaches its_row.pattern;
 }
 
 abbrev pub row_patterns : List Row → List (List ℕ)
 row_patterns rows = flat_map (λ row. option_to_list row.pattern) rows
 
-abbrev pub reported_rows : List Constraint → List ServletMapping → List Row → List ReportedRow
-reported_rows constraints mappings rows = map (reported_row (context_patterns constraints mappings) (row_patterns rows)) rows
+abbrev pub reported_rows : List Constraint → List ServletMapping → List (List ℕ) × List ℕ → List Row → List ReportedRow
+reported_rows constraints mappings reaches rows = map (reported_row (context_patterns constraints mappings) (row_patterns rows) reaches) rows

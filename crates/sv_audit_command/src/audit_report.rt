@@ -8,9 +8,11 @@ ghost use Rattle.sv_audit_command.specs.Report as spec;
 
 use crate::access_options::{AccessOptions, Format};
 use crate::audited_context::{AuditedContext, audited_contexts};
+use crate::compared_servers;
+use crate::compared_servers::{difference, opened_count, other_server};
 use crate::context_reports::{Asking, context_reports};
 use crate::explained_request::explained;
-use crate::further_files::{FurtherFiles, asked_text};
+use crate::further_files::{FurtherFiles, OtherFiles, asked_text};
 use crate::kinds::lists_kind;
 use crate::line_file::located;
 use crate::viewer::check_viewer;
@@ -35,7 +37,8 @@ pub struct Report {
 /// # Errors
 /// The first fault: of the descriptor and the users of each context, of the accepting file, of the file of lines, then
 /// [`CommandFault::User`] if no context has the user, and then [`CommandFault::Method`] if the method of the request that
-/// is explained is not a token. Or [`CommandFault::NoMemory`].
+/// is explained is not a token, or the fault of the other server file or of the files of its contexts. Or
+/// [`CommandFault::NoMemory`].
 pub(crate) fn report_on(
     alloc: Global,
     found: &[FoundContext],
@@ -49,22 +52,57 @@ pub(crate) fn report_on(
     let lines = asked_text(alloc, options.lines, &files.lines)?;
     check_viewer(alloc, options.viewer, contexts.as_slice())?;
     let contexts = located(alloc, options.lines, lines.as_str(), contexts)?;
-    report_by(alloc, contexts, accepted.as_str(), options)
+    report_by(alloc, contexts, accepted.as_str(), &files.other, options)
 }
 
-/// Returns the report on one request if its target is named, and otherwise the one on all access.
+/// Returns the report on one request if its target is named, otherwise the one on differences if another server file is
+/// named, and otherwise the one on all access.
 fn report_by(
     alloc: Global,
     contexts: Listed<AuditedContext>,
     accepted: &str,
+    other: &OtherFiles,
     options: &AccessOptions<'_>,
 ) -> Result<Report, CommandFault>
-    ensures { Gives command_fault result (spec.report_by options.now (option_copied options.now.path) accepted.now contexts) }
+    ensures { Gives command_fault result (spec.report_by options.now (option_copied options.now.path) accepted.now other.now contexts) }
 {
     match options.path {
         Some(target) => explanation_report(alloc, contexts, target, options),
+        None => access_report(alloc, contexts, accepted, other, options),
+    }
+}
+
+fn access_report(
+    alloc: Global,
+    contexts: Listed<AuditedContext>,
+    accepted: &str,
+    other: &OtherFiles,
+    options: &AccessOptions<'_>,
+) -> Result<Report, CommandFault>
+    ensures { Gives command_fault result (spec.access_report options.now (option_copied options.now.diff) accepted.now other.now contexts) }
+{
+    match options.diff {
+        Some(name) => difference_report(alloc, contexts, name, other, options),
         None => Ok(report_of(alloc, contexts, accepted, options)?),
     }
+}
+
+/// Returns the report on what the contexts decide otherwise than those of the other server, whose file has this name.
+fn difference_report(
+    alloc: Global,
+    contexts: Listed<AuditedContext>,
+    name: &str,
+    other: &OtherFiles,
+    options: &AccessOptions<'_>,
+) -> Result<Report, CommandFault>
+    ensures { Gives command_fault result (spec.difference_report options.now name.now other.now contexts) }
+{
+    let others = other_server(alloc, options.is_secure, name, other)?;
+    let found = difference(alloc, contexts, others.as_slice())?;
+    Ok(Report {
+        text: compared_servers::written(alloc, options.format, &found)?,
+        count: opened_count(options.fail_on, &found),
+    })
 }
 
 fn explanation_report(

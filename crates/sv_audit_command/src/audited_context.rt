@@ -7,17 +7,19 @@ ghost use Rattle.sv_program.specs.Configuration.{each};
 ghost use Rattle.sv_audit_command.specs.Audited as spec;
 
 use crate::access_options::AccessOptions;
-use crate::context_files::{ContextFiles, files_in};
+use crate::context_files::files_in;
 use crate::descriptor_lines::constraint_lines;
 use crate::held::held_in;
+use crate::row_paths::servlet_patterns;
 use std::alloc::Global;
 use sv_audit::without_transport;
 use sv_constraints::{Constraint, Rules};
 use sv_deployments::FoundContext;
 use sv_descriptor::{Descriptor, ServletMapping, WebApp};
+use sv_findings::Surroundings;
 use sv_program::{CommandFault, ContextTexts, FileText, descriptor_in, realm_in};
 use sv_realm::Realm;
-use sv_text::{Listed, NoMemory, Text};
+use sv_text::{Listed, NoMemory, Text, copied_texts};
 
 /// What the files of a context say about access to it.
 #[derive(Drop)]
@@ -34,12 +36,10 @@ pub(crate) struct AuditedContext {
     pub(crate) mappings: Listed<ServletMapping>,
     /// The users.
     pub(crate) realm: Realm,
-    /// The roles of the users, if the context names a users file.
-    pub(crate) held: Option<Listed<Text>>,
     /// The descriptor, if it is kept.
     pub(crate) descriptor: Option<Descriptor>,
-    /// The static files.
-    pub(crate) files: ContextFiles,
+    /// What surrounds the constraints.
+    pub(crate) surroundings: Surroundings,
 }
 
 /// A descriptor, and the context that it describes.
@@ -64,11 +64,35 @@ pub(crate) fn audited_contexts(
     found: &[FoundContext],
     options: &AccessOptions<'_>,
 ) -> Result<Listed<AuditedContext>, CommandFault>
-    ensures { Gives command_fault result (each (spec.audited_context options.now) found.now) }
+    ensures { Gives command_fault result (spec.audited_contexts options.now found.now) }
+{
+    let paths = paths_of(alloc, found)?;
+    contexts_beside(alloc, found, paths.as_slice(), options)
+}
+
+/// Copies the paths of contexts, in order.
+fn paths_of(alloc: Global, found: &[FoundContext]) -> Result<Listed<Text>, NoMemory>
+    ensures { GivesAnswer result (spec.paths_of found.now) }
+{
+    let mut paths = Vec::with_capacity(alloc, found.len())?;
+    for found in found {
+        paths.push(Text::copy_of(alloc, found.texts.context.path.as_str())?)?;
+    }
+    Ok(Listed::from_vec(paths))
+}
+
+/// Reads the contexts, given the paths of all contexts.
+fn contexts_beside(
+    alloc: Global,
+    found: &[FoundContext],
+    paths: &[Text],
+    options: &AccessOptions<'_>,
+) -> Result<Listed<AuditedContext>, CommandFault>
+    ensures { Gives command_fault result (each (spec.audited_context options.now paths.now) found.now) }
 {
     let mut contexts = Vec::new(alloc);
     for found in found {
-        let context = audited_context(alloc, found, options)?;
+        let context = audited_context(alloc, found, paths, options)?;
         contexts.push(context)?;
     }
     Ok(Listed::from_vec(contexts))
@@ -77,13 +101,14 @@ pub(crate) fn audited_contexts(
 fn audited_context(
     alloc: Global,
     found: &FoundContext,
+    paths: &[Text],
     options: &AccessOptions<'_>,
 ) -> Result<AuditedContext, CommandFault>
-    ensures { Gives command_fault result (spec.audited_context options.now found.now) }
+    ensures { Gives command_fault result (spec.audited_context options.now paths.now found.now) }
 {
     let web_app = descriptor_in(alloc, &found.texts)?.into_web_app();
     let parts = context_parts(alloc, &found.texts, options)?;
-    Ok(context_of(alloc, found, web_app, parts, options.is_secure)?)
+    Ok(context_of(alloc, found, web_app, parts, paths, options.is_secure)?)
 }
 
 /// What is read of a context beside its constraints: the descriptor if it is kept, the users, and their roles.
@@ -132,13 +157,13 @@ fn context_of(
     found: &FoundContext,
     web_app: WebApp,
     parts: ContextParts,
+    paths: &[Text],
     is_secure: bool,
 ) -> Result<AuditedContext, NoMemory>
-    ensures { GivesAnswer result (spec.context_of is_secure (spec.source_of found.now.texts) web_app parts (spec.its_files found.now web_app)) }
+    ensures { GivesAnswer result (spec.context_of is_secure (spec.source_of found.now.texts) web_app parts (spec.surroundings_of paths.now found.now web_app parts.held)) }
 {
     let source = source_of(alloc, &found.texts)?;
-    let folder = found.texts.context.files.as_str();
-    let files = files_in(alloc, folder, &found.files, &web_app.login)?;
+    let surroundings = surroundings_of(alloc, found, &web_app, parts.held, paths)?;
     let has_login = web_app.login.is_some();
     let constraints = constraints_over(alloc, is_secure, web_app.constraints)?;
     Ok(AuditedContext {
@@ -148,14 +173,36 @@ fn context_of(
         rules: web_app.rules,
         mappings: web_app.servlet_mappings,
         realm: parts.realm,
-        held: parts.held,
         descriptor: parts.descriptor,
-        files,
+        surroundings,
+    })
+}
+
+/// Returns what surrounds the constraints of a context with this descriptor, given the paths of all contexts.
+fn surroundings_of(
+    alloc: Global,
+    found: &FoundContext,
+    web_app: &WebApp,
+    held: Option<Listed<Text>>,
+    paths: &[Text],
+) -> Result<Surroundings, NoMemory>
+    ensures { GivesAnswer result (spec.surroundings_of paths.now found.now web_app.now held) }
+{
+    let folder = found.texts.context.files.as_str();
+    let files = files_in(alloc, folder, &found.files, &web_app.login)?;
+    let servlets = servlet_patterns(alloc, web_app.servlet_mappings.as_slice())?;
+    Ok(Surroundings {
+        contexts: copied_texts(alloc, paths)?,
+        path: Text::copy_of(alloc, found.texts.context.path.as_str())?,
+        held,
+        servlets,
+        files: files.paths,
+        login_page: files.login_page,
     })
 }
 
 /// Returns the constraints as a request meets them that arrives over such a connection.
-fn constraints_over(
+pub(crate) fn constraints_over(
     alloc: Global,
     is_secure: bool,
     constraints: Listed<Constraint>,

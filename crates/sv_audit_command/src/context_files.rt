@@ -11,6 +11,7 @@ use std::alloc::Global;
 use sv_deployments::FolderFiles;
 use sv_descriptor::FormLogin;
 use sv_files::File;
+use sv_findings::LoginPage;
 use sv_text::{Listed, NoMemory, Text};
 use sv_uri::canon;
 use sv_uri::fault::CanonFault;
@@ -22,15 +23,6 @@ pub(crate) struct ContextFiles {
     pub(crate) paths: Option<Listed<Text>>,
     /// The login page, if it is one of the files, and a text.
     pub(crate) login_page: Option<LoginPage>,
-}
-
-/// A login page among the static files of a context.
-#[derive(Drop)]
-pub(crate) struct LoginPage {
-    /// Its path within the context.
-    pub(crate) path: Text,
-    /// Its text.
-    pub(crate) text: Text,
 }
 
 /// Returns what an audit uses of the files in the folder of this name. A folder that is not available is no fault:

@@ -1,6 +1,6 @@
 //! What is reported of contexts.
 
-ghost use Rattle.std.specs.Prelude.{◌≡◌, ℕ, List, map, option_copied};
+ghost use Rattle.std.specs.Prelude.{◌≡◌, ◌++◌, ℕ, List, OnOk, map};
 ghost use Rattle.sv_descriptor.specs.Names.{HaveSame};
 ghost use Rattle.sv_policy.specs.Groups.{IsGrouped};
 ghost use Rattle.sv_text.specs.Gives.{GivesAnswer};
@@ -14,9 +14,10 @@ use crate::key::{constraint_of, key_of};
 use crate::row_paths::reported_rows;
 use crate::viewer::viewer_in;
 use std::alloc::Global;
-use sv_audit::{Table, table_of};
+use sv_audit::{Row, Table, table_of};
 use sv_descriptor::Names;
-use sv_findings::{Finding, findings_of};
+use sv_findings::{Finding, Reaches, Surroundings, findings_of};
+use sv_mapping::{is_at_or_below, path_within};
 use sv_policy::{Groups, grouped};
 use sv_report::{ContextReport, ReportedFinding, ReportedRow, Viewer};
 use sv_text::{Listed, NoMemory, Text};
@@ -59,6 +60,7 @@ fn context_report(
         file: source.file,
         has_login: context.has_login,
         viewer: audit.viewer,
+        others: audit.others,
         rows: audit.rows,
         findings: audit.findings,
         lines: source.lines,
@@ -69,6 +71,7 @@ fn context_report(
 #[derive(Drop)]
 struct Audit {
     viewer: Option<Viewer>,
+    others: Listed<Text>,
     rows: Listed<ReportedRow>,
     findings: Listed<ReportedFinding>,
 }
@@ -80,9 +83,64 @@ fn audit_of(alloc: Global, context: &AuditedContext, asking: Asking<'_>) -> Resu
     let table = table_of(alloc, constraints, &context.rules)?;
     Ok(Audit {
         viewer: viewer_in(alloc, asking.viewer, &context.realm)?,
+        others: others_in(alloc, &context.surroundings)?,
         findings: findings_in(alloc, context, asking.accepted, &table)?,
-        rows: reported_rows(alloc, constraints, context.mappings.as_slice(), table.rows)?,
+        rows: rows_in(alloc, context, table.rows)?,
     })
+}
+
+fn rows_in(
+    alloc: Global,
+    context: &AuditedContext,
+    rows: Listed<Row>,
+) -> Result<Listed<ReportedRow>, NoMemory>
+    ensures { GivesAnswer result (spec.rows_in context.now rows) }
+{
+    let surroundings = &context.surroundings;
+    let paths = surroundings.contexts.as_slice();
+    let reaches = Reaches::of(alloc, paths, surroundings.path.as_str())?;
+    reported_rows(
+        alloc,
+        context.constraints.as_slice(),
+        context.mappings.as_slice(),
+        &reaches,
+        rows,
+    )
+}
+
+fn others_in(alloc: Global, surroundings: &Surroundings) -> Result<Listed<Text>, NoMemory>
+    ensures { GivesAnswer result (spec.nested_paths surroundings.now.contexts surroundings.now.path) }
+{
+    let paths = surroundings.contexts.as_slice();
+    nested_paths(alloc, paths, surroundings.path.as_str())
+}
+
+/// Returns the paths of the other contexts within the one with this path, without the path of this one.
+fn nested_paths(alloc: Global, paths: &[Text], path: &str) -> Result<Listed<Text>, NoMemory>
+    ensures { GivesAnswer result (spec.nested_paths paths.now path.now) }
+{
+    let mut nested = Vec::new(alloc);
+    for other in paths {
+        push_nested(&mut nested, alloc, path, other.as_str())?;
+    }
+    Ok(Listed::from_vec(nested))
+}
+
+fn push_nested(
+    nested: &mut Vec<Text>,
+    alloc: Global,
+    path: &str,
+    other: &str,
+) -> Result<(), NoMemory>
+    ensures { OnOk result (nested.new.items ≡ nested.old.items ++ spec.nested_of path.now other.now) }
+{
+    if other == path {
+        return Ok(());
+    }
+    if is_at_or_below(path, other) {
+        nested.push(Text::copy_of(alloc, path_within(path, other))?)?;
+    }
+    Ok(())
 }
 
 fn findings_in(
@@ -94,18 +152,14 @@ fn findings_in(
     ensures { GivesAnswer result (spec.findings_in context.now accepted.now table.now) }
 {
     let constraints = context.constraints.as_slice();
-    let held = held_texts(&context.held);
-    let findings = findings_of(alloc, constraints, &context.rules, table, held)?;
+    let findings = findings_of(
+        alloc,
+        constraints,
+        &context.rules,
+        table,
+        &context.surroundings,
+    )?;
     reported_findings(alloc, context, accepted, findings)
-}
-
-fn held_texts(held: &Option<Listed<Text>>) -> Option<&[Text]>
-    ensures { option_copied result ≡ held.now }
-{
-    match held {
-        Some(held) => Some(held.as_slice()),
-        None => None,
-    }
 }
 
 fn reported_findings(
@@ -138,7 +192,7 @@ fn reported_finding(
 {
     let constraints = context.constraints.as_slice();
     let key = key_of(alloc, context.source.path.as_str(), constraints, &finding)?;
-    let constraint = constraint_of(groups, &finding);
+    let constraint = constraint_of(constraints, groups, &finding);
     let is_accepted = is_accepted(lines, key.as_str());
     Ok(ReportedFinding {
         finding,

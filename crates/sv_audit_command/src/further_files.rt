@@ -11,9 +11,7 @@ ghost use Rattle.sv_audit_command.specs.Report as spec;
 use crate::access_options::AccessOptions;
 use std::alloc::Global;
 use sv_descriptor::{ContextEntry, LocatedReadFault, read_located_server};
-use sv_program::{
-    CommandFault, ContextTexts, FileStore, FileText, Unavailable, read_contexts,
-};
+use sv_program::{CommandFault, ContextTexts, FileStore, FileText, Unavailable, read_contexts};
 use sv_text::{Listed, NoMemory, Text};
 
 /// The texts of the files that the options name. A text is ignored if its option names no file.

@@ -9,12 +9,13 @@ ghost use Rattle.sv_text.specs.Gives.{GivesAnswer};
 ghost use Rattle.sv_audit_command.specs.Key as spec;
 
 use std::alloc::Global;
+use sv_audit::Access;
+use sv_constraints::{Auth, Constraint, Methods, lists};
 use sv_findings::Finding;
-use sv_constraints::{Constraint, Methods};
 use sv_mapping::Pattern;
 use sv_policy::Groups;
 use sv_report::escaped::escaped;
-use sv_report::kind_name;
+use sv_report::{kind_name, who_text};
 use sv_text::{NoMemory, Text};
 use sv_uri::shown_context;
 
@@ -46,15 +47,23 @@ fn push_subject(
     ensures { OnOk result (string_bytes key.new ≡ string_bytes key.old ++ spec.subject constraints.now finding.now) }
 {
     match finding {
-        Finding::Opened(pattern, _, _) => push_pattern(key, pattern.as_str()),
-        Finding::Uncovered(pattern, methods) => push_uncovered(key, pattern.as_str(), methods),
-        Finding::HeadDiffers(pattern) => push_pattern(key, pattern.as_str()),
+        Finding::Opened(pattern, methods, _, _) => push_covered(key, pattern.as_str(), methods),
+        Finding::Uncovered(pattern, methods) => push_covered(key, pattern.as_str(), methods),
+        Finding::ReadOtherwise(pattern, methods, other) => {
+            push_read_otherwise(key, pattern.as_str(), methods, other.as_str())
+        }
+        Finding::HeadDiffers(pattern, get, head) => {
+            push_heads(key, alloc, pattern.as_str(), get, head)
+        }
         Finding::Dead(number) => push_patterns_of(key, alloc, constraints, *number),
         Finding::DeadPattern(_, pattern) => push_pattern(key, pattern.as_str()),
+        Finding::Unreached(_, pattern) => push_pattern(key, pattern.as_str()),
+        Finding::Unserved(_, pattern) => push_pattern(key, pattern.as_str()),
         Finding::Escaped(_, pattern) => push_pattern(key, pattern.as_str()),
-        Finding::UnknownRole(_, role) => push_role(key, role.as_str()),
-        Finding::UnheldRole(role) => push_role(key, role.as_str()),
-        Finding::UnusedRole(role) => push_role(key, role.as_str()),
+        Finding::LoginNeeds(path) => push_name(key, path.as_str()),
+        Finding::UnknownRole(_, role) => push_name(key, role.as_str()),
+        Finding::UnheldRole(role) => push_name(key, role.as_str()),
+        Finding::UnusedRole(role) => push_name(key, role.as_str()),
     }
 }
 
@@ -64,10 +73,10 @@ fn push_pattern(key: &mut String, pattern: &str) -> Result<(), NoMemory>
     Ok(key.push_str(pattern_word(pattern))?)
 }
 
-fn push_role(key: &mut String, role: &str) -> Result<(), NoMemory>
-    ensures { OnOk result (string_bytes key.new ≡ string_bytes key.old ++ role.now) }
+fn push_name(key: &mut String, name: &str) -> Result<(), NoMemory>
+    ensures { OnOk result (string_bytes key.new ≡ string_bytes key.old ++ name.now) }
 {
-    Ok(key.push_str(role)?)
+    Ok(key.push_str(name)?)
 }
 
 /// Returns the pattern, or two quotation marks for the empty one.
@@ -77,12 +86,44 @@ fn pattern_word(pattern: &str) -> &str
     if pattern.is_empty() { "\"\"" } else { pattern }
 }
 
-fn push_uncovered(key: &mut String, pattern: &str, methods: &Methods) -> Result<(), NoMemory>
-    ensures { OnOk result (string_bytes key.new ≡ string_bytes key.old ++ spec.uncovered_subject pattern.now methods.now) }
+fn push_covered(key: &mut String, pattern: &str, methods: &Methods) -> Result<(), NoMemory>
+    ensures { OnOk result (string_bytes key.new ≡ string_bytes key.old ++ spec.covered_subject pattern.now methods.now) }
 {
     push_pattern(key, pattern)?;
     key.push_str(" ")?;
     push_methods(key, methods)
+}
+
+fn push_read_otherwise(
+    key: &mut String,
+    pattern: &str,
+    methods: &Methods,
+    other: &str,
+) -> Result<(), NoMemory>
+    ensures { OnOk result (string_bytes key.new ≡ string_bytes key.old ++ spec.otherwise_subject pattern.now methods.now other.now) }
+{
+    push_covered(key, pattern, methods)?;
+    key.push_str(" ")?;
+    push_pattern(key, other)
+}
+
+/// Appends a pattern, and who may use GET and HEAD there.
+fn push_heads(
+    key: &mut String,
+    alloc: Global,
+    pattern: &str,
+    get: &Access,
+    head: &Access,
+) -> Result<(), NoMemory>
+    ensures { OnOk result (string_bytes key.new ≡ string_bytes key.old ++ spec.heads_subject pattern.now get.now head.now) }
+{
+    let get = who_text(alloc, true, get)?;
+    let head = who_text(alloc, true, head)?;
+    push_pattern(key, pattern)?;
+    key.push_str(" GET ")?;
+    key.push_str(get.as_str())?;
+    key.push_str(" HEAD ")?;
+    push_name(key, head.as_str())
 }
 
 /// Appends `*` for all methods, names for only these, or `!` and names for all but these.
@@ -174,21 +215,48 @@ fn push_pattern_words(
     Ok(())
 }
 
-/// Returns the number of the constraint to change: that of the finding, or the first one that has its pattern. A
-/// role that is not held or not used has none.
-pub(crate) fn constraint_of(groups: &Groups<'_>, finding: &Finding) -> Option<u64>
-    ensures { (constraints : List Constraint) → IsGrouped constraints groups.now → result ≡ spec.constraint_of constraints finding.now }
+/// Returns the number of the constraint to change: that of the finding, or the first one that has its pattern or names its
+/// role. What a login page needs has none, nor has a role that is not used.
+pub(crate) fn constraint_of(
+    constraints: &[Constraint],
+    groups: &Groups<'_>,
+    finding: &Finding,
+) -> Option<u64>
+    ensures { IsGrouped constraints.now groups.now → result ≡ spec.constraint_of constraints.now finding.now }
 {
     match finding {
-        Finding::Opened(_, number, _) => Some(*number),
+        Finding::Opened(_, _, number, _) => Some(*number),
         Finding::Uncovered(pattern, _) => first_with(groups, pattern.as_str()),
-        Finding::HeadDiffers(pattern) => first_with(groups, pattern.as_str()),
+        Finding::ReadOtherwise(pattern, _, _) => first_with(groups, pattern.as_str()),
+        Finding::HeadDiffers(pattern, _, _) => first_with(groups, pattern.as_str()),
         Finding::Dead(number) => Some(*number),
         Finding::DeadPattern(number, _) => Some(*number),
+        Finding::Unreached(number, _) => Some(*number),
+        Finding::Unserved(number, _) => Some(*number),
         Finding::Escaped(number, _) => Some(*number),
+        Finding::LoginNeeds(_) => None,
         Finding::UnknownRole(number, _) => Some(*number),
-        Finding::UnheldRole(_) => None,
+        Finding::UnheldRole(role) => first_naming(constraints, role.as_str()),
         Finding::UnusedRole(_) => None,
+    }
+}
+
+/// Returns the number of the first constraint that names the role, or all declared roles.
+fn first_naming(constraints: &[Constraint], role: &str) -> Option<u64>
+    ensures { result ≡ spec.first_naming constraints.now role.now }
+{
+    let constraint = constraints
+        .iter()
+        .find(|constraint| names_role(constraint, role))?;
+    Some(constraint.number)
+}
+
+fn names_role(constraint: &Constraint, role: &str) -> bool
+    ensures { result ≡ spec.names_role constraint.now.auth role.now }
+{
+    match &constraint.auth {
+        Auth::Absent => false,
+        Auth::Roles(names) => lists(names.as_slice(), role) || lists(names.as_slice(), "*"),
     }
 }
 

@@ -6,6 +6,7 @@ mod access_options;
 mod audit_command;
 mod audit_report;
 mod audited_context;
+mod compared_servers;
 mod context_files;
 mod context_reports;
 mod descriptor_lines;

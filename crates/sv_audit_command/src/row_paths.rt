@@ -13,6 +13,7 @@ use std::alloc::Global;
 use sv_audit::{Narrower, Row, example_of, narrower};
 use sv_constraints::Constraint;
 use sv_descriptor::ServletMapping;
+use sv_findings::{Reach, Reaches};
 use sv_mapping::{Pattern, PatternFault, PatternTable};
 use sv_report::ReportedRow;
 use sv_text::{Listed, NoMemory, Text};
@@ -39,27 +40,29 @@ pub(crate) fn reported_rows(
     alloc: Global,
     constraints: &[Constraint],
     mappings: &[ServletMapping],
+    reaches: &Reaches<'_>,
     rows: Listed<Row>,
 ) -> Result<Listed<ReportedRow>, NoMemory>
-    ensures { GivesAnswer result (spec.reported_rows constraints.now mappings.now rows) }
+    ensures { GivesAnswer result (spec.reported_rows constraints.now mappings.now reaches.now rows) }
 {
     let patterns = context_patterns(alloc, constraints, mappings)?;
     let texts = row_patterns(alloc, rows.as_slice())?;
     let others = borrowed(alloc, texts.as_slice())?;
-    rows_with(alloc, &patterns, others.as_slice(), rows)
+    rows_with(alloc, &patterns, others.as_slice(), reaches, rows)
 }
 
 fn rows_with(
     alloc: Global,
     patterns: &ContextPatterns,
     others: &[&str],
+    reaches: &Reaches<'_>,
     rows: Listed<Row>,
 ) -> Result<Listed<ReportedRow>, NoMemory>
-    ensures { GivesAnswer result (map (spec.reported_row patterns.now (map (λ other. other.now) others.now)) rows) }
+    ensures { GivesAnswer result (map (spec.reported_row patterns.now (map (λ other. other.now) others.now) reaches.now) rows) }
 {
     let mut reported = Vec::new(alloc);
     for row in rows.into_vec() {
-        reported.push(reported_row(alloc, patterns, others, row)?)?;
+        reported.push(reported_row(alloc, patterns, others, reaches, row)?)?;
     }
     Ok(Listed::from_vec(reported))
 }
@@ -68,19 +71,36 @@ fn reported_row(
     alloc: Global,
     patterns: &ContextPatterns,
     others: &[&str],
+    reaches: &Reaches<'_>,
     row: Row,
 ) -> Result<ReportedRow, NoMemory>
-    ensures { GivesAnswer result (spec.reported_row patterns.now (map (λ other. other.now) others.now) row) }
+    ensures { GivesAnswer result (spec.reported_row patterns.now (map (λ other. other.now) others.now) reaches.now row) }
 {
     let example = row_example(alloc, &patterns.constraints, &row.pattern)?;
     let servlet = servlet_of(alloc, patterns, &example)?;
     let narrower = row_narrower(alloc, others, &row.pattern)?;
+    let reach = row_reach(alloc, reaches, &row.pattern)?;
     Ok(ReportedRow {
         row,
         example,
         servlet,
         narrower,
+        reach,
     })
+}
+
+/// Returns whether requests reach a pattern. Without a pattern they do.
+fn row_reach(
+    alloc: Global,
+    reaches: &Reaches<'_>,
+    pattern: &Option<Text>,
+) -> Result<Reach, NoMemory>
+    ensures { GivesAnswer result (spec.reach_at reaches.now pattern.now) }
+{
+    match pattern {
+        Some(pattern) => reaches.reach(alloc, pattern.as_str()),
+        None => Ok(Reach::Reached),
+    }
 }
 
 fn row_example(
@@ -214,6 +234,29 @@ fn mapped_patterns(alloc: Global, mappings: &[ServletMapping]) -> Result<Vec<Pat
         push_copies(&mut patterns, alloc, mapping.url_patterns.as_slice())?;
     }
     Ok(patterns)
+}
+
+/// Copies the texts of the patterns of servlet mappings, in order.
+pub(crate) fn servlet_patterns(
+    alloc: Global,
+    mappings: &[ServletMapping],
+) -> Result<Listed<Text>, NoMemory>
+    ensures { GivesAnswer result (spec.mapped_patterns mappings.now) }
+{
+    let mut texts = Vec::new(alloc);
+    for mapping in mappings {
+        push_texts_of(&mut texts, alloc, mapping.url_patterns.as_slice())?;
+    }
+    Ok(Listed::from_vec(texts))
+}
+
+fn push_texts_of(texts: &mut Vec<Text>, alloc: Global, patterns: &[Pattern]) -> Result<(), NoMemory>
+    ensures { OnOk result (texts.new.items ≡ texts.old.items ++ patterns.now) }
+{
+    for pattern in patterns {
+        texts.push(Text::copy_of(alloc, pattern.text())?)?;
+    }
+    Ok(())
 }
 
 fn push_copies(

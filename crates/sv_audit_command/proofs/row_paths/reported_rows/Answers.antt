@@ -7,6 +7,6 @@ use Rattle.sv_audit_command.proofs.row_paths.reported_rows.Goals as goal
 pub returns : goal.returns
 returns c =
     same_rows (λ rows. GivesAnswer c.rows_with.result rows) c.in_ok-patterns.patterns (context_patterns c.args.constraints.now c.args.mappings.now)
-    (map (λ other. other.now) c.as_slice-3.result.now) (row_patterns c.args.rows) c.args.rows c.in_ok-patterns.ensures
+    (map (λ other. other.now) c.as_slice-3.result.now) (row_patterns c.args.rows) c.args.reaches.now c.args.rows c.in_ok-patterns.ensures
     (ap (map (λ other. other.now)) c.as_slice-3.ensures.value ∙ c.in_ok-others.ensures ∙ c.as_slice-2.ensures ∙ c.in_ok-texts.ensures ∙ ap row_patterns c.as_slice.ensures)
     c.rows_with.ensures
