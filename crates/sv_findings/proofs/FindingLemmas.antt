@@ -5,12 +5,12 @@ use Rattle.std.proofs.lemmas.List.Elements.{All-append, All-cons, All-contains, 
 use Rattle.std.proofs.lemmas.List.Sums.{AllPass-from_list_all}
 use Rattle.std.proofs.lemmas.Slice.Eq.{bytes_eq-Decides, starts_is}
 use Rattle.std.proofs.Common.{◌≡◌, ℕ, ◌<◌, Bool, true, false, not, ◌||◌, ◌&&◌, List, [], ◌∷◌, ◌++◌, map, length, drop, codes, refl, ap, sym, ◌∙◌, cond, Option, None, Some, inl, inr, ◌==◌}
-use Rattle.std.specs.Prelude.{All, Contains, IsTrue, filter, find, slice_index_or}
+use Rattle.std.specs.Prelude.{All, Contains, Err, IsTrue, Ok, Result, filter, find, slice_index_or}
 use Rattle.std.specs.List.{flat_map, list_all, list_any}
 use Rattle.std.specs.Option.{option_and_then, option_map_or, option_to_list}
 use Rattle.std.specs.Str.{bytes_eq}
 use Rattle.sv_mapping.specs.BestMatch.{best_pattern, is_best, outranks}
-use Rattle.sv_mapping.specs.Pattern.{form, is_extension_pattern, matches}
+use Rattle.sv_mapping.specs.Pattern.{form, is_at_or_below, is_extension_pattern, matches}
 use Rattle.sv_mapping.specs.Segments.{is_rooted}
 use Rattle.sv_realm.specs.declared.caller.Caller.{Caller}
 use Rattle.sv_constraints.specs.Covering.{all_patterns, covering, covers, covers_method, lists, patterns_in}
@@ -38,7 +38,7 @@ use Rattle.sv_audit.proofs.RowCells.{row_cell}
 use Rattle.sv_audit.proofs.Said.{said}
 use Rattle.sv_audit.proofs.Witness.{found}
 use Rattle.sv_audit.specs.Access.{cell_at, roles_meant}
-use Rattle.sv_findings.proofs.OpenedLemmas.{AreOpen, AreOpenFor, are_open, fresh, is_fresh, kept_all, opened_exact, some_open}
+use Rattle.sv_findings.proofs.OpenedLemmas.{AreOpen, AreOpenFor, are_open, fresh, is_fresh, kept_all, kept_any, opened_exact, some_open}
 use Rattle.sv_audit.proofs.Shapes.{IsShaped, nothing_matches, served_shaped}
 use Rattle.sv_findings.specs.Dead.{is_tried_late, dead_among, dead_patterns, dead_patterns_in, decides_nothing, escaped, escaped_in, is_beaten, is_dead, is_escaped}
 use Rattle.sv_audit.specs.Shapes.{matches_nothing}
@@ -53,11 +53,20 @@ use Rattle.sv_findings.specs.ReachedRows.{is_row_reached}
 use Rattle.sv_findings.specs.Reach.{is_reached}
 use Rattle.sv_findings.specs.Readings.{covers_one, covers_part, first_covering, is_covered, is_late, is_prefix, read_as, read_at, read_otherwise, share_method}
 use Rattle.sv_findings.proofs.MeetingForms.{none_held, none_meets}
+use Rattle.sv_findings.specs.LoginNeeds.{bars, is_barred, is_loaded, login_needs, needed_at, needed_of, needed_paths, parts, references_after, target_of}
+use Rattle.sv_findings.specs.declared.surroundings.LoginPage.{LoginPage}
+use Rattle.sv_findings.specs.Reach.{serves}
+use Rattle.sv_constraints.specs.declared.owned_decision.OwnedDecision.{OwnedDecision}
+use Rattle.sv_constraints.specs.declared.owned_decision.OwnedDecision.TheVariants.{Open, Login, Denied}
+use Rattle.sv_uri.specs.Canonical.{canonical}
+use Rattle.sv_uri.specs.declared.fault.PathFault.{PathFault}
+use Rattle.sv_uri.specs.declared.path.Canon.{Canon}
+use Rattle.sv_mapping.specs.Within.{path_within}
 use Rattle.sv_findings.specs.Unserved.{are_many, is_unserved, may_answer, may_be_among, unserved, unserved_among, unserved_in}
 use Rattle.sv_findings.specs.Unreached.{is_unreached, unreached, unreached_in}
 use Rattle.sv_findings.specs.declared.surroundings.Surroundings.{Surroundings}
 use Rattle.sv_findings.specs.Heads.{head_at, head_on, straying, strays}
-use Rattle.sv_audit.specs.Reading.{Kind, Passes, kind_and_cause, said_to}
+use Rattle.sv_audit.specs.Reading.{IsDenied, Kind, NeedsLogin, Passes, kind_and_cause, said_to}
 use Rattle.sv_audit.specs.Rows.{in_row_order, match_every_path, other_paths, row_at, table_of}
 use Rattle.sv_audit.specs.declared.access.Access.{Access}
 use Rattle.sv_audit.specs.declared.access.Access.TheVariants.{Unconstrained, Uncovered, UncoveredDenied, Precluded, NeedsTls, Everyone, AnyLogin, Roles}
@@ -500,6 +509,61 @@ module _ (constraints : List Constraint) (rules : Rules) (surroundings : Surroun
   unreached_right : All (IsRight constraints rules surroundings) (unreached surroundings.contexts surroundings.path constraints)
   unreached_right = joined (IsRight constraints rules surroundings) (unreached_in surroundings.contexts surroundings.path) constraints (λ k d within. unreached_at (slice_index_or constraints k d) (All-contains_itself constraints k d within))
 
+-- ---- What the login page needs.
+barred_kind : (decision : OwnedDecision) → bars decision ≡ true → (kind_and_cause decision).0 ≡ Passes → ⊥
+barred_kind (Open why) is passes = false≢true is
+barred_kind (Login why) is passes = let apart : NeedsLogin ≡ Passes = passes in cc
+barred_kind (Denied why) is passes = let apart : IsDenied ≡ Passes = passes in cc
+
+module _ (constraints : List Constraint) (rules : Rules) (surroundings : Surroundings) where
+  abbrev IsBarred : List ℕ → Type 0
+  IsBarred path = is_barred constraints rules path ≡ true
+
+  one_barred : (within path : List ℕ) (served barred : Bool) → is_barred constraints rules within ≡ barred → lists (cond (served && barred) (within ∷ []) []) path ≡ true → IsBarred path
+  one_barred within path false barred is there = absurd (false≢true there)
+  one_barred within path true false is there = absurd (false≢true there)
+  one_barred within path true true is there = elim (or_cases (bytes_eq within path) false there) [ inl same ↦ ap (is_barred constraints rules) (sym ((bytes_eq-Decides within path).0 same)) ∙ is | inr none ↦ absurd (false≢true none) ]
+
+  abbrev needs : List ℕ → List (List ℕ)
+  needs target = needed_at surroundings.contexts surroundings.path constraints rules target
+
+  barred_of : (path : List ℕ) (result : Result Canon PathFault) → lists (needed_of surroundings.contexts surroundings.path constraints rules result) path ≡ true → IsBarred path
+  barred_of path (Ok canon) there =
+      one_barred (path_within surroundings.path canon.path) path (is_at_or_below surroundings.path canon.path && serves surroundings.contexts surroundings.path canon.path)
+      (is_barred constraints rules (path_within surroundings.path canon.path)) refl there
+  barred_of path (Err fault) there = absurd (false≢true there)
+
+  module _ (page : LoginPage) (known : surroundings.login_page ≡ Some page) where
+    abbrev named_by_page : List (List ℕ)
+    named_by_page = references_after [] (parts page.text)
+
+    abbrev all_needed : List (List ℕ)
+    all_needed = needed_paths surroundings.contexts surroundings.path constraints rules page
+
+    need_at : (path : List ℕ) → lists (different all_needed) path ≡ true → IsRight constraints rules surroundings (finding.LoginNeeds path)
+    need_at path there =
+        found (IsRight constraints rules surroundings (finding.LoginNeeds path)) (λ reference. is_loaded reference && lists (needs (target_of surroundings.path page.path reference)) path) named_by_page
+        (sym (any_of_joined (λ listed. bytes_eq listed path) (λ reference. needs (target_of surroundings.path page.path reference)) (filter is_loaded named_by_page)
+        ∙ kept_any (λ reference. lists (needs (target_of surroundings.path page.path reference)) path) is_loaded named_by_page)
+        ∙ sym (different_lists all_needed path) ∙ there)
+        (λ k d within its.
+        let reference : List ℕ = slice_index_or named_by_page k d in
+        let needed : lists (needs (target_of surroundings.path page.path reference)) path ≡ true = and_right (is_loaded reference) (lists (needs (target_of surroundings.path page.path reference)) path) its in (
+          page,
+          known,
+          barred_kind (verdict constraints rules (codes "GET") path None) (barred_of path (canonical (target_of surroundings.path page.path reference)) needed),
+          (reference, in_texts named_by_page reference (All-contains_itself named_by_page k d within), needed),
+        ))
+
+    needs_right : All (IsRight constraints rules surroundings) (map finding.LoginNeeds (different all_needed))
+    needs_right =
+        All-map (IsRight constraints rules surroundings) finding.LoginNeeds (different all_needed)
+        (λ k d within. need_at (slice_index_or (different all_needed) k d) (in_texts (different all_needed) (slice_index_or (different all_needed) k d) (All-contains_itself (different all_needed) k d within)))
+
+  page_right : (page : Option LoginPage) → surroundings.login_page ≡ page → All (IsRight constraints rules surroundings) (login_needs surroundings.contexts surroundings.path constraints rules page)
+  page_right None known = All-nil (IsRight constraints rules surroundings)
+  page_right (Some page) known = needs_right page known
+
 -- ---- Unserved patterns.
 module _ (constraints : List Constraint) (rules : Rules) (surroundings : Surroundings) where
   abbrev is_out : List (List ℕ) → List ℕ → Bool
@@ -590,10 +654,18 @@ module _ (constraints : List Constraint) (rules : Rules) (surroundings : Surroun
       (All-append The (unknown_among rules.declared constraints) (unheld_roles rules.declared surroundings.held constraints) (unknown_right constraints rules surroundings) (unheld_from constraints rules surroundings surroundings.held refl))
       (unused_right constraints rules surroundings)
 
+  abbrev by_page : List Finding
+  by_page = login_needs surroundings.contexts surroundings.path constraints rules surroundings.login_page
+
+  abbrev by_pattern : List Finding
+  by_pattern = pattern_findings constraints surroundings.contexts surroundings.path surroundings
+
   all_right : CanonicalHasShape → All The (findings_of constraints rules (table_of constraints rules) surroundings)
   all_right shapes =
-      All-append The (row_findings constraints rows ++ pattern_findings constraints surroundings.contexts surroundings.path surroundings) (role_findings rules.declared surroundings.held constraints)
-      (All-append The (row_findings constraints rows) (pattern_findings constraints surroundings.contexts surroundings.path surroundings) by_row_right (by_pattern_right shapes)) by_role_right
+      All-append The (row_findings constraints rows ++ by_pattern ++ by_page) (role_findings rules.declared surroundings.held constraints)
+      (All-append The (row_findings constraints rows ++ by_pattern) by_page
+      (All-append The (row_findings constraints rows) by_pattern by_row_right (by_pattern_right shapes))
+      (page_right constraints rules surroundings surroundings.login_page refl)) by_role_right
 
 pub findings_right : CanonicalHasShape → FindingsAreRight
 findings_right shapes constraints rules surroundings = all_right constraints rules surroundings shapes

@@ -33,6 +33,7 @@ use Rattle.sv_findings.specs.Dead.{dead_patterns_in, decides_nothing, escaped, i
 use Rattle.sv_findings.specs.FindingLaws.{DeadIsFound, HeadIsFound, IsReached, OpenedIsFound, ReadingIsFound, UncoveredIsFound, UnreachedIsFound, says_dead, says_head, says_opened, says_read, says_uncovered, says_unreached}
 use Rattle.sv_audit.specs.Callers.{has_method, is_closed, is_open, same_callers, same_logins}
 use Rattle.sv_findings.specs.Findings.{findings_of, pattern_findings}
+use Rattle.sv_findings.specs.LoginNeeds.{login_needs}
 use Rattle.sv_findings.specs.RoleFindings.{role_findings}
 use Rattle.sv_findings.specs.Uncovered.{is_left_open, is_left_out, uncovered_at}
 use Rattle.sv_findings.specs.Dead.{is_tried_late}
@@ -169,14 +170,17 @@ module _ (constraints : List Constraint) (rules : Rules) (surroundings : Surroun
   abbrev by_pattern : List Finding
   by_pattern = pattern_findings constraints surroundings.contexts surroundings.path surroundings
 
+  abbrev by_page : List Finding
+  by_page = login_needs surroundings.contexts surroundings.path constraints rules surroundings.login_page
+
   abbrev by_role : List Finding
   by_role = role_findings rules.declared surroundings.held constraints
 
   among_rows : list_any test by_row ≡ true → IsAmong
-  among_rows some = any_first test (by_row ++ by_pattern) by_role (any_first test by_row by_pattern some)
+  among_rows some = any_first test (by_row ++ by_pattern ++ by_page) by_role (any_first test (by_row ++ by_pattern) by_page (any_first test by_row by_pattern some))
 
   among_patterns : list_any test by_pattern ≡ true → IsAmong
-  among_patterns some = any_first test (by_row ++ by_pattern) by_role (any_last test by_row by_pattern some)
+  among_patterns some = any_first test (by_row ++ by_pattern ++ by_page) by_role (any_first test (by_row ++ by_pattern) by_page (any_last test by_row by_pattern some))
 
   among_opened : list_any test o ≡ true → IsAmong
   among_opened some = among_rows (any_first test (o ++ u ++ r) h (any_first test (o ++ u) r (any_first test o u some)))

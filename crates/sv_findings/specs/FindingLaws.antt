@@ -20,11 +20,13 @@ use Rattle.sv_findings.specs.Findings.{findings_of}
 use Rattle.sv_findings.specs.Reach.{is_reached}
 use Rattle.sv_findings.specs.Readings.{is_prefix}
 use Rattle.sv_findings.specs.Unserved.{holds}
+use Rattle.sv_findings.specs.LoginNeeds.{needed_at, parts, references_after, target_of}
+use Rattle.sv_findings.specs.declared.surroundings.LoginPage.{LoginPage}
 use Rattle.sv_audit.specs.Reading.{Passes, kind_and_cause, said_to}
 use Rattle.sv_audit.specs.Rows.{table_of}
 use Rattle.sv_audit.specs.declared.access.Access.{Access}
 use Rattle.sv_findings.specs.declared.finding.Finding.{Finding}
-use Rattle.sv_findings.specs.declared.finding.Finding.TheVariants.{Opened, Uncovered, ReadOtherwise, HeadDiffers, Dead, DeadPattern, Unreached, Unserved, Escaped, UnknownRole, UnheldRole, UnusedRole}
+use Rattle.sv_findings.specs.declared.finding.Finding.TheVariants.{Opened, Uncovered, ReadOtherwise, HeadDiffers, Dead, DeadPattern, Unreached, Unserved, Escaped, LoginNeeds, UnknownRole, UnheldRole, UnusedRole}
 use Rattle.sv_findings.specs.declared.surroundings.Surroundings.{Surroundings}
 
 -- The names that an authorization constraint lists.
@@ -78,9 +80,10 @@ IsAccessOf constraints rules pattern method access =
 -- the accesses are those of GET and HEAD, and a caller, or a request without one, fares differently with them; the
 -- constraint covers nothing; the constraint has the pattern, which is never best; the constraint has the pattern, which
 -- is not reached; the constraint has the pattern, the files are known, and at no path that it matches is there a servlet,
--- a file or a folder that holds one; the constraint has the pattern, with a percent sign; the constraint names the role,
--- which is not declared; a constraint means the role, which is declared if any is, and no user has it; the role is
--- declared, and no constraint means it.
+-- a file or a folder that holds one; the constraint has the pattern, with a percent sign; the login page refers to the
+-- path, and a request without a caller does not pass there; the constraint names the role, which is not declared; a
+-- constraint means the role, which is declared if any is, and no user has it; the role is declared, and no constraint
+-- means it.
 abbrev pub IsRight : List Constraint → Rules → Surroundings → Finding → Type 0
 IsRight constraints rules surroundings (Opened pattern methods number other) = ((method : List ℕ) → IsTrue (covers_method methods method) → IsRestricted constraints pattern method × IsOpen constraints rules pattern method)
     × ((method : List ℕ) × IsTrue (covers_method methods method) × AreBothOn constraints pattern method number other)
@@ -102,13 +105,15 @@ IsRight constraints rules surroundings (Unserved its_number pattern) = (constrai
     × ((path : List ℕ) → IsTrue (matches pattern path) → (list_any (λ servlet. matches servlet path) surroundings.servlets ≡ false) × (list_any (holds path) files ≡ false))
 IsRight constraints rules surroundings (Escaped its_number pattern) = (constraint : Constraint) × Contains constraints constraint × (constraint.number ≡ its_number)
     × IsTrue (lists (patterns_in constraint) pattern) × IsTrue (is_escaped pattern)
+IsRight constraints rules surroundings (LoginNeeds path) = (page : LoginPage) × (surroundings.login_page ≡ Some page) × ((kind_and_cause (verdict constraints rules (codes "GET") path None)).0 ≢ Passes)
+    × ((reference : List ℕ) × IsTrue (lists (references_after [] (parts page.text)) reference)
+    × IsTrue (lists (needed_at surroundings.contexts surroundings.path constraints rules (target_of surroundings.path page.path reference)) path))
 IsRight constraints rules surroundings (UnknownRole its_number role) = (constraint : Constraint) × Contains constraints constraint × (constraint.number ≡ its_number)
     × IsTrue (lists (names_in constraint.auth) role) × (lists rules.declared role ≡ false)
 IsRight constraints rules surroundings (UnheldRole role) = (users : List (List ℕ)) × (surroundings.held ≡ Some users) × IsMeant constraints rules role
     × IsTrue (length rules.declared == 0 || lists rules.declared role) × (lists users role ≡ false)
 IsRight constraints rules surroundings (UnusedRole role) = IsTrue (lists rules.declared role)
     × ((constraint : Constraint) → Contains constraints constraint → lists (roles_meant rules.declared constraint.auth) role ≡ false)
-IsRight constraints rules surroundings other = ⊥
 
 -- Each finding of constraints and their table is right.
 abbrev pub FindingsAreRight : Type 0

@@ -8,6 +8,7 @@ use Rattle.sv_audit.specs.declared.rows.Row.{Row}
 use Rattle.sv_audit.specs.declared.rows.Table.{Table}
 use Rattle.sv_findings.specs.Dead.{dead_among, dead_patterns, escaped}
 use Rattle.sv_findings.specs.Heads.{head_at}
+use Rattle.sv_findings.specs.LoginNeeds.{login_needs}
 use Rattle.sv_findings.specs.Opened.{opened_at}
 use Rattle.sv_findings.specs.ReachedRows.{is_row_reached}
 use Rattle.sv_findings.specs.Readings.{read_otherwise}
@@ -41,4 +42,4 @@ reached_rows surroundings rows = filter (is_row_reached surroundings.contexts su
 -- The findings of constraints and their table, given what surrounds them.
 abbrev pub findings_of : List Constraint → Rules → Table → Surroundings → List Finding
 findings_of constraints rules table surroundings =
-    row_findings constraints (reached_rows surroundings table.rows) ++ pattern_findings constraints surroundings.contexts surroundings.path surroundings ++ role_findings rules.declared surroundings.held constraints
+    row_findings constraints (reached_rows surroundings table.rows) ++ pattern_findings constraints surroundings.contexts surroundings.path surroundings ++ login_needs surroundings.contexts surroundings.path constraints rules surroundings.login_page ++ role_findings rules.declared surroundings.held constraints

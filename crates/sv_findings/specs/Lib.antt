@@ -7,6 +7,7 @@ pub mod Readings
 pub mod Heads
 pub mod Unreached
 pub mod Unserved
+pub mod LoginNeeds
 pub mod RoleFindings
 pub mod Findings
 pub mod FindingLaws

@@ -25,6 +25,10 @@ front_of (Exact text) = unless_root text
 abbrev pub chosen_path : List (List ℕ) → List ℕ → Option (List ℕ)
 chosen_path contexts path = find (is_chosen contexts path) contexts
 
+-- Whether the context serves a target with this canonical path.
+abbrev pub serves : List (List ℕ) → List ℕ → List ℕ → Bool
+serves contexts context path = option_map_or (λ chosen. bytes_eq chosen context) (chosen_path contexts path) false
+
 -- The paths belong to the context. They are hidden if their front is (section 10.5).
 abbrev pub own_reach : List ℕ → Reach
 own_reach front = if is_protected front then Hidden else Reached

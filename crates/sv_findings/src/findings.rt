@@ -10,6 +10,7 @@ ghost use Rattle.sv_findings.specs.declared.finding.Finding.TheVariants as findi
 use crate::dead::{push_escaped, push_ineffective};
 use crate::finding::Finding;
 use crate::heads::push_heads;
+use crate::login_needs::push_login_needs;
 use crate::opened::push_opened;
 use crate::reach::Reaches;
 use crate::reached_rows::reached_rows;
@@ -47,6 +48,14 @@ pub fn findings_of(
     let rows = reached_rows(alloc, &reaches, table.rows.as_slice())?;
     push_by_row(&mut findings, alloc, constraints, rules, rows.as_slice())?;
     push_by_pattern(&mut findings, alloc, constraints, &reaches, surroundings)?;
+    push_login_needs(
+        &mut findings,
+        alloc,
+        &reaches,
+        constraints,
+        rules,
+        &surroundings.login_page,
+    )?;
     push_by_role(
         &mut findings,
         alloc,

@@ -15,7 +15,8 @@ use sv_uri::laws::canonical_has_shape;
 /// reported, and there is a caller, or a request without one, that passes with one of them and not with the other, or is
 /// asked to log in only for one. A dead constraint covers no request, a dead pattern is the best match of no canonical
 /// path, an unreached one is hidden or belongs to another context, and at no path that an unserved one matches is there a
-/// servlet, a file or a folder that holds one. An unknown role is named and not declared, an
+/// servlet, a file or a folder that holds one. The login page refers to what it needs, and a request without a caller
+/// does not pass there. An unknown role is named and not declared, an
 /// unheld one is named and no user has it, and an unused one is declared and not named.
 pub fn findings_are_right()
     ensures { FindingsAreRight }

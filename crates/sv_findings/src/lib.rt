@@ -7,6 +7,7 @@ mod finding;
 mod findings;
 mod heads;
 mod laws;
+mod login_needs;
 mod opened;
 mod reach;
 mod reached_rows;

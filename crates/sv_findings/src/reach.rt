@@ -79,6 +79,23 @@ impl<'a> Reaches<'a> {
         })
     }
 
+    /// Returns the path of the context.
+    pub fn context(&self) -> &str
+        ensures { result.now ≡ self.now.1 }
+    {
+        self.context
+    }
+
+    /// Returns whether the context serves a target with this canonical path.
+    pub fn serves(&self, path: &str) -> bool
+        ensures { result ≡ spec.serves self.now.0 self.now.1 path.now }
+    {
+        match chosen_path(&self.index, self.contexts, path) {
+            Some(chosen) => chosen == self.context,
+            None => false,
+        }
+    }
+
     /// Returns whether requests reach a pattern.
     ///
     /// # Errors

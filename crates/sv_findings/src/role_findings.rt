@@ -204,7 +204,7 @@ fn is_listed(names: &[&str], name: &str) -> bool
 }
 
 /// Appends a text, if it is not among the texts yet.
-fn push_once<'a>(texts: &mut Vec<&'a str>, text: &'a str) -> Result<(), NoMemory>
+pub fn push_once<'a>(texts: &mut Vec<&'a str>, text: &'a str) -> Result<(), NoMemory>
     ensures { OnOk result (map (λ one. one.now) texts.new.items ≡ kept_once (map (λ one. one.now) texts.old.items) text.now) }
 {
     if is_listed(texts.as_slice(), text) {
