@@ -1,15 +1,18 @@
 -- The cells of access tables in HTML.
-use Rattle.std.specs.Prelude.{ℕ, List, [], ◌∷◌, codes}
+use Rattle.std.specs.Prelude.{ℕ, List, [], ◌∷◌, codes, Option}
 use Rattle.std.specs.List.{flat_map}
 use Rattle.sv_audit.specs.declared.rows.Group.{Group}
 use Rattle.sv_page.specs.CellWords.{class_of, explanation, reason}
 use Rattle.sv_report.specs.Details.{detail_text}
 use Rattle.sv_page.specs.Markup.{html_text}
 use Rattle.sv_report.specs.Parts.{joined}
-use Rattle.sv_report.specs.Viewers.{entry_text}
+use Rattle.sv_report.specs.Viewers.{context_text, entry_text, hidden_text}
 use Rattle.sv_report.specs.Words.{methods_text, pattern_text}
 use Rattle.sv_report.specs.declared.report.ContextReport.{ContextReport}
 use Rattle.sv_report.specs.declared.report.ReportedRow.{ReportedRow}
+use Rattle.sv_report.specs.declared.report.Viewer.{Viewer}
+use Rattle.sv_findings.specs.declared.reach.Reach.{Reach}
+use Rattle.sv_findings.specs.declared.reach.Reach.TheVariants.{Reached, Hidden, Elsewhere}
 
 -- A cell in the color of its class: the methods and who may use them, and why.
 unfoldable pub cell_html : List ℕ → List ℕ → List ℕ → List ℕ → List ℕ
@@ -33,9 +36,22 @@ unfoldable pub row_of : List ℕ → List ℕ → List ℕ → List ℕ
 row_of pattern details cells = joined (
     codes "<tr><th scope=\"row\"><code>" ∷ pattern ∷ codes "</code><small>" ∷ details ∷ codes "</small></th><td>" ∷ cells ∷ codes "</td></tr>\n" ∷ [])
 
--- A row: its pattern with an example and its exceptions, and a cell for each group of methods.
+-- The cell of folders that are never served (sections 10.5 and 10.6).
+abbrev pub hidden_cell : Option Viewer → List ℕ
+hidden_cell viewer = cell_html (codes "hidden") (codes "all") (hidden_text viewer) (codes "The container never serves these folders (sections 10.5 and 10.6).")
+
+-- The cell of paths that belong to the context with this path (section 12.1).
+abbrev pub foreign_cell : List ℕ → List ℕ
+foreign_cell path = cell_html (codes "hidden") (codes "all") (context_text path) (codes "Another context answers these paths (section 12.1).")
+
+abbrev pub reached_html : ContextReport → ReportedRow → List ℕ → List ℕ
+reached_html context reported pattern = row_of pattern (html_text (detail_text context.path reported)) (flat_map (group_html context) reported.row.groups)
+
+-- The row of a pattern: with an example, its exceptions and a cell for each group of methods, or with the reason why no request reaches it.
+abbrev pub reach_html : ContextReport → ReportedRow → Reach → List ℕ → List ℕ
+reach_html context reported Reached pattern = reached_html context reported pattern
+reach_html context reported Hidden pattern = row_of pattern [] (hidden_cell context.viewer)
+reach_html context reported (Elsewhere path) pattern = row_of pattern [] (foreign_cell path)
+
 unfoldable pub row_html : ContextReport → ReportedRow → List ℕ
-row_html context reported = row_of
-    (html_text (pattern_text reported.row.pattern))
-    (html_text (detail_text context.path reported))
-    (flat_map (group_html context) reported.row.groups)
+row_html context reported = reach_html context reported reported.reach (html_text (pattern_text reported.row.pattern))

@@ -2,14 +2,13 @@
 use Rattle.std.specs.Prelude.{ℕ, Bool, nat_le, List, [], ◌∷◌, codes, length, Option, take, if◌then◌else◌}
 use Rattle.std.specs.List.{flat_map}
 use Rattle.sv_uri.specs.ContextPath.{shown_context}
-use Rattle.sv_page.specs.HtmlCells.{cell_html, row_html, row_of}
+use Rattle.sv_page.specs.HtmlCells.{cell_html, foreign_cell, hidden_cell, row_html, row_of}
 use Rattle.sv_page.specs.Markup.{html_text}
 use Rattle.sv_report.specs.Parts.{joined}
 use Rattle.sv_report.specs.Places.{number_text}
-use Rattle.sv_report.specs.Viewers.{hidden_text, viewer_title}
+use Rattle.sv_report.specs.Viewers.{viewer_title}
 use Rattle.sv_page.specs.declared.html_tables.TheConstants.{MAX_SHOWN_ROWS}
 use Rattle.sv_report.specs.declared.report.ContextReport.{ContextReport}
-use Rattle.sv_report.specs.declared.report.ReportedRow.{ReportedRow}
 use Rattle.sv_report.specs.declared.report.Viewer.{Viewer}
 
 unfoldable pub heading_of : List ℕ → List ℕ → List ℕ
@@ -22,14 +21,13 @@ abbrev pub title_html : Option Viewer → List ℕ
 title_html viewer = joined (
     codes "<div class=\"table\">\n<table>\n<tr><th scope=\"col\">pattern</th><th scope=\"col\">" ∷ html_text (viewer_title viewer) ∷ codes "</th></tr>\n" ∷ [])
 
--- The first rows, at most so many.
-abbrev pub first_rows : ℕ → List ReportedRow → List ReportedRow
-first_rows most rows = if nat_le (length rows) most then rows else take most rows
+-- The first items, at most so many.
+abbrev pub first_of : {A : Type 0} → ℕ → List A → List A
+first_of most items = if nat_le (length items) most then items else take most items
 
 -- The protected folders (sections 10.5 and 10.6).
 abbrev pub hidden_html : Option Viewer → List ℕ
-hidden_html viewer = row_of (codes "/WEB-INF/*, /META-INF/*") []
-    (cell_html (codes "hidden") (codes "all") (hidden_text viewer) (codes "The container never serves these folders (sections 10.5 and 10.6)."))
+hidden_html viewer = row_of (codes "/WEB-INF/*, /META-INF/*") [] (hidden_cell viewer)
 
 -- The login post of a form login (section 13.6.3.1).
 abbrev pub login_html : Bool → List ℕ
@@ -37,15 +35,19 @@ login_html has_login =
     if has_login then row_of (codes "*/j_security_check") [] (cell_html (codes "post") (codes "POST") (codes "login post") (codes "The container answers the login form (section 13.6.3.1)."))
     else []
 
+-- The paths of another context within the one with this path (section 12.1).
+abbrev pub foreign_html : List ℕ → List ℕ → List ℕ
+foreign_html context other = row_of (joined (html_text other ∷ codes "/*" ∷ [])) [] (foreign_cell (joined (context ∷ other ∷ [])))
+
 abbrev pub other_rows : ContextReport → List ℕ
-other_rows context = joined (hidden_html context.viewer ∷ login_html context.has_login ∷ [])
+other_rows context = joined (hidden_html context.viewer ∷ login_html context.has_login ∷ flat_map (foreign_html context.path) context.others ∷ [])
 
 -- A note if not all rows are shown.
 abbrev pub note_html : ℕ → List ℕ
 note_html count = if nat_le count MAX_SHOWN_ROWS then [] else joined (codes "<p>Only the first 2,000 of " ∷ number_text count ∷ codes " rows are shown.</p>\n" ∷ [])
 
 unfoldable pub shown_html : ContextReport → List ℕ
-shown_html context = flat_map (row_html context) (first_rows MAX_SHOWN_ROWS context.rows)
+shown_html context = flat_map (row_html context) (first_of MAX_SHOWN_ROWS context.rows)
 
 -- The part on a context: its path, its file and its table.
 unfoldable pub section_html : ContextReport → List ℕ

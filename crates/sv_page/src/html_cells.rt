@@ -1,6 +1,6 @@
 //! The cells of access tables in HTML.
 
-ghost use Rattle.std.specs.Prelude.{◌≡◌, ◌++◌, OnOk, string_bytes};
+ghost use Rattle.std.specs.Prelude.{◌≡◌, ◌++◌, [], OnOk, string_bytes};
 ghost use Rattle.std.specs.List.{flat_map};
 ghost use Rattle.sv_text.specs.Gives.{GivesAnswer};
 ghost use Rattle.sv_page.specs.HtmlCells as spec;
@@ -9,22 +9,69 @@ use crate::cell_words::{class_of, explanation, reason};
 use crate::markup::html_text;
 use std::alloc::Global;
 use sv_audit::Group;
+use sv_findings::Reach;
 use sv_report::{
-    ContextReport, ReportedRow, detail_text, entry_text, joined, methods_text, pattern_text,
+    ContextReport, ReportedRow, Viewer, context_text, detail_text, entry_text, hidden_text, joined,
+    methods_text, pattern_text,
 };
 use sv_text::{NoMemory, Text};
 
-/// Returns a row: its pattern with an example and its exceptions, and a cell for each group of methods.
+/// Returns the row of a pattern: with an example, its exceptions and a cell for each group of methods, or with the reason
+/// why no request reaches it.
 #[tactic(auto, unfolding(crate::specs::HtmlCells::row_html))]
 pub fn row_html(alloc: Global, context: &ContextReport, row: &ReportedRow) -> Result<Text, NoMemory>
     ensures { GivesAnswer result (spec.row_html context.now row.now) }
 {
     let pattern = pattern_text(alloc, &row.row.pattern)?;
     let pattern = html_text(alloc, pattern.as_str())?;
+    match &row.reach {
+        Reach::Reached => reached_html(alloc, context, row, pattern.as_str()),
+        Reach::Hidden => hidden_row(alloc, &context.viewer, pattern.as_str()),
+        Reach::Elsewhere(path) => foreign_row(alloc, path.as_str(), pattern.as_str()),
+    }
+}
+
+fn reached_html(
+    alloc: Global,
+    context: &ContextReport,
+    row: &ReportedRow,
+    pattern: &str,
+) -> Result<Text, NoMemory>
+    ensures { GivesAnswer result (spec.reached_html context.now row.now pattern.now) }
+{
     let details = detail_text(alloc, context.path.as_str(), row)?;
     let details = html_text(alloc, details.as_str())?;
     let cells = cells_html(alloc, context, row.row.groups.as_slice())?;
-    row_of(alloc, pattern.as_str(), details.as_str(), cells.as_str())
+    row_of(alloc, pattern, details.as_str(), cells.as_str())
+}
+
+/// Returns the row of folders that are never served. The pattern is HTML.
+pub fn hidden_row(alloc: Global, viewer: &Option<Viewer>, pattern: &str) -> Result<Text, NoMemory>
+    ensures { GivesAnswer result (spec.row_of pattern.now [] (spec.hidden_cell viewer.now)) }
+{
+    let cell = cell_html(
+        alloc,
+        "hidden",
+        "all",
+        hidden_text(viewer),
+        "The container never serves these folders (sections 10.5 and 10.6).",
+    )?;
+    row_of(alloc, pattern, "", cell.as_str())
+}
+
+/// Returns the row of paths that belong to the context with this path. The pattern is HTML.
+pub fn foreign_row(alloc: Global, path: &str, pattern: &str) -> Result<Text, NoMemory>
+    ensures { GivesAnswer result (spec.row_of pattern.now [] (spec.foreign_cell path.now)) }
+{
+    let who = context_text(alloc, path)?;
+    let cell = cell_html(
+        alloc,
+        "hidden",
+        "all",
+        who.as_str(),
+        "Another context answers these paths (section 12.1).",
+    )?;
+    row_of(alloc, pattern, "", cell.as_str())
 }
 
 /// Returns a row of these parts, which are HTML.

@@ -6,12 +6,10 @@ ghost use Rattle.sv_text.specs.Gives.{GivesAnswer};
 ghost use Rattle.sv_page.specs.HtmlCells as cells;
 ghost use Rattle.sv_page.specs.HtmlTables as spec;
 
-use crate::html_cells::{cell_html, row_html, row_of};
+use crate::html_cells::{cell_html, foreign_row, hidden_row, row_html, row_of};
 use crate::markup::html_text;
 use std::alloc::Global;
-use sv_report::{
-    ContextReport, ReportedRow, Viewer, hidden_text, joined, number_text, viewer_title,
-};
+use sv_report::{ContextReport, ReportedRow, Viewer, joined, number_text, viewer_title};
 use sv_text::{NoMemory, Text};
 use sv_uri::shown_context;
 
@@ -82,14 +80,14 @@ fn title_html(alloc: Global, viewer: &Option<Viewer>) -> Result<Text, NoMemory>
     )
 }
 
-/// Returns the first rows, at most so many.
-fn first_rows(rows: &[ReportedRow], most: usize) -> &[ReportedRow]
-    ensures { result.now ≡ spec.first_rows most rows.now }
+/// Returns the first items, at most so many.
+pub fn first_of<T>(items: &[T], most: usize) -> &[T]
+    ensures { result.now ≡ spec.first_of most items.now }
 {
-    if rows.len() <= most {
-        rows
+    if items.len() <= most {
+        items
     } else {
-        &rows[..most]
+        &items[..most]
     }
 }
 
@@ -97,7 +95,7 @@ fn first_rows(rows: &[ReportedRow], most: usize) -> &[ReportedRow]
 fn shown_html(alloc: Global, context: &ContextReport) -> Result<Text, NoMemory>
     ensures { GivesAnswer result (spec.shown_html context.now) }
 {
-    let rows = first_rows(context.rows.as_slice(), MAX_SHOWN_ROWS);
+    let rows = first_of(context.rows.as_slice(), MAX_SHOWN_ROWS);
     rows_html(alloc, context, rows)
 }
 
@@ -123,26 +121,39 @@ fn push_row(
     Ok(text.push_str(row.as_str())?)
 }
 
-/// Returns the rows of the protected folders and of the login post.
+/// Returns the rows of the protected folders, of the login post and of other contexts.
 fn other_rows(alloc: Global, context: &ContextReport) -> Result<Text, NoMemory>
     ensures { GivesAnswer result (spec.other_rows context.now) }
 {
-    let hidden = hidden_html(alloc, &context.viewer)?;
+    let hidden = hidden_row(alloc, &context.viewer, "/WEB-INF/*, /META-INF/*")?;
     let login = login_html(alloc, context.has_login)?;
-    joined(alloc, &[hidden.as_str(), login.as_str()])
+    let others = foreign_rows(alloc, context.path.as_str(), context.others.as_slice())?;
+    joined(alloc, &[hidden.as_str(), login.as_str(), others.as_str()])
 }
 
-fn hidden_html(alloc: Global, viewer: &Option<Viewer>) -> Result<Text, NoMemory>
-    ensures { GivesAnswer result (spec.hidden_html viewer.now) }
+fn foreign_rows(alloc: Global, context: &str, others: &[Text]) -> Result<Text, NoMemory>
+    ensures { GivesAnswer result (flat_map (spec.foreign_html context.now) others.now) }
 {
-    let cell = cell_html(
-        alloc,
-        "hidden",
-        "all",
-        hidden_text(viewer),
-        "The container never serves these folders (sections 10.5 and 10.6).",
-    )?;
-    row_of(alloc, "/WEB-INF/*, /META-INF/*", "", cell.as_str())
+    let mut text = String::new(alloc);
+    for other in others {
+        push_foreign(&mut text, alloc, context, other.as_str())?;
+    }
+    Ok(Text::from_string(text))
+}
+
+fn push_foreign(
+    text: &mut String,
+    alloc: Global,
+    context: &str,
+    other: &str,
+) -> Result<(), NoMemory>
+    ensures { OnOk result (string_bytes text.new ≡ string_bytes text.old ++ spec.foreign_html context.now other.now) }
+{
+    let path = joined(alloc, &[context, other])?;
+    let other = html_text(alloc, other)?;
+    let pattern = joined(alloc, &[other.as_str(), "/*"])?;
+    let row = foreign_row(alloc, path.as_str(), pattern.as_str())?;
+    Ok(text.push_str(row.as_str())?)
 }
 
 fn login_html(alloc: Global, has_login: bool) -> Result<Text, NoMemory>

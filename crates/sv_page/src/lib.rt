@@ -9,4 +9,4 @@ mod page;
 
 pub use html_tables::MAX_SHOWN_ROWS;
 pub use markup::{html_text, html_text_is_plain};
-pub use page::audit_html;
+pub use page::{MAX_LISTED_FINDINGS, audit_html};

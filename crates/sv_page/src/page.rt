@@ -6,14 +6,17 @@ ghost use Rattle.sv_text.specs.Gives.{GivesAnswer};
 ghost use Rattle.sv_page.specs.HtmlTables as tables;
 ghost use Rattle.sv_page.specs.Page as spec;
 
-use crate::html_tables::section_html;
+use crate::html_tables::{first_of, section_html};
 use crate::markup::html_text;
 use std::alloc::Global;
 use sv_report::{
-    ContextReport, ReportedFinding, heading, joined, place_text, problem_text, remedy,
+    ContextReport, ReportedFinding, heading, joined, number_text, place_text, problem_text, remedy,
 };
 use sv_text::{NoMemory, Text};
 use sv_uri::shown_context;
+
+/// The number of findings of a context that a page lists.
+pub const MAX_LISTED_FINDINGS: usize = 2000;
 
 /// The page up to its findings. It needs no other file and no script.
 const PAGE_START: &str = r#"<!doctype html>
@@ -101,9 +104,56 @@ fn finding_items(alloc: Global, contexts: &[ContextReport]) -> Result<Text, NoMe
 {
     let mut text = String::new(alloc);
     for context in contexts {
-        push_items(&mut text, alloc, context, context.findings.as_slice())?;
+        push_context(&mut text, alloc, context)?;
     }
     Ok(Text::from_string(text))
+}
+
+/// Appends the items of the first findings of a context, and a note if there are more.
+#[tactic(auto, unfolding(crate::specs::Page::context_items))]
+fn push_context(text: &mut String, alloc: Global, context: &ContextReport) -> Result<(), NoMemory>
+    ensures { OnOk result (string_bytes text.new ≡ string_bytes text.old ++ spec.context_items context.now) }
+{
+    push_shown(text, alloc, context)?;
+    push_left_out(text, alloc, context)
+}
+
+#[tactic(auto, unfolding(crate::specs::Page::shown_items))]
+fn push_shown(text: &mut String, alloc: Global, context: &ContextReport) -> Result<(), NoMemory>
+    ensures { OnOk result (string_bytes text.new ≡ string_bytes text.old ++ spec.shown_items context.now) }
+{
+    let findings = first_of(context.findings.as_slice(), MAX_LISTED_FINDINGS);
+    push_items(text, alloc, context, findings)
+}
+
+fn push_left_out(text: &mut String, alloc: Global, context: &ContextReport) -> Result<(), NoMemory>
+    ensures { OnOk result (string_bytes text.new ≡ string_bytes text.old ++ spec.left_out_items context.now) }
+{
+    let path = shown_context(context.path.as_str());
+    let note = left_out_html(alloc, path, context.findings.as_slice().len())?;
+    Ok(text.push_str(note.as_str())?)
+}
+
+/// Returns a note if not all findings of a context are listed.
+#[tactic(auto, unfolding(crate::specs::Page::left_out_html))]
+fn left_out_html(alloc: Global, path: &str, count: usize) -> Result<Text, NoMemory>
+    ensures { GivesAnswer result (spec.left_out_html path.now count) }
+{
+    if count <= MAX_LISTED_FINDINGS {
+        return Text::copy_of(alloc, "");
+    }
+    let path = html_text(alloc, path)?;
+    let count = number_text(alloc, count as u64)?;
+    joined(
+        alloc,
+        &[
+            "<li>Only the first 2,000 of ",
+            count.as_str(),
+            " findings of <code>",
+            path.as_str(),
+            "</code> are listed.</li>\n",
+        ],
+    )
 }
 
 fn push_items(
@@ -170,7 +220,7 @@ fn located_problem(
 ) -> Result<Text, NoMemory>
     ensures { GivesAnswer result (spec.located_problem context.now finding.now) }
 {
-    let problem = problem_text(alloc, &finding.finding)?;
+    let problem = problem_text(alloc, context.has_login, &finding.finding)?;
     let place = place_text(
         alloc,
         context.file.as_str(),
