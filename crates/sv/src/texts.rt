@@ -4,7 +4,8 @@
 pub const FIRST: &str = "    decides by an example policy on the first request on standard input\n";
 
 /// What `policy` does.
-pub const POLICY: &str = "    explains what the server does with a request, and which constraint decides\n";
+pub const POLICY: &str =
+    "    explains what the server does with a request, and which constraint decides\n";
 
 /// What `uncovered` does.
 pub const UNCOVERED: &str =
