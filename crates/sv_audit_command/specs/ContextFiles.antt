@@ -12,9 +12,9 @@ use Rattle.sv_uri.specs.declared.fault.PathFault.{PathFault}
 use Rattle.sv_uri.specs.declared.path.Canon.{Canon}
 use Rattle.sv_audit_command.specs.declared.context_files.ContextFiles.{ContextFiles}
 
--- The files in the folder of this name, if they are known. An empty name means no folder, and so no files.
+-- The files in the folder of this name, if they are known. An empty name means no folder, of which nothing is known.
 abbrev pub known_files : List ℕ → FolderFiles → Option (List File)
-known_files [] found = Some []
+known_files [] found = None
 known_files (first ∷ rest) (Ok files) = Some files
 known_files (first ∷ rest) (Err why) = None
 

@@ -25,8 +25,8 @@ pub(crate) struct ContextFiles {
     pub(crate) login_page: Option<LoginPage>,
 }
 
-/// Returns what an audit uses of the files in the folder of this name. A folder that is not available is no fault:
-/// then no files are known.
+/// Returns what an audit uses of the files in the folder of this name. A folder that is not available is no fault: then
+/// no files are known, as without a folder.
 pub(crate) fn files_in(
     alloc: Global,
     name: &str,
@@ -44,12 +44,13 @@ pub(crate) fn files_in(
     }
 }
 
-/// Returns the files in the folder of this name, if they are known. An empty name means no folder, and so no files.
+/// Returns the files in the folder of this name, if they are known. An empty name means no folder: then it is not known
+/// what answers where no servlet does.
 fn known_files<'a>(name: &str, found: &'a FolderFiles) -> Option<&'a [File]>
     ensures { option_copied result ≡ spec.known_files name.now found.now }
 {
     if name.is_empty() {
-        return Some(&[]);
+        return None;
     }
     match found {
         Ok(files) => Some(files.as_slice()),
