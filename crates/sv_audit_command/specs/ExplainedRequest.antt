@@ -5,6 +5,7 @@ use Rattle.std.specs.Option.{option_map, option_to_list}
 use Rattle.sv_descriptor.specs.declared.web_app.WebApp.{WebApp}
 use Rattle.sv_explanation.specs.Explanation.{explanation}
 use Rattle.sv_explanation.specs.Text.{explanation_text}
+use Rattle.sv_report.specs.Folded.{folded}
 use Rattle.sv_explanation.specs.declared.explanation.Explanation.{Explanation}
 use Rattle.sv_explanation.specs.declared.site_context.SiteContext.{SiteContext}
 use Rattle.sv_policy.specs.declared.explain_fault.ExplainFault.{ExplainFault}
@@ -43,10 +44,10 @@ fault_of method explain.NoSuchUser = fault.User (quoted [])
 fault_of method explain.NoMemory = fault.NoMemory
 
 abbrev pub told : List ℕ → List ℕ → Result Explanation ExplainFault → Step (List ℕ)
-told method target (Ok found) = Ok (explanation_text method target found)
+told method target (Ok found) = Ok (folded (explanation_text method target found))
 told method target (Err found) = Err (fault_of method found)
 
--- The explanation in sentences, or the fault of the method.
+-- The explanation in sentences of at most 100 characters a line, or the fault of the method.
 abbrev pub explained_at : List SiteContext → List ℕ → List ℕ → Step (List ℕ)
 explained_at sites method target = told method target (explanation sites method target)
 

@@ -3,16 +3,19 @@
 ghost use Rattle.std.specs.Prelude.{◌≡◌, ◌++◌, OnOk, option_copied};
 ghost use Rattle.std.specs.Option.{option_to_list};
 ghost use Rattle.sv_text.specs.Gives.{Gives, GivesAnswer};
+ghost use Rattle.sv_explanation.specs.Text.{explanation_text};
 ghost use Rattle.sv_program.specs.CommandFault.{command_fault};
+ghost use Rattle.sv_report.specs.Folded.{folded};
 ghost use Rattle.sv_audit_command.specs.ExplainedRequest as spec;
 
 use crate::access_options::{AccessOptions, Asked};
 use crate::audited_context::AuditedContext;
 use crate::viewer::caller_in;
 use std::alloc::Global;
-use sv_explanation::{Asked as Request, SiteContext, explain, explanation_text};
+use sv_explanation::{Asked as Request, Explanation, SiteContext, explain, explanation_text};
 use sv_policy::ExplainFault;
 use sv_program::{CommandFault, quoted};
+use sv_report::folded;
 use sv_text::{Listed, NoMemory, Text};
 
 /// Explains the request with this target, of the caller whose access is asked for.
@@ -94,9 +97,21 @@ fn explained_at(
     ensures { Gives command_fault result (spec.explained_at sites.now request.now.method.now request.now.target.now) }
 {
     match explain(alloc, sites, request) {
-        Ok(explanation) => Ok(explanation_text(alloc, request, &explanation)?),
+        Ok(explanation) => Ok(sentences(alloc, request, &explanation)?),
         Err(fault) => Err(fault_of(alloc, request.method, fault)?),
     }
+}
+
+/// Returns the explanation in sentences, in lines of at most 100 characters.
+fn sentences(
+    alloc: Global,
+    request: &Request<'_>,
+    explanation: &Explanation,
+) -> Result<Text, NoMemory>
+    ensures { GivesAnswer result (folded (explanation_text request.now.method.now request.now.target.now explanation.now)) }
+{
+    let text = explanation_text(alloc, request, explanation)?;
+    folded(alloc, text.as_str())
 }
 
 fn fault_of(alloc: Global, method: &str, fault: ExplainFault) -> Result<CommandFault, NoMemory>
