@@ -52,7 +52,7 @@ module _ (moving : ComponentSteps ProgramServlet ProgramFilter ProgramListener) 
   RunsCommand gives files (Policy question) result before after stream old new = RunsPolicy moving gives files question result before after old new
   RunsCommand gives files (Uncovered config) result before after stream old new = Prints (IsReported gives config.now) result before after old new
   RunsCommand gives files (Audit options) result before after stream old new =
-      Audits (IsAudited gives options.access options.config.now) result before after old new
+      Audits (IsAudited gives files options.access options.config.now) result before after old new
   RunsCommand gives files (Replay config) result before after stream old new = ReadsFiles gives files config.now result before after
   RunsCommand gives files (Serve service) result before after stream old new = ReadsFiles gives files service.config.now result before after
   RunsCommand gives files (Run options) result before after stream old new = ReadsFiles gives files options.config.now result before after
