@@ -1,5 +1,5 @@
 -- The run of the command `audit`, from the files that a store gives.
-use Rattle.std.specs.Prelude.{◌≡◌, ℕ, ◌<◌, List, [], ◌++◌, map, Option, Result, Ok, Err}
+use Rattle.std.specs.Prelude.{◌≡◌, ℕ, ◌<◌, List, [], map, Option, Result, Ok, Err}
 use Rattle.std.specs.Io.KnownBytes.{Appends}
 use Rattle.sv_text.specs.Gives.{Gives}
 use Rattle.sv_text.specs.Steps.{◌>>=◌}

@@ -1,5 +1,5 @@
 -- The explanation of one request to the contexts of a server (Jakarta Servlet 6.0, sections 12.1 and 13.8).
-use Rattle.std.specs.Prelude.{ℕ, List, ◌∷◌, [], codes, option_copied, unwrap_or, Option, None, Some, Result, Ok, Err}
+use Rattle.std.specs.Prelude.{ℕ, List, [], codes, option_copied, unwrap_or, Option, Result, Ok, Err}
 use Rattle.std.specs.List.{flat_map}
 use Rattle.std.specs.Option.{option_map, option_to_list}
 use Rattle.sv_descriptor.specs.declared.web_app.WebApp.{WebApp}
@@ -14,7 +14,6 @@ use Rattle.sv_program.specs.Configuration.{Step}
 use Rattle.sv_program.specs.Shown.{quoted}
 use Rattle.sv_program.specs.declared.command_fault.CommandFault.{CommandFault}
 use Rattle.sv_program.specs.declared.command_fault.CommandFault.TheVariants as fault
-use Rattle.sv_realm.specs.declared.caller.Caller.{Caller}
 use Rattle.sv_audit_command.specs.Viewer.{caller_in}
 use Rattle.sv_audit_command.specs.declared.access_options.AccessOptions.{AccessOptions}
 use Rattle.sv_audit_command.specs.declared.access_options.Asked.{Asked}

@@ -1,4 +1,4 @@
-use Rattle.sv_audit_command.proofs.OtherServer.{its_contexts, no_contexts}
+use Rattle.sv_audit_command.proofs.OtherServer.{its_contexts}
 use Rattle.sv_audit_command.proofs.further_files.entries_of.Goals as goal
 
 pub returns-in-Ok : goal.returns-in-Ok
