@@ -47,6 +47,7 @@ pub use narrowing::narrower;
 pub use order::sorted;
 pub use path_shapes::matches_nothing;
 pub use patterns::{all_patterns, is_among, is_extension_pattern, patterns_in};
+pub use representatives::representatives;
 pub use roles::push_meant;
 pub use row_differences::differences;
 pub use rows::{Group, Row, Table};

@@ -14,7 +14,12 @@ use sv_text::{NoMemory, Text};
 
 /// Returns paths of which one matches the same patterns as any path that is empty or begins with a slash: one for each
 /// directory of a prefix pattern and each extension, and the paths that the patterns name.
-pub(crate) fn representatives(alloc: Global, patterns: &[Pattern]) -> Result<Vec<Text>, NoMemory>
+///
+/// The time grows with the product of the numbers of prefix patterns, of extension patterns and of all patterns.
+///
+/// # Errors
+/// `NoMemory` if memory runs out.
+pub fn representatives(alloc: Global, patterns: &[Pattern]) -> Result<Vec<Text>, NoMemory>
     ensures { IfOk result (λ paths. paths.items ≡ spec.representatives patterns.now) }
 {
     let named = named_paths(alloc, patterns)?;

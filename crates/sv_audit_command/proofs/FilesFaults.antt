@@ -21,13 +21,14 @@ use Rattle.sv_program.specs.declared.command_fault.CommandFault.TheVariants.{Inp
 use Rattle.sv_program.specs.declared.command_fault.CommandFault.TheVariants as command
 use Rattle.sv_program.specs.declared.configuration.ContextTexts.{ContextTexts}
 use Rattle.sv_audit_command.specs.AuditCommand.{report_for}
-use Rattle.sv_audit_command.specs.Audited.{audited_context, audited_contexts, context_parts, kept_descriptor, paths_of}
-use Rattle.sv_audit_command.specs.Report.{access_report, asked_text, difference_report, report_by, report_on}
+use Rattle.sv_audited_contexts.specs.Audited.{audited_context, audited_contexts, context_parts, kept_descriptor, paths_of}
+use Rattle.sv_audit_command.specs.Report.{access_report, asked_text, context_options, difference_report, report_by, report_on}
 use Rattle.sv_audit_command.specs.ComparedServers.{checked_server, other_context, other_server}
 use Rattle.sv_audit_command.specs.ExplainedRequest.{explained, method_of, sites_of, told}
-use Rattle.sv_audit_command.specs.LineFile.{located}
+use Rattle.sv_audited_contexts.specs.LineFile.{located}
 use Rattle.sv_audit_command.specs.Viewer.{check_viewer}
-use Rattle.sv_audit_command.specs.declared.audited_context.AuditedContext.{AuditedContext}
+use Rattle.sv_audited_contexts.specs.declared.audited_context.AuditedContext.{AuditedContext}
+use Rattle.sv_audited_contexts.specs.declared.audited_context.ContextOptions.{ContextOptions}
 use Rattle.sv_audit_command.specs.declared.further_files.FurtherFiles.{FurtherFiles}
 use Rattle.sv_audit_command.specs.declared.further_files.OtherFiles.{OtherFiles}
 use Rattle.sv_audit_command.specs.declared.access_options.AccessOptions.{AccessOptions}
@@ -86,16 +87,16 @@ named_faults : (path : List ℕ) (name : Option (List ℕ)) (file : FileText) �
 named_faults path None file = done []
 named_faults path (Some name) file = onward (text_of name file) _ (text_faults name file) (λ text. users_read path name text (located_users text))
 
-kept_faults : (path : Option (List ℕ)) (at : ContextTexts) → AreOfFiles (kept_descriptor path at)
-kept_faults None at = done None
-kept_faults (Some target) at = onward (descriptor_in at) _ (app_faults at) (λ app. done (Some app))
+kept_faults : (keeps : Bool) (at : ContextTexts) → AreOfFiles (kept_descriptor keeps at)
+kept_faults false at = done None
+kept_faults true at = onward (descriptor_in at) _ (app_faults at) (λ app. done (Some app))
 
-parts_faults : (options : AccessOptions) (at : ContextTexts) → AreOfFiles (context_parts options at)
+parts_faults : (options : ContextOptions) (at : ContextTexts) → AreOfFiles (context_parts options at)
 parts_faults options at =
-    onward (kept_descriptor (option_copied options.path) at) _ (kept_faults (option_copied options.path) at)
+    onward (kept_descriptor options.keeps_descriptor at) _ (kept_faults options.keeps_descriptor at)
     (λ kept. onward (users_in at) _ (named_faults at.context.path at.context.users at.users) (λ users. done _))
 
-context_faults : (options : AccessOptions) (paths : List (List ℕ)) (at : FoundContext) → AreOfFiles (audited_context options paths at)
+context_faults : (options : ContextOptions) (paths : List (List ℕ)) (at : FoundContext) → AreOfFiles (audited_context options paths at)
 context_faults options paths at =
     onward (descriptor_in at.texts) _ (app_faults at.texts) (λ app. onward (context_parts options at.texts) _ (parts_faults options at.texts) (λ parts. done _))
 
@@ -145,7 +146,7 @@ viewer_faults (Some (asked.Role role)) contexts = done {A = Unit {0}} tt
 
 report_faults : (options : AccessOptions) (texts : List FoundContext) (files : FurtherFiles) → AreOfFiles (report_on options texts files)
 report_faults options texts files =
-    onward (audited_contexts options texts) _ (each_faults (audited_context options (paths_of texts)) (context_faults options (paths_of texts)) texts) (λ contexts.
+    onward (audited_contexts (context_options options) texts) _ (each_faults (audited_context (context_options options) (paths_of texts)) (context_faults (context_options options) (paths_of texts)) texts) (λ contexts.
     onward (asked_text (option_copied options.accept) files.accept) _ (further_faults (option_copied options.accept) files.accept) (λ accepted.
     onward (asked_text (option_copied options.lines) files.lines) _ (further_faults (option_copied options.lines) files.lines) (λ lines.
     onward (check_viewer options.viewer contexts) _ (viewer_faults options.viewer contexts) (λ known.

@@ -9,11 +9,11 @@ use Rattle.sv_difference.specs.declared.contexts.ComparedContext.{ComparedContex
 use Rattle.sv_difference.specs.declared.contexts.ServerDifference.{ServerDifference}
 use Rattle.sv_program.specs.Configuration.{Step, descriptor_in, each, server_in, users_in}
 use Rattle.sv_program.specs.declared.configuration.ContextTexts.{ContextTexts}
-use Rattle.sv_audit_command.specs.Audited.{constraints_over}
+use Rattle.sv_audited_contexts.specs.Audited.{constraints_over}
 use Rattle.sv_audit_command.specs.Kinds.{lists_kind}
 use Rattle.sv_audit_command.specs.declared.access_options.Format.{Format}
 use Rattle.sv_audit_command.specs.declared.access_options.Format.TheVariants as format
-use Rattle.sv_audit_command.specs.declared.audited_context.AuditedContext.{AuditedContext}
+use Rattle.sv_audited_contexts.specs.declared.audited_context.AuditedContext.{AuditedContext}
 use Rattle.sv_audit_command.specs.declared.further_files.OtherFiles.{OtherFiles}
 
 -- A context of the first server.

@@ -16,7 +16,7 @@ use Rattle.sv_audit_command.specs.Accepted as accepting
 use Rattle.sv_audit_command.specs.Key as finding_key
 use Rattle.sv_audit_command.specs.RowPaths.{reported_rows}
 use Rattle.sv_audit_command.specs.Viewer.{viewer_in}
-use Rattle.sv_audit_command.specs.declared.audited_context.AuditedContext.{AuditedContext}
+use Rattle.sv_audited_contexts.specs.declared.audited_context.AuditedContext.{AuditedContext}
 use Rattle.sv_audit_command.specs.declared.context_reports.Audit.{Audit}
 use Rattle.sv_audit_command.specs.declared.access_options.Asked.{Asked}
 

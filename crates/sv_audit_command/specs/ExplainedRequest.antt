@@ -17,7 +17,7 @@ use Rattle.sv_program.specs.declared.command_fault.CommandFault.TheVariants as f
 use Rattle.sv_audit_command.specs.Viewer.{caller_in}
 use Rattle.sv_audit_command.specs.declared.access_options.AccessOptions.{AccessOptions}
 use Rattle.sv_audit_command.specs.declared.access_options.Asked.{Asked}
-use Rattle.sv_audit_command.specs.declared.audited_context.AuditedContext.{AuditedContext}
+use Rattle.sv_audited_contexts.specs.declared.audited_context.AuditedContext.{AuditedContext}
 
 -- The context with this descriptor, as the caller meets it.
 abbrev pub site_with : Option Asked → AuditedContext → WebApp → SiteContext

@@ -1,12 +1,7 @@
-pub mod ConstraintLines
-pub mod Held
-pub mod ContextFiles
 pub mod RowPaths
-pub mod Audited
 pub mod Viewer
 pub mod Kinds
 pub mod Accepted
-pub mod LineFile
 pub mod Key
 pub mod ContextReports
 pub mod ExplainedRequest

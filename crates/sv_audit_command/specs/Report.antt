@@ -1,5 +1,5 @@
 -- The report of the command `audit`, from the texts of the files.
-use Rattle.std.specs.Prelude.{◌≡◌, ℕ, Bool, not, ◌&&◌, List, [], ◌∷◌, ◌++◌, filter, length, map, Option, None, Some, Ok, option_copied}
+use Rattle.std.specs.Prelude.{◌≡◌, ℕ, Bool, not, ◌&&◌, List, [], ◌∷◌, ◌++◌, filter, length, map, Option, None, Some, Ok, is_some, option_copied}
 use Rattle.std.specs.List.{flat_map}
 use Rattle.sv_text.specs.Steps.{◌>>=◌}
 use Rattle.sv_deployments.specs.declared.folders.FoundContext.{FoundContext}
@@ -15,15 +15,16 @@ use Rattle.sv_report.specs.Keys.{keys_text}
 use Rattle.sv_report.specs.Text.{audit_text}
 use Rattle.sv_report.specs.declared.report.ContextReport.{ContextReport}
 use Rattle.sv_report.specs.declared.report.ReportedFinding.{ReportedFinding}
-use Rattle.sv_audit_command.specs.Audited.{audited_contexts}
+use Rattle.sv_audited_contexts.specs.Audited.{audited_contexts}
 use Rattle.sv_audit_command.specs.ComparedServers as compared
 use Rattle.sv_audit_command.specs.ComparedServers.{difference, opened_count, other_server}
 use Rattle.sv_audit_command.specs.ContextReports.{context_report}
 use Rattle.sv_audit_command.specs.ExplainedRequest.{explained}
 use Rattle.sv_audit_command.specs.Kinds.{lists_kind}
-use Rattle.sv_audit_command.specs.LineFile.{located}
+use Rattle.sv_audited_contexts.specs.LineFile.{located}
 use Rattle.sv_audit_command.specs.Viewer.{check_viewer}
-use Rattle.sv_audit_command.specs.declared.audited_context.AuditedContext.{AuditedContext}
+use Rattle.sv_audited_contexts.specs.declared.audited_context.AuditedContext.{AuditedContext}
+use Rattle.sv_audited_contexts.specs.declared.audited_context.ContextOptions.{ContextOptions}
 use Rattle.sv_audit_command.specs.declared.further_files.FurtherFiles.{FurtherFiles}
 use Rattle.sv_audit_command.specs.declared.further_files.OtherFiles.{OtherFiles}
 use Rattle.sv_audit_command.specs.declared.access_options.AccessOptions.{AccessOptions}
@@ -133,11 +134,15 @@ abbrev pub report_by : AccessOptions → Option (List ℕ) → List ℕ → Othe
 report_by options None accepted other contexts = access_report options (option_copied options.diff) accepted other contexts
 report_by options (Some target) accepted other contexts = explanation_report options target contexts
 
+-- A descriptor is kept if the report is on one request.
+abbrev pub context_options : AccessOptions → ContextOptions
+context_options options = record { is_secure = options.is_secure; keeps_descriptor = is_some (option_copied options.path) }
+
 -- The report, or the first fault: of the contexts' files, of the accepting file, of the file of lines, of the viewer, and
 -- of the method or of the other server's files.
 abbrev pub report_on : AccessOptions → List FoundContext → FurtherFiles → Step Report
 report_on options found files = do
-  contexts ← audited_contexts options found
+  contexts ← audited_contexts (context_options options) found
   accepted ← asked_text (option_copied options.accept) files.accept
   lines ← asked_text (option_copied options.lines) files.lines
   known ← check_viewer options.viewer contexts

@@ -14,12 +14,9 @@ use Rattle.sv_findings.specs.declared.reach.Reach.{Reach}
 use Rattle.sv_findings.specs.declared.reach.Reach.TheVariants.{Reached}
 use Rattle.sv_mapping.specs.BestMatch.{best}
 use Rattle.sv_report.specs.declared.report.ReportedRow.{ReportedRow}
+use Rattle.sv_audited_contexts.specs.ServletPatterns.{mapped_patterns}
 use Rattle.sv_audit_command.specs.declared.row_paths.ContextPatterns.{ContextPatterns}
 use Rattle.sv_audit_command.specs.declared.row_paths.TheConstants.{MAX_COMPARED_PATTERNS, MAX_NARROWER}
-
--- The patterns of servlet mappings, in order.
-abbrev pub mapped_patterns : List ServletMapping → List (List ℕ)
-mapped_patterns mappings = flat_map (λ mapping. mapping.url_patterns) mappings
 
 -- The name of the servlet, once for each pattern.
 abbrev pub names_of : ServletMapping → List (List ℕ)

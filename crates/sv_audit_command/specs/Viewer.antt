@@ -9,7 +9,7 @@ use Rattle.sv_realm.specs.Realm.{caller_named}
 use Rattle.sv_realm.specs.declared.account.User.{User}
 use Rattle.sv_realm.specs.declared.caller.Caller.{Caller}
 use Rattle.sv_report.specs.declared.report.Viewer.{Viewer}
-use Rattle.sv_audit_command.specs.declared.audited_context.AuditedContext.{AuditedContext}
+use Rattle.sv_audited_contexts.specs.declared.audited_context.AuditedContext.{AuditedContext}
 use Rattle.sv_audit_command.specs.declared.access_options.Asked.{Asked}
 use Rattle.sv_audit_command.specs.declared.access_options.Asked.TheVariants as asked
 

@@ -7,16 +7,15 @@ ghost use Rattle.sv_program.specs.CommandFault.{command_fault};
 ghost use Rattle.sv_audit_command.specs.Report as spec;
 
 use crate::access_options::{AccessOptions, Format};
-use crate::audited_context::{AuditedContext, audited_contexts};
 use crate::compared_servers;
 use crate::compared_servers::{difference, opened_count, other_server};
 use crate::context_reports::{Asking, context_reports};
 use crate::explained_request::explained;
 use crate::further_files::{FurtherFiles, OtherFiles, asked_text};
 use crate::kinds::lists_kind;
-use crate::line_file::located;
 use crate::viewer::check_viewer;
 use std::alloc::Global;
+use sv_audited_contexts::{AuditedContext, ContextOptions, audited_contexts, located};
 use sv_deployments::FoundContext;
 use sv_page::audit_html;
 use sv_program::CommandFault;
@@ -47,12 +46,22 @@ pub(crate) fn report_on(
 ) -> Result<Report, CommandFault>
     ensures { Gives command_fault result (spec.report_on options.now found.now files.now) }
 {
-    let contexts = audited_contexts(alloc, found, options)?;
+    let contexts = audited_contexts(alloc, found, context_options(options))?;
     let accepted = asked_text(alloc, options.accept, &files.accept)?;
     let lines = asked_text(alloc, options.lines, &files.lines)?;
     check_viewer(alloc, options.viewer, contexts.as_slice())?;
     let contexts = located(alloc, options.lines, lines.as_str(), contexts)?;
     report_by(alloc, contexts, accepted.as_str(), &files.other, options)
+}
+
+/// Returns how contexts are read: the descriptors are kept if the report is on one request.
+fn context_options(options: &AccessOptions<'_>) -> ContextOptions
+    ensures { result ≡ spec.context_options options.now }
+{
+    ContextOptions {
+        is_secure: options.is_secure,
+        keeps_descriptor: options.path.is_some(),
+    }
 }
 
 /// Returns the report on one request if its target is named, otherwise the one on differences if another server file is

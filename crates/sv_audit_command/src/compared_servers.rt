@@ -7,10 +7,10 @@ ghost use Rattle.sv_program.specs.Configuration.{each};
 ghost use Rattle.sv_audit_command.specs.ComparedServers as spec;
 
 use crate::access_options::Format;
-use crate::audited_context::{AuditedContext, constraints_over};
 use crate::further_files::OtherFiles;
 use crate::kinds::lists_kind;
 use std::alloc::Global;
+use sv_audited_contexts::{AuditedContext, constraints_over};
 use sv_descriptor::WebApp;
 use sv_difference::{
     ComparedContext, ServerDifference, difference_json, difference_text, server_difference,

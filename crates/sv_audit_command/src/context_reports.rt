@@ -9,11 +9,11 @@ ghost use Rattle.sv_audit_command.specs.ContextReports as spec;
 
 use crate::accepted::{accepted_lines, is_accepted};
 use crate::access_options::Asked;
-use crate::audited_context::AuditedContext;
 use crate::key::{constraint_of, key_of};
 use crate::row_paths::reported_rows;
 use crate::viewer::viewer_in;
 use std::alloc::Global;
+use sv_audited_contexts::AuditedContext;
 use sv_audit::{Row, Table, table_of};
 use sv_descriptor::Names;
 use sv_findings::{Finding, Reaches, Surroundings, findings_of};

@@ -9,9 +9,9 @@ ghost use Rattle.sv_report.specs.Folded.{folded};
 ghost use Rattle.sv_audit_command.specs.ExplainedRequest as spec;
 
 use crate::access_options::{AccessOptions, Asked};
-use crate::audited_context::AuditedContext;
 use crate::viewer::caller_in;
 use std::alloc::Global;
+use sv_audited_contexts::AuditedContext;
 use sv_explanation::{Asked as Request, Explanation, SiteContext, explain, explanation_text};
 use sv_policy::ExplainFault;
 use sv_program::{CommandFault, quoted};

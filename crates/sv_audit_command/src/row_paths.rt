@@ -236,29 +236,6 @@ fn mapped_patterns(alloc: Global, mappings: &[ServletMapping]) -> Result<Vec<Pat
     Ok(patterns)
 }
 
-/// Copies the texts of the patterns of servlet mappings, in order.
-pub(crate) fn servlet_patterns(
-    alloc: Global,
-    mappings: &[ServletMapping],
-) -> Result<Listed<Text>, NoMemory>
-    ensures { GivesAnswer result (spec.mapped_patterns mappings.now) }
-{
-    let mut texts = Vec::new(alloc);
-    for mapping in mappings {
-        push_texts_of(&mut texts, alloc, mapping.url_patterns.as_slice())?;
-    }
-    Ok(Listed::from_vec(texts))
-}
-
-fn push_texts_of(texts: &mut Vec<Text>, alloc: Global, patterns: &[Pattern]) -> Result<(), NoMemory>
-    ensures { OnOk result (texts.new.items ≡ texts.old.items ++ patterns.now) }
-{
-    for pattern in patterns {
-        texts.push(Text::copy_of(alloc, pattern.text())?)?;
-    }
-    Ok(())
-}
-
 fn push_copies(
     patterns: &mut Vec<Pattern>,
     alloc: Global,

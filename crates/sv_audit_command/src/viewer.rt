@@ -8,8 +8,8 @@ ghost use Rattle.sv_program.specs.CommandFault.{command_fault};
 ghost use Rattle.sv_audit_command.specs.Viewer as spec;
 
 use crate::access_options::Asked;
-use crate::audited_context::AuditedContext;
 use std::alloc::Global;
+use sv_audited_contexts::AuditedContext;
 use sv_program::{CommandFault, quoted};
 use sv_realm::{Caller, Realm};
 use sv_report::Viewer;

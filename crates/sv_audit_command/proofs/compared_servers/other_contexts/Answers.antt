@@ -1,6 +1,6 @@
 use Rattle.sv_program.specs.Configuration.{each}
 use Rattle.sv_audit_command.specs.ComparedServers.{other_context}
-use Rattle.sv_audit_command.proofs.Steps.{one_more}
+use Rattle.sv_audited_contexts.proofs.Steps.{one_more}
 use Rattle.sv_audit_command.proofs.compared_servers.other_contexts.Goals as goal
 
 pub loop-texts-preserved : goal.loop-texts-preserved

@@ -1,5 +1,0 @@
-use Rattle.std.proofs.Common.{◌≡◌, ◌++◌, take}
-use Rattle.sv_audit_command.proofs.row_paths.push_texts_of.Given as goal
-
-abbrev pub invariant-loop-pattern : goal.invariant-loop-pattern
-invariant-loop-pattern l = l.texts.items ≡ l.initial.texts.items ++ take l.pattern-index l.patterns

@@ -1,0 +1,5 @@
+mod LineLemmas
+mod HeldLemmas
+mod NumberLemmas
+mod LineLaw
+pub mod Steps

@@ -1,0 +1,92 @@
+-- A context of a server, from the texts of its descriptor and its users file.
+use Rattle.std.specs.Prelude.{ℕ, Bool, true, false, List, [], Option, None, Some, Ok, Err, is_some, map, if◌then◌else◌}
+use Rattle.sv_text.specs.Steps.{◌>>=◌}
+use Rattle.sv_audit.specs.Secure.{secure}
+use Rattle.sv_constraints.specs.declared.constraint.Constraint.{Constraint}
+use Rattle.sv_deployments.specs.declared.folders.FoundContext.{FoundContext}
+use Rattle.sv_descriptor.specs.declared.web_app.WebApp.{WebApp}
+use Rattle.sv_findings.specs.declared.surroundings.Surroundings.{Surroundings}
+use Rattle.sv_program.specs.Configuration.{Step, descriptor_in, each, users_in}
+use Rattle.sv_program.specs.FileStore.{FileText}
+use Rattle.sv_program.specs.declared.configuration.ContextTexts.{ContextTexts}
+use Rattle.sv_realm.specs.declared.account.User.{User}
+use Rattle.sv_audited_contexts.specs.ConstraintLines.{constraint_lines}
+use Rattle.sv_audited_contexts.specs.ContextFiles.{files_in}
+use Rattle.sv_audited_contexts.specs.Held.{held_in}
+use Rattle.sv_audited_contexts.specs.ServletPatterns.{mapped_patterns}
+use Rattle.sv_audited_contexts.specs.declared.audited_context.AuditedContext.{AuditedContext}
+use Rattle.sv_audited_contexts.specs.declared.audited_context.ContextOptions.{ContextOptions}
+use Rattle.sv_audited_contexts.specs.declared.audited_context.ContextParts.{ContextParts}
+use Rattle.sv_audited_contexts.specs.declared.audited_context.Source.{Source}
+use Rattle.sv_audited_contexts.specs.declared.context_files.ContextFiles.{ContextFiles}
+
+-- The constraints for a connection whose transport is guaranteed, or for a plain one (section 13.8).
+abbrev pub constraints_over : Bool → List Constraint → List Constraint
+constraints_over is_secure constraints = if is_secure then secure constraints else constraints
+
+-- The lines on which the constraints of a descriptor begin.
+abbrev pub lines_in : FileText → List (Option ℕ)
+lines_in (Ok text) = constraint_lines text
+lines_in (Err why) = []
+
+abbrev pub source_of : ContextTexts → Source
+source_of texts = record { path = texts.context.path; file = texts.context.descriptor; lines = lines_in texts.descriptor }
+
+-- The descriptor, if it is to be kept.
+abbrev pub kept_descriptor : Bool → ContextTexts → Step (Option WebApp)
+kept_descriptor false texts = Ok None
+kept_descriptor true texts = do
+  app ← descriptor_in texts
+  Ok (Some app)
+
+abbrev pub parts_of : ContextTexts → Option WebApp → List User → ContextParts
+parts_of texts kept users = record { descriptor = kept; realm = users; held = held_in texts.context.users users }
+
+-- The descriptor if it is kept, the users and their roles.
+abbrev pub context_parts : ContextOptions → ContextTexts → Step ContextParts
+context_parts options texts = do
+  kept ← kept_descriptor options.keeps_descriptor texts
+  users ← users_in texts
+  Ok (parts_of texts kept users)
+
+-- What is used of the files of a context with this descriptor.
+abbrev pub its_files : FoundContext → WebApp → ContextFiles
+its_files found app = files_in found.texts.context.files found.files app.login
+
+-- What surrounds the constraints of a context, given the paths of all contexts.
+abbrev pub surroundings_of : List (List ℕ) → FoundContext → WebApp → Option (List (List ℕ)) → Surroundings
+surroundings_of paths found app its_held = record {
+  contexts = paths;
+  path = found.texts.context.path;
+  held = its_held;
+  servlets = mapped_patterns app.servlet_mappings;
+  files = (its_files found app).paths;
+  login_page = (its_files found app).login_page;
+}
+
+-- The context with this descriptor, these parts and these surroundings.
+abbrev pub context_of : Bool → Source → WebApp → ContextParts → Surroundings → AuditedContext
+context_of is_secure its_source app parts its_surroundings = record {
+  source = its_source;
+  has_login = is_some app.login;
+  constraints = constraints_over is_secure app.constraints;
+  rules = app.rules;
+  mappings = app.servlet_mappings;
+  realm = parts.realm;
+  descriptor = parts.descriptor;
+  surroundings = its_surroundings;
+}
+
+-- The context, given the paths of all contexts, or the first fault of its descriptor and then of its users.
+abbrev pub audited_context : ContextOptions → List (List ℕ) → FoundContext → Step AuditedContext
+audited_context options paths found = do
+  app ← descriptor_in found.texts
+  parts ← context_parts options found.texts
+  Ok (context_of options.is_secure (source_of found.texts) app parts (surroundings_of paths found app parts.held))
+
+-- The paths of contexts.
+abbrev pub paths_of : List FoundContext → List (List ℕ)
+paths_of found = map (λ context. context.texts.context.path) found
+
+abbrev pub audited_contexts : ContextOptions → List FoundContext → Step (List AuditedContext)
+audited_contexts options found = each (audited_context options (paths_of found)) found

@@ -1,0 +1,53 @@
+-- The static files of a context, as an audit uses them (Jakarta Servlet 6.0, sections 10.10 and 13.6.3).
+use Rattle.std.specs.Prelude.{ℕ, List, [], ◌∷◌, map, Option, None, Some, option_and_then, Result, Ok, Err}
+use Rattle.std.specs.Option.{option_map}
+use Rattle.sv_deployments.specs.Folders.{FolderFiles}
+use Rattle.sv_descriptor.specs.declared.login.FormLogin.{FormLogin}
+use Rattle.sv_files.specs.Files.{file_at}
+use Rattle.sv_files.specs.declared.files.File.{File}
+use Rattle.sv_findings.specs.declared.surroundings.LoginPage.{LoginPage}
+use Rattle.sv_program.specs.FileLine.{text_of}
+use Rattle.sv_uri.specs.Canonical.{canonical}
+use Rattle.sv_uri.specs.declared.fault.PathFault.{PathFault}
+use Rattle.sv_uri.specs.declared.path.Canon.{Canon}
+use Rattle.sv_audited_contexts.specs.declared.context_files.ContextFiles.{ContextFiles}
+
+-- The files in the folder of this name, if they are known. An empty name means no folder, of which nothing is known.
+abbrev pub known_files : List ℕ → FolderFiles → Option (List File)
+known_files [] found = None
+known_files (first ∷ rest) (Ok files) = Some files
+known_files (first ∷ rest) (Err why) = None
+
+abbrev pub paths_of : List File → List (List ℕ)
+paths_of files = map (λ file. file.path) files
+
+-- The path of a location within a context, without its query.
+abbrev pub path_in : Result Canon PathFault → Option (List ℕ)
+path_in (Ok canon) = Some canon.path
+path_in (Err fault) = None
+
+abbrev pub page_with : List ℕ → List ℕ → LoginPage
+page_with its_path its_text = record { path = its_path; text = its_text }
+
+-- The text of the file with this path, if there is one, and it is a text.
+abbrev pub text_at : List File → List ℕ → Option (List ℕ)
+text_at files path = option_and_then text_of (file_at files path)
+
+abbrev pub page_at : List File → List ℕ → Option LoginPage
+page_at files path = option_map (page_with path) (text_at files path)
+
+-- The login page, if it is among the files.
+abbrev pub login_page_in : List File → Option FormLogin → Option LoginPage
+login_page_in files None = None
+login_page_in files (Some pages) = option_and_then (page_at files) (path_in (canonical pages.login_page))
+
+abbrev pub files_of : List File → Option FormLogin → ContextFiles
+files_of files login = record { paths = Some (paths_of files); login_page = login_page_in files login }
+
+-- What is used of the files, if they are known.
+abbrev pub used_of : Option (List File) → Option FormLogin → ContextFiles
+used_of None login = record { paths = None; login_page = None }
+used_of (Some files) login = files_of files login
+
+abbrev pub files_in : List ℕ → FolderFiles → Option FormLogin → ContextFiles
+files_in name found login = used_of (known_files name found) login

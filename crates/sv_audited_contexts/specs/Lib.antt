@@ -1,0 +1,6 @@
+pub mod ConstraintLines
+pub mod Held
+pub mod ContextFiles
+pub mod ServletPatterns
+pub mod Audited
+pub mod LineFile
