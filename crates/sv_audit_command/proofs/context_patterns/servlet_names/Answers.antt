@@ -1,5 +1,5 @@
 use Rattle.sv_audit_command.proofs.MappingLemmas.{names_more}
-use Rattle.sv_audit_command.proofs.row_paths.servlet_names.Goals as goal
+use Rattle.sv_audit_command.proofs.context_patterns.servlet_names.Goals as goal
 
 pub loop-mapping-preserved : goal.loop-mapping-preserved
 loop-mapping-preserved c =
