@@ -1,7 +1,8 @@
 -- What answers the paths of rows.
 use Rattle.std.proofs.Common.{◌≡◌, ◌∙◌, ◌≤◌, ℕ, zero, suc, ◌+◌, Bool, true, false, cond, ◌&&◌, ◌||◌, List, [], ◌∷◌, ◌++◌, length, length-append, map, refl, sym, ap, subst, arith, inl, inr, Option, Some, None, nat_lt}
-use Rattle.std.specs.Prelude.{codes, filter, is_some, option_and_then, position, slice_get, IsTrue}
+use Rattle.std.specs.Prelude.{filter, is_some, option_and_then, position, slice_get, IsTrue}
 use Rattle.std.specs.List.{list_any}
+use Rattle.std.specs.Option.{option_map}
 use Rattle.std.specs.Str.{bytes_eq}
 use Rattle.std.proofs.lemmas.Bool.{and_from, both_ways, cases_Bool, false≢true, or_cases, or_left, or_right}
 use Rattle.std.proofs.lemmas.List.Folds.{list_any-append}
@@ -22,8 +23,8 @@ use Rattle.sv_audit.specs.Reading.{is_same}
 use Rattle.sv_audit.specs.Representatives.{EachPathIsRepresented, representatives}
 use Rattle.sv_report.specs.declared.report.Answers.{Answers}
 use Rattle.sv_audited_contexts.specs.ServletPatterns.{mapped_patterns}
-use Rattle.sv_audit_command.specs.ContextPatterns.{context_patterns, name_at, paths_among, servlet_at}
-use Rattle.sv_audit_command.specs.RowAnswers.{AnswersAreComplete, AnswersAreListed, AnswersAreRight, answered_among, answered_path, answered_paths, answers_among, answers_at, answers_in, answers_of, have_answer, includes, is_at, servlet_in}
+use Rattle.sv_audit_command.specs.ContextPatterns.{context_patterns, name_at, servlet_at}
+use Rattle.sv_audit_command.specs.RowAnswers.{AnswersAreComplete, AnswersAreListed, AnswersAreRight, answered_among, answered_path, answers_among, answers_in, answers_of, have_answer, includes, is_at, is_pathless, servlet_in}
 use Rattle.sv_audit_command.specs.declared.context_patterns.ContextPatterns.{ContextPatterns}
 use Rattle.sv_audit_command.specs.declared.context_patterns.TheConstants.{MAX_ANSWERED_PATTERNS}
 use Rattle.sv_audit_command.specs.declared.row_answers.AnsweredPath.{AnsweredPath}
@@ -108,12 +109,13 @@ module _ (constraints : List Constraint) (mappings : List ServletMapping) where
   -- The tried paths are the representatives, unless there are too many patterns.
   listed_from : (pattern : Option (List ℕ)) (answers : Answers) → answers_in constraints mappings pattern ≡ Some answers
       → answers ≡ answers_of (rising patterns.names) (filter (is_at pattern) (map (answered_path patterns) (representatives all)))
-  listed_from pattern answers is = go (nat_lt MAX_ANSWERED_PATTERNS (length all)) is
+  listed_from pattern answers is = go (is_pathless pattern) (nat_lt MAX_ANSWERED_PATTERNS (length all)) is
     where
-      go : (many : Bool) → answers_at (option_map (answered_among patterns) (cond many None (Some (representatives all)))) pattern ≡ Some answers
+      go : (pathless many : Bool) → cond pathless None (option_map (answers_among pattern) (option_map (answered_among patterns) (cond many None (Some (representatives all))))) ≡ Some answers
           → answers ≡ answers_of (rising patterns.names) (filter (is_at pattern) (map (answered_path patterns) (representatives all)))
-      go true none = absurd cc
-      go false some = cc
+      go true many none = absurd cc
+      go false true none = absurd cc
+      go false false some = cc
 
   servlet_same : BestStandsFirst → (one path : List ℕ) → best_pattern (mapped_patterns mappings) one ≡ best_pattern (mapped_patterns mappings) path
       → servlet_at patterns one ≡ servlet_at patterns path
@@ -150,8 +152,9 @@ module _ (constraints : List Constraint) (mappings : List ServletMapping) where
       let from = tried_from patterns (representatives all) pattern servlet has in
       (from.0, slashed_at from.0 from.1, from.2, from.3)
 
-  listed_at : (pattern : Option (List ℕ)) → length (all_patterns constraints) + length (mapped_patterns mappings) ≤ MAX_ANSWERED_PATTERNS → is_some (answers_in constraints mappings pattern) ≡ true
-  listed_at pattern few = go (nat_lt MAX_ANSWERED_PATTERNS (length all)) refl
+  listed_at : (pattern : Option (List ℕ)) → length (all_patterns constraints) + length (mapped_patterns mappings) ≤ MAX_ANSWERED_PATTERNS → is_pathless pattern ≡ false
+      → is_some (answers_in constraints mappings pattern) ≡ true
+  listed_at pattern few has = go (is_pathless pattern) (nat_lt MAX_ANSWERED_PATTERNS (length all)) has refl
     where
       size : length all ≡ length (all_patterns constraints) + length (mapped_patterns mappings)
       size = length-append (all_patterns constraints) (mapped_patterns mappings)
@@ -159,10 +162,11 @@ module _ (constraints : List Constraint) (mappings : List ServletMapping) where
       not_many : nat_lt MAX_ANSWERED_PATTERNS (length all) ≡ true → ⊥
       not_many many = absurd (both_ways _ many (rw size (grind (arith, few))))
 
-      go : (many : Bool) → nat_lt MAX_ANSWERED_PATTERNS (length all) ≡ many
-          → is_some (answers_at (option_map (answered_among patterns) (cond many None (Some (representatives all)))) pattern) ≡ true
-      go true many = absurd (not_many many)
-      go false few = refl
+      go : (pathless many : Bool) → pathless ≡ false → nat_lt MAX_ANSWERED_PATTERNS (length all) ≡ many
+          → is_some (cond pathless None (option_map (answers_among pattern) (option_map (answered_among patterns) (cond many None (Some (representatives all)))))) ≡ true
+      go true many has is = absurd (false≢true (sym has))
+      go false true has many = absurd (not_many many)
+      go false false has few = refl
 
 pub answers_complete : BestStandsFirst → EachPathIsRepresented → AnswersAreComplete
 answers_complete first represented constraints mappings answers path rooted is = complete_at constraints mappings first represented answers path rooted is
@@ -171,4 +175,4 @@ pub answers_right : AnswersAreRight
 answers_right constraints mappings pattern answers servlet is included = right_at constraints mappings pattern answers servlet is included
 
 pub answers_listed : AnswersAreListed
-answers_listed constraints mappings pattern few = listed_at constraints mappings pattern few
+answers_listed constraints mappings pattern few has = listed_at constraints mappings pattern few has

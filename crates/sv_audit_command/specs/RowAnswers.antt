@@ -1,7 +1,8 @@
 -- What answers the paths of a row: servlets, or files (Jakarta Servlet 6.0, sections 12.1 and 12.2).
-use Rattle.std.specs.Prelude.{◌≡◌, ◌≤◌, ℕ, ◌+◌, Bool, List, length, filter, map, Option, None, Some, is_some, option_map, IsTrue}
+use Rattle.std.specs.Prelude.{◌≡◌, ◌≤◌, ℕ, ◌+◌, Bool, false, List, length, filter, map, Option, None, Some, is_some, option_map, if◌then◌else◌, IsTrue}
 use Rattle.std.specs.List.{list_any}
 use Rattle.sv_audit.specs.Reading.{is_same}
+use Rattle.sv_audit.specs.Shapes.{matches_nothing}
 use Rattle.sv_constraints.specs.Covering.{all_patterns, lists}
 use Rattle.sv_constraints.specs.declared.constraint.Constraint.{Constraint}
 use Rattle.sv_descriptor.specs.declared.servlet.ServletMapping.{ServletMapping}
@@ -41,9 +42,14 @@ answers_of names paths = record { servlets = filter (λ name. have_answer paths 
 abbrev pub answers_among : Option (List ℕ) → AnsweredPaths → Answers
 answers_among pattern answered = answers_of answered.names (filter (is_at pattern) answered.paths)
 
--- What answers the paths of the row with the pattern.
+-- Whether the row with the pattern has no canonical path (section 3.5.2).
+abbrev pub is_pathless : Option (List ℕ) → Bool
+is_pathless None = false
+is_pathless (Some pattern) = matches_nothing pattern
+
+-- What answers the paths of the row with the pattern, if it has any.
 abbrev pub answers_at : Option AnsweredPaths → Option (List ℕ) → Option Answers
-answers_at answered pattern = option_map (answers_among pattern) answered
+answers_at answered pattern = if is_pathless pattern then None else option_map (answers_among pattern) answered
 
 -- The same, of constraints and servlets.
 abbrev pub answers_in : List Constraint → List ServletMapping → Option (List ℕ) → Option Answers
@@ -68,7 +74,7 @@ AnswersAreRight = (constraints : List Constraint) (mappings : List ServletMappin
     → answers_in constraints mappings pattern ≡ Some answers → IsTrue (includes answers servlet)
     → (path : List ℕ) × IsTrue (is_rooted path) × (best_pattern (all_patterns constraints) path ≡ pattern) × (servlet_in constraints mappings path ≡ servlet)
 
--- Answers are listed unless there are too many patterns.
+-- Answers are listed unless there are too many patterns, or the row has no canonical path.
 abbrev pub AnswersAreListed : Type 0
 AnswersAreListed = (constraints : List Constraint) (mappings : List ServletMapping) (pattern : Option (List ℕ))
-    → length (all_patterns constraints) + length (mapped_patterns mappings) ≤ MAX_ANSWERED_PATTERNS → IsTrue (is_some (answers_in constraints mappings pattern))
+    → length (all_patterns constraints) + length (mapped_patterns mappings) ≤ MAX_ANSWERED_PATTERNS → is_pathless pattern ≡ false → IsTrue (is_some (answers_in constraints mappings pattern))

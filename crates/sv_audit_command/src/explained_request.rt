@@ -83,7 +83,7 @@ fn push_site(
         file: source.file,
         descriptor,
         constraints,
-        lines: source.lines,
+        lines: source.lines.constraints,
         caller,
     })?;
     Ok(())

@@ -10,7 +10,9 @@ ghost use Rattle.sv_audit_command.specs.RowAnswers as spec;
 
 use crate::context_patterns::{ContextPatterns, servlet_at};
 use std::alloc::Global;
-use sv_audit::{best_text, copied_texts, each_path_is_represented, is_same, sorted};
+use sv_audit::{
+    best_text, copied_texts, each_path_is_represented, is_same, matches_nothing, sorted,
+};
 use sv_mapping::laws::best_stands_first;
 use sv_report::Answers;
 use sv_text::{Listed, NoMemory, Text};
@@ -117,7 +119,8 @@ fn row_pattern(
     }
 }
 
-/// Returns what answers the paths of the row with this pattern, if it is known what answers the paths of the context.
+/// Returns what answers the paths of the row with this pattern, if the row has any, and if it is known what answers the
+/// paths of the context.
 pub(crate) fn answers_at(
     alloc: Global,
     answered: &Option<AnsweredPaths>,
@@ -125,9 +128,22 @@ pub(crate) fn answers_at(
 ) -> Result<Option<Answers>, NoMemory>
     ensures { GivesAnswer result (spec.answers_at answered.now pattern.now) }
 {
+    if is_pathless(pattern) {
+        return Ok(None);
+    }
     match answered {
         Some(answered) => Ok(Some(answers_among(alloc, answered, pattern)?)),
         None => Ok(None),
+    }
+}
+
+/// Returns whether the row with the pattern has no canonical path.
+fn is_pathless(pattern: &Option<Text>) -> bool
+    ensures { result ≡ spec.is_pathless pattern.now }
+{
+    match pattern {
+        Some(pattern) => matches_nothing(pattern.as_str()),
+        None => false,
     }
 }
 
@@ -203,8 +219,8 @@ fn is_answered_by(path: &AnsweredPath, servlet: Option<&str>) -> bool
 }
 
 /// What answers a path is among the answers of its row: the servlet whose pattern is the best match for it, or files.
-/// Each of these answers one of the paths of the row. They are listed for a context with at most
-/// [`MAX_ANSWERED_PATTERNS`](crate::context_patterns::MAX_ANSWERED_PATTERNS) patterns.
+/// Each of these answers one of the paths of the row. They are listed for a row with a canonical path,
+/// in a context with at most [`MAX_ANSWERED_PATTERNS`](crate::context_patterns::MAX_ANSWERED_PATTERNS) patterns.
 pub fn answers_are_exact()
     ensures complete { spec.AnswersAreComplete }
     ensures right { spec.AnswersAreRight }

@@ -19,7 +19,7 @@ pub fn line_of(lines: &[Option<u64>], constraint: Option<u64>) -> Option<u64>
     }
 }
 
-fn line_at(lines: &[Option<u64>], number: u64) -> Option<u64>
+pub fn line_at(lines: &[Option<u64>], number: u64) -> Option<u64>
     ensures { result ≡ spec.line_at lines.now number }
 {
     if number == 0 {
