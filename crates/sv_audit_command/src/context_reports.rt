@@ -15,7 +15,7 @@ use crate::row_paths::reported_rows;
 use crate::viewer::viewer_in;
 use std::alloc::Global;
 use sv_audit::{Row, Table, table_of};
-use sv_audited_contexts::AuditedContext;
+use sv_audited_contexts::{AuditedContext, Source};
 use sv_descriptor::Names;
 use sv_findings::{Finding, Reaches, Surroundings, findings_of};
 use sv_mapping::{PatternTable, is_at_or_below, path_within};
@@ -55,16 +55,16 @@ fn context_report(
     ensures { GivesAnswer result (spec.context_report asking.entry.viewer asking.entry.accepted.now context) }
 {
     let audit = audit_of(alloc, &context, asking)?;
-    let source = context.source;
+    let Source { path, file, lines } = context.source;
     Ok(ContextReport {
-        path: source.path,
-        file: source.file,
+        path,
+        file,
         has_login: context.has_login,
         viewer: audit.viewer,
         others: audit.others,
         rows: audit.rows,
         findings: audit.findings,
-        lines: source.lines.constraints,
+        lines: lines.constraints,
     })
 }
 
