@@ -34,7 +34,7 @@ descriptor = "web.toml"
 files = ""
 """
 SHOP = SERVER.replace('path = ""', 'path = "/shop"')
-LINES = f"{NAME}\n3\n7\n"
+LINES = f"{NAME}\n3\n7\nrole 12\n"
 USAGE = """sv audit WEB.XML [OPTION ..]
     imports the web.xml, and shows who may enter where by it; sets --lines, and has two more options:
     --users FILE            the users: a tomcat-users.xml, or a users file

@@ -27,24 +27,41 @@ _PUBLIC_IDS = (
 )
 
 
+_CONSTRAINT, _ROLE = "[[security-constraint]]", "[[security-role]]"
+
+
+@dataclasses.dataclass
+class Part:
+    """A table of a descriptor, its header, and the line of the web.xml on which its element begins, if it is of use."""
+
+    header: str
+    table: Table
+    line: int | None = None
+
+
 @dataclasses.dataclass
 class Descriptor:
-    """The tables of a descriptor, in the order of its format, the lines of the web.xml on which its constraints begin, and whether no other file has to be read."""
+    """The tables of a descriptor, in the order of its format, and whether no other file has to be read."""
 
     top: Table
-    tables: list[tuple[str, Table]]
-    constraint_lines: list[int]
+    parts: list[Part]
     is_complete: bool
 
     def text(self) -> str:
         """The descriptor's TOML."""
         top = "".join(toml.pair(key, value) for key, value in self.top.items())
         texts = [top] if top else []
-        return "\n".join(texts + [toml.table(header, table) for header, table in self.tables])
+        return "\n".join(texts + [toml.table(part.header, part.table) for part in self.parts])
 
     def lines_text(self, file: str) -> str:
-        """The name of the web.xml, and the lines on which constraint 1, 2, .. begins: one on each line."""
-        return "".join(f"{item}\n" for item in [file, *self.constraint_lines])
+        """The file of lines: the name of the web.xml, the lines on which constraint 1, 2, .. begins, and after `role ` the lines on which the declared roles begin."""
+        roles = [f"role {line}" for line in self._lines(_ROLE)]
+        return "".join(f"{item}\n" for item in [file, *self._lines(_CONSTRAINT), *roles])
+
+    def _lines(self, header: str) -> list[str]:
+        """The lines of the tables with a header, each empty where there is none."""
+        parts = [part for part in self.parts if part.header == header]
+        return ["" if part.line is None else str(part.line) for part in parts]
 
 
 def read(text: bytes, told: Told) -> Descriptor:
@@ -56,10 +73,9 @@ def read(text: bytes, told: Told) -> Descriptor:
     _check_completeness(root, told)
     _tell_encoding(root, told)
     top, constraints = _top(root, told), security.constraints(root, told)
-    tables = _tables(root, constraints, told)
+    parts = _parts(root, constraints, told)
     guards.tell_guards(root, told)
-    lines = [constraint.line for constraint in constraints]
-    descriptor = Descriptor({**_version(tables), **top}, tables, lines, _is_complete(root))
+    descriptor = Descriptor({**_version(parts), **top}, parts, _is_complete(root))
     _check_lists(descriptor, told)
     return descriptor
 
@@ -121,9 +137,9 @@ def _top(root: Element, told: Told) -> Table:
     return {**top, **words(root)}
 
 
-def _version(tables: list[tuple[str, Table]]) -> Table:
+def _version(parts: list[Part]) -> Table:
     """The version of a descriptor: the second where it sets the cookie of sessions, and else none, which is the first."""
-    return {"version": 2} if any("cookie-config" in table for _, table in tables) else {}
+    return {"version": 2} if any("cookie-config" in part.table for part in parts) else {}
 
 
 def _tell_encoding(root: Element, told: Told) -> None:
@@ -136,9 +152,7 @@ def _tell_encoding(root: Element, told: Told) -> None:
         )
 
 
-def _tables(
-    root: Element, constraints: list[security.Constraint], told: Told
-) -> list[tuple[str, Table]]:
+def _parts(root: Element, constraints: list[security.Located], told: Told) -> list[Part]:
     servlet_names = components.Names("servlet", root)
     filter_names = components.Names("filter", root)
     lists = {
@@ -152,30 +166,34 @@ def _tables(
         "session-config": pages.session_config(root, told),
         "welcome-file-list": pages.welcome_files(root, told),
     }
-    later = {
-        "error-page": pages.error_pages(root, told),
-        "security-constraint": [constraint.table for constraint in constraints],
-        "security-role": security.roles(root, told),
-    }
+    error_pages = {"error-page": pages.error_pages(root, told)}
+    roles = security.roles(root, told)
     login = {"login-config": security.login_config(root, told)}
-    return _rows(lists) + _tables_of(singles) + _rows(later) + _tables_of(login)
+    return [
+        *_of_lists(lists),
+        *_of_tables(singles),
+        *_of_lists(error_pages),
+        *[Part(_CONSTRAINT, constraint.table, constraint.line) for constraint in constraints],
+        *[Part(_ROLE, role.table, role.line) for role in roles],
+        *_of_tables(login),
+    ]
 
 
-def _rows(lists: dict[str, list[Table]]) -> list[tuple[str, Table]]:
-    return [(f"[[{name}]]", table) for name, tables in lists.items() for table in tables]
+def _of_lists(lists: dict[str, list[Table]]) -> list[Part]:
+    return [Part(f"[[{name}]]", table) for name, tables in lists.items() for table in tables]
 
 
-def _tables_of(singles: dict[str, Table | None]) -> list[tuple[str, Table]]:
-    return [(f"[{name}]", table) for name, table in singles.items() if table is not None]
+def _of_tables(singles: dict[str, Table | None]) -> list[Part]:
+    return [Part(f"[{name}]", table) for name, table in singles.items() if table is not None]
 
 
 def _check_lists(descriptor: Descriptor, told: Told) -> None:
     """Sees that no list is longer than the format allows: one that is cut would be another configuration."""
-    headers = [header for header, _ in descriptor.tables]
+    headers = [part.header for part in descriptor.parts]
     for header in dict.fromkeys(headers):
         _check_length(header.strip("[]"), headers.count(header), told)
-    for _, table in descriptor.tables:
-        _check_inner_lists(table, told)
+    for part in descriptor.parts:
+        _check_inner_lists(part.table, told)
 
 
 def _check_inner_lists(table: Table, told: Told) -> None:

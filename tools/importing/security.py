@@ -31,17 +31,17 @@ _GUARANTEES = ("NONE", "INTEGRAL", "CONFIDENTIAL")
 
 
 @dataclasses.dataclass(frozen=True)
-class Constraint:
-    """The table of a constraint, and the line on which its element begins."""
+class Located:
+    """The table of a constraint or role, and the line on which its element begins."""
 
     table: Table
     line: int
 
 
-def constraints(root: Element, told: Told) -> list[Constraint]:
+def constraints(root: Element, told: Told) -> list[Located]:
     """The constraints, each at its place. What does not fit into one is a constraint after all others, with the line of the same element."""
-    found: list[Constraint] = []
-    behind: list[tuple[int, Constraint]] = []
+    found: list[Located] = []
+    behind: list[tuple[int, Located]] = []
     for number, element in enumerate(root.all("security-constraint"), 1):
         rest = {**_authorization(element, told), **_transport(element, told), **words(element)}
         parts = _parts(_collections(element, told))
@@ -54,7 +54,7 @@ def constraints(root: Element, told: Told) -> list[Constraint]:
                 )
             parts = [[{"url-pattern": [NO_PATH]}]]
         first, *others = [
-            Constraint({"web-resource-collection": list(part), **rest}, element.line)
+            Located({"web-resource-collection": list(part), **rest}, element.line)
             for part in parts
         ]
         found.append(first)
@@ -206,9 +206,9 @@ def _transport(element: Element, told: Told) -> Table:
     return {"user-data-constraint": {"transport-guarantee": asked, **words(constraint)}}
 
 
-def roles(root: Element, told: Told) -> list[Table]:
-    """The tables of the declared roles."""
-    tables: list[Table] = []
+def roles(root: Element, told: Told) -> list[Located]:
+    """The declared roles."""
+    found: list[Located] = []
     seen: set[str] = set()
     for element in root.all("security-role"):
         name = element.text_of("role-name")
@@ -228,8 +228,8 @@ def roles(root: Element, told: Told) -> list[Table]:
             told.tell(Rank.IGNORED, element.line, f"security-role {name} is declared again")
         else:
             seen.add(name)
-            tables.append({"role-name": name, **words(element)})
-    return tables
+            found.append(Located({"role-name": name, **words(element)}, element.line))
+    return found
 
 
 def login_config(root: Element, told: Told) -> Table | None:

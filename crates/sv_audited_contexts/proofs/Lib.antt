@@ -1,5 +1,6 @@
 mod LineLemmas
+mod LocatedLemmas
 mod HeldLemmas
 mod NumberLemmas
-mod LineLaw
+mod RoleLemmas
 pub mod Steps

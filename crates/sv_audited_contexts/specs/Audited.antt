@@ -10,8 +10,8 @@ use Rattle.sv_program.specs.Configuration.{Step, descriptor_in, each, users_in}
 use Rattle.sv_program.specs.FileStore.{FileText}
 use Rattle.sv_program.specs.declared.configuration.ContextTexts.{ContextTexts}
 use Rattle.sv_realm.specs.declared.account.User.{User}
-use Rattle.sv_audited_contexts.specs.ConstraintLines.{constraint_lines}
 use Rattle.sv_audited_contexts.specs.ContextFiles.{files_in}
+use Rattle.sv_audited_contexts.specs.DescriptorLines.{no_lines, source_lines}
 use Rattle.sv_audited_contexts.specs.Held.{held_in}
 use Rattle.sv_audited_contexts.specs.ServletPatterns.{mapped_patterns}
 use Rattle.sv_audited_contexts.specs.declared.audited_context.AuditedContext.{AuditedContext}
@@ -19,15 +19,16 @@ use Rattle.sv_audited_contexts.specs.declared.audited_context.ContextOptions.{Co
 use Rattle.sv_audited_contexts.specs.declared.audited_context.ContextParts.{ContextParts}
 use Rattle.sv_audited_contexts.specs.declared.audited_context.Source.{Source}
 use Rattle.sv_audited_contexts.specs.declared.context_files.ContextFiles.{ContextFiles}
+use Rattle.sv_audited_contexts.specs.declared.descriptor_lines.SourceLines.{SourceLines}
 
 -- The constraints for a connection whose transport is guaranteed, or for a plain one (section 13.8).
 abbrev pub constraints_over : Bool → List Constraint → List Constraint
 constraints_over is_secure constraints = if is_secure then secure constraints else constraints
 
--- The lines on which the constraints of a descriptor begin.
-abbrev pub lines_in : FileText → List (Option ℕ)
-lines_in (Ok text) = constraint_lines text
-lines_in (Err why) = []
+-- The lines on which the constraints and roles of a descriptor begin.
+abbrev pub lines_in : FileText → SourceLines
+lines_in (Ok text) = source_lines text
+lines_in (Err why) = no_lines
 
 abbrev pub source_of : ContextTexts → Source
 source_of texts = record { path = texts.context.path; file = texts.context.descriptor; lines = lines_in texts.descriptor }

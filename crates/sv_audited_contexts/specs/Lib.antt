@@ -1,4 +1,4 @@
-pub mod ConstraintLines
+pub mod DescriptorLines
 pub mod Held
 pub mod ContextFiles
 pub mod ServletPatterns

@@ -6,9 +6,9 @@ ghost use Rattle.sv_program.specs.Configuration.{each};
 ghost use Rattle.sv_audited_contexts.specs.Audited as spec;
 
 use crate::context_files::files_in;
-use crate::descriptor_lines::constraint_lines;
+use crate::descriptor_lines::{SourceLines, source_lines};
 use crate::held::held_in;
-use crate::servlet_patterns::servlet_patterns;
+use crate::mapped_patterns::servlet_patterns;
 use std::alloc::Global;
 use sv_audit::without_transport;
 use sv_constraints::{Constraint, Rules};
@@ -56,8 +56,8 @@ pub struct Source {
     pub path: Text,
     /// The name of the descriptor.
     pub file: Text,
-    /// The lines on which its constraints begin, as far as they are known.
-    pub lines: Listed<Option<u64>>,
+    /// The lines on which its constraints and roles begin, as far as they are known.
+    pub lines: SourceLines,
 }
 
 /// Reads the contexts from what was found of them. Transport requirements are dropped if requests arrive over a
@@ -234,11 +234,11 @@ fn source_of(alloc: Global, texts: &ContextTexts) -> Result<Source, NoMemory>
     })
 }
 
-fn lines_in(alloc: Global, file: &FileText) -> Result<Listed<Option<u64>>, NoMemory>
+fn lines_in(alloc: Global, file: &FileText) -> Result<SourceLines, NoMemory>
     ensures { GivesAnswer result (spec.lines_in file.now) }
 {
     match file {
-        Ok(text) => constraint_lines(alloc, text.as_str()),
-        Err(_) => Ok(Listed::from_vec(Vec::new(alloc))),
+        Ok(text) => source_lines(alloc, text.as_str()),
+        Err(_) => Ok(SourceLines::unknown(alloc)),
     }
 }

@@ -1,9 +1,11 @@
-//! The lines of a descriptor on which its security constraints begin.
+//! The lines of a descriptor on which its elements begin: security constraints and declared roles.
 //!
-//! The TOML reader gives no places. A line that reads `[[security-constraint]]` probably begins a constraint. It does if
-//! the lines before it lack the constraint, and with this line they have it.
+//! The TOML reader gives no places. So a descriptor is cut into parts before each line that begins with
+//! `[[security-constraint]]` or `[[security-role]]`, and each part is read as a TOML document of its own. The elements are
+//! numbered through the documents. An element that begins a part has the line of the part.
 
-ghost use Rattle.std.specs.Prelude.{◌≡◌, IfOk, drop, length, map, option_copied, option_map, take};
+ghost use Rattle.std.specs.Prelude.{◌≡◌, ◌++◌, ◌<◌, ◌≤◌, ◌^◌, ◌∷◌, IfOk, OnOk, drop, length, map, take, option_copied, option_map};
+ghost use Rattle.std.specs.List.{concat, count_by, flat_map, position};
 ghost use Rattle.sv_text.specs.Gives.{GivesAnswer};
 ghost use Rattle.toml.specs.Data.{get_member};
 ghost use Rattle.toml.specs.Parse.{parse_document};
@@ -11,50 +13,121 @@ ghost use Rattle.toml.specs.View.{table_view, view};
 ghost use Rattle.sv_program.specs.FileLine as file_line;
 ghost use Rattle.sv_program.specs.Offending.{items};
 ghost use Rattle.sv_program.specs.Place.{ends_line};
-ghost use Rattle.sv_audited_contexts.specs.ConstraintLines as spec;
+ghost use Rattle.sv_audited_contexts.specs.DescriptorLines as spec;
 
 use std::alloc::Global;
-use sv_program::MAX_LOCATED_BYTES;
 use sv_text::{Listed, NoMemory};
 use toml::{Table, Value};
 
-/// Returns for each line that reads `[[security-constraint]]` its number, from 1, if the constraint of the same place
-/// begins on it. There are none for a text of more than [`MAX_LOCATED_BYTES`].
+/// The lines of a file on which elements of a descriptor begin, from 1, as far as they are known.
+#[derive(Drop)]
+pub struct SourceLines {
+    /// That of constraint n, at place n - 1.
+    pub constraints: Listed<Option<u64>>,
+    /// That of each declared role, in the order of the file.
+    pub roles: Listed<Option<u64>>,
+}
+
+/// An element of a descriptor that has a line.
+#[derive(Clone, Copy)]
+pub enum Element {
+    /// A security constraint.
+    Constraint,
+    /// A declared role.
+    Role,
+}
+
+/// The elements of one kind in a document that is a part of a file.
+#[derive(Clone, Copy)]
+pub struct Elements {
+    /// The line of the first, if the document begins with it.
+    pub first: Option<u64>,
+    /// Their number.
+    pub count: usize,
+}
+
+/// A document that is a part of a file.
+#[derive(Clone, Copy)]
+pub struct Document {
+    /// Its security constraints.
+    pub constraints: Elements,
+    /// Its declared roles.
+    pub roles: Elements,
+}
+
+impl SourceLines {
+    ghost use Rattle.std.specs.Prelude.{◌≡◌};
+    ghost use Rattle.sv_audited_contexts.specs.DescriptorLines as spec;
+
+    /// Returns the lines of a file of which none is known.
+    pub(crate) fn unknown(alloc: Global) -> SourceLines
+        ensures { result ≡ spec.no_lines }
+    {
+        SourceLines {
+            constraints: Listed::from_vec(Vec::new(alloc)),
+            roles: Listed::from_vec(Vec::new(alloc)),
+        }
+    }
+}
+
+/// Returns the lines of a descriptor on which its constraints and declared roles begin. The time grows with its size.
+///
+/// A line is known if the element begins with it in the form `[[security-constraint]]` or `[[security-role]]`, and the
+/// lines before it, from each such line to the next, are TOML documents of their own. No line is known if the documents
+/// lack an element of the descriptor.
 ///
 /// # Errors
 /// `NoMemory` if memory runs out.
-pub fn constraint_lines(alloc: Global, text: &str) -> Result<Listed<Option<u64>>, NoMemory>
-    ensures { GivesAnswer result (spec.constraint_lines text.now) }
+pub fn source_lines(alloc: Global, text: &str) -> Result<SourceLines, NoMemory>
+    ensures { GivesAnswer result (spec.source_lines text.now) }
 {
     let text = text.as_bytes();
-    if text.len() > MAX_LOCATED_BYTES {
-        return Ok(Listed::from_vec(Vec::new(alloc)));
-    }
-    located_lines(alloc, text)
+    let whole = document_of(alloc, text, 1)?;
+    let parts = parts_of(alloc, text)?;
+    let documents = documents_of(alloc, parts.as_slice())?;
+    Ok(SourceLines {
+        constraints: element_lines(alloc, documents.as_slice(), whole, Element::Constraint)?,
+        roles: element_lines(alloc, documents.as_slice(), whole, Element::Role)?,
+    })
 }
 
-fn located_lines(alloc: Global, text: &[u8]) -> Result<Listed<Option<u64>>, NoMemory>
-    ensures { GivesAnswer result (spec.located_lines text.now) }
+/// Cuts a text before each line that begins an element.
+fn parts_of(alloc: Global, text: &[u8]) -> Result<Vec<&[u8]>, NoMemory>
+    ensures { IfOk result (λ parts. map (λ part. part.now) parts.items ≡ spec.parts_of text.now) }
 {
-    let ends = line_ends(alloc, text)?;
-    let headers = headers(alloc, text, ends.as_slice())?;
-    lines_of(alloc, text, headers.as_slice())
-}
-
-/// Returns the lengths of the first lines of a text: of one line, of two, and so on.
-fn line_ends(alloc: Global, text: &[u8]) -> Result<Vec<usize>, NoMemory>
-    ensures { IfOk result (λ ends. ends.items ≡ file_line.ends_from 0 text.now) }
-{
-    let mut ends = Vec::new(alloc);
+    let mut parts = Vec::new(alloc);
+    let mut start = 0;
     let mut at = 0;
-    for byte in text {
-        at += 1;
-        if ends_line(*byte) {
-            ends.push(at)?;
+    while at < text.len() {
+        let end = at + first_line_len(&text[at..]);
+        if is_header(&text[at..end]) {
+            parts.push(&text[start..at])?;
+            start = at;
         }
+        at = end;
     }
-    ends.push(at)?;
-    Ok(ends)
+    parts.push(&text[start..])?;
+    Ok(parts)
+}
+
+/// Returns the length of the first line of a text that is not empty, with its line feed.
+fn first_line_len(text: &[u8]) -> usize
+    requires { 0 < length text.now }
+    ensures more { 0 < result }
+    ensures within { result ≤ length text.now }
+    ensures first { spec.lines_of text.now ≡ take result text.now ∷ spec.lines_of (drop result text.now) }
+{
+    match line_end(text) {
+        Some(at) => at + 1,
+        None => text.len(),
+    }
+}
+
+/// Returns the place of the first line feed.
+fn line_end(text: &[u8]) -> Option<usize>
+    ensures { result ≡ position ends_line text.now }
+{
+    text.iter().position(|byte| ends_line(*byte))
 }
 
 fn ends_line(byte: u8) -> bool
@@ -63,144 +136,95 @@ fn ends_line(byte: u8) -> bool
     byte == b'\n'
 }
 
-/// A line that reads `[[security-constraint]]`.
-#[derive(Clone, Copy)]
-pub struct Header {
-    /// Its number, from 1.
-    pub line: u64,
-    /// The length of the lines before it.
-    pub before: usize,
-    /// The length of the lines up to its end.
-    pub after: usize,
-}
-
-/// Returns the lines of a text that read `[[security-constraint]]`, given the lengths of its first lines.
-fn headers(alloc: Global, text: &[u8], ends: &[usize]) -> Result<Vec<Header>, NoMemory>
-    ensures { IfOk result (λ headers. headers.items ≡ spec.headers_from text.now 0 0 ends.now) }
-{
-    let mut headers = Vec::new(alloc);
-    let mut line = 0;
-    let mut before = 0;
-    for end in ends {
-        let after = *end;
-        line += 1;
-        if is_header(between(text, before, after)) {
-            headers.push(Header {
-                line,
-                before,
-                after,
-            })?;
-        }
-        before = after;
-    }
-    Ok(headers)
-}
-
 fn is_header(line: &[u8]) -> bool
     ensures { result ≡ spec.is_header line.now }
 {
-    line.starts_with(b"[[security-constraint]]")
+    begins(Element::Constraint, line) || begins(Element::Role, line)
 }
 
-/// Returns the bytes of a text from one place to another.
-fn between(text: &[u8], start: usize, end: usize) -> &[u8]
-    ensures { result.now ≡ drop start (take end text.now) }
+/// Returns whether a text begins with such an element.
+fn begins(element: Element, text: &[u8]) -> bool
+    ensures { result ≡ spec.begins element text.now }
 {
-    let front = front(text, end);
-    if start < front.len() {
-        &front[start..]
-    } else {
-        &[]
+    match element {
+        Element::Constraint => text.starts_with(b"[[security-constraint]]"),
+        Element::Role => text.starts_with(b"[[security-role]]"),
     }
 }
 
-/// Returns the first `count` bytes of a text, or all of them.
-fn front(text: &[u8], count: usize) -> &[u8]
-    ensures { result.now ≡ take count text.now }
+/// Reads the parts of a file as documents, up to the first part that is none.
+fn documents_of(alloc: Global, parts: &[&[u8]]) -> Result<Vec<Document>, NoMemory>
+    requires { length (concat (map (λ part. part.now) parts.now)) < 2 ^ 63 }
+    ensures { IfOk result (λ documents. documents.items ≡ spec.documents_from 1 (map (λ part. part.now) parts.now)) }
 {
-    if count < text.len() {
-        &text[..count]
-    } else {
-        text
+    let mut documents = Vec::new(alloc);
+    let mut line = 1;
+    for part in parts {
+        let Some(document) = document_of(alloc, *part, line)? else {
+            return Ok(documents);
+        };
+        documents.push(document)?;
+        line += line_count(*part);
     }
+    Ok(documents)
 }
 
-/// Returns the lines of the constraints, in order, given the lines that may begin them.
-fn lines_of(alloc: Global, text: &[u8], headers: &[Header]) -> Result<Listed<Option<u64>>, NoMemory>
-    ensures { GivesAnswer result (spec.lines_of text.now 0 headers.now) }
+/// Returns the number of line feeds in a text.
+fn line_count(text: &[u8]) -> u64
+    ensures value { result ≡ count_by ends_line text.now }
+    ensures within { result ≤ length text.now }
 {
-    let mut lines = Vec::with_capacity(alloc, headers.len())?;
-    for (place, header) in headers.iter().enumerate() {
-        lines.push(line_of(alloc, text, place, *header)?)?;
-    }
-    Ok(Listed::from_vec(lines))
+    text.iter().filter(|byte| ends_line(**byte)).count() as u64
 }
 
-/// Returns the number of the line, if the constraint at this place begins on it.
-fn line_of(
-    alloc: Global,
-    text: &[u8],
-    place: usize,
-    header: Header,
-) -> Result<Option<u64>, NoMemory>
-    ensures { GivesAnswer result (spec.line_of text.now place header) }
+/// Reads a part of a file that begins on this line, if it is a TOML document.
+fn document_of(alloc: Global, text: &[u8], line: u64) -> Result<Option<Document>, NoMemory>
+    ensures { GivesAnswer result (spec.document_of line text.now) }
 {
-    if !lacks(place, constraint_count(alloc, front(text, header.before))?) {
-        return Ok(None);
-    }
-    if !has(place, constraint_count(alloc, front(text, header.after))?) {
-        return Ok(None);
-    }
-    Ok(Some(header.line))
-}
-
-/// Returns whether there is a document, and it has no constraint at this place.
-fn lacks(place: usize, count: Option<usize>) -> bool
-    ensures { result ≡ spec.lacks place count }
-{
-    match count {
-        Some(count) => count <= place,
-        None => false,
-    }
-}
-
-/// Returns whether there is a document, and it has a constraint at this place.
-fn has(place: usize, count: Option<usize>) -> bool
-    ensures { result ≡ spec.has place count }
-{
-    match count {
-        Some(count) => place < count,
-        None => false,
-    }
-}
-
-/// Returns the number of security constraints of these bytes, if they are a TOML document.
-fn constraint_count(alloc: Global, bytes: &[u8]) -> Result<Option<usize>, NoMemory>
-    ensures { GivesAnswer result (spec.constraint_count bytes.now) }
-{
-    match text_of(bytes) {
-        Some(text) => count_in(alloc, text),
+    match table_of(alloc, text)? {
+        Some(table) => Ok(Some(document_in(&table, text, line))),
         None => Ok(None),
     }
 }
 
-fn count_in(alloc: Global, text: &str) -> Result<Option<usize>, NoMemory>
-    ensures { GivesAnswer result (option_map spec.count_of (parse_document text.now)) }
+fn document_in(table: &Table, text: &[u8], line: u64) -> Document
+    ensures { result ≡ spec.document_in line text.now (table_view table.now) }
 {
-    match toml::table_from_str(alloc, text) {
-        Ok(table) => Ok(Some(count_of(&table))),
-        Err(error) if error.is_memory() => Err(NoMemory),
-        Err(_) => Ok(None),
+    Document {
+        constraints: elements_in(Element::Constraint, table, text, line),
+        roles: elements_in(Element::Role, table, text, line),
     }
 }
 
-/// Returns the number of security constraints in the table of a file.
-fn count_of(file: &Table) -> usize
-    ensures { result ≡ spec.count_of (table_view file.now) }
+fn elements_in(element: Element, table: &Table, text: &[u8], line: u64) -> Elements
+    ensures { result ≡ spec.elements_in element line text.now (table_view table.now) }
 {
-    match member(file, "security-constraint") {
-        Some(value) => item_count(value),
+    Elements {
+        first: if begins(element, text) {
+            Some(line)
+        } else {
+            None
+        },
+        count: count_in(element, table),
+    }
+}
+
+/// Returns the number of elements in the table of a file.
+fn count_in(element: Element, table: &Table) -> usize
+    ensures { result ≡ spec.count_in element (table_view table.now) }
+{
+    match member(table, key(element)) {
+        Some(value) => items_of(value).len(),
         None => 0,
+    }
+}
+
+fn key(element: Element) -> &'static str
+    ensures { result.now ≡ spec.key element }
+{
+    match element {
+        Element::Constraint => "security-constraint",
+        Element::Role => "security-role",
     }
 }
 
@@ -210,12 +234,6 @@ fn member<'a>(table: &'a Table, key: &str) -> Option<&'a Value>
     table.get(key)
 }
 
-fn item_count(value: &Value) -> usize
-    ensures { result ≡ length (items (view value.now)) }
-{
-    items_of(value).len()
-}
-
 /// Returns the items of a list; any other value has none.
 fn items_of(value: &Value) -> &[Value]
     ensures { map view result.now ≡ items (view value.now) }
@@ -223,6 +241,26 @@ fn items_of(value: &Value) -> &[Value]
     match value.as_array() {
         Some(items) => items.as_slice(),
         None => &[],
+    }
+}
+
+/// Returns the table of these bytes, if they are a TOML document.
+fn table_of(alloc: Global, bytes: &[u8]) -> Result<Option<Table>, NoMemory>
+    ensures { IfOk result (λ table. option_map table_view table ≡ file_line.table_of bytes.now) }
+{
+    match text_of(bytes) {
+        Some(text) => parsed(alloc, text),
+        None => Ok(None),
+    }
+}
+
+fn parsed(alloc: Global, text: &str) -> Result<Option<Table>, NoMemory>
+    ensures { IfOk result (λ table. option_map table_view table ≡ parse_document text.now) }
+{
+    match toml::table_from_str(alloc, text) {
+        Ok(table) => Ok(Some(table)),
+        Err(error) if error.is_memory() => Err(NoMemory),
+        Err(_) => Ok(None),
     }
 }
 
@@ -236,8 +274,68 @@ pub fn text_of(bytes: &[u8]) -> Option<&str>
     }
 }
 
-/// The line of a constraint is the line on which it begins: the lines before it lack the constraint, and the next first
-/// lines that are a TOML document have it.
-pub fn a_located_constraint_begins_there()
+/// Returns the lines of the elements of the whole file, if the documents have all of them.
+fn element_lines(
+    alloc: Global,
+    documents: &[Document],
+    whole: Option<Document>,
+    element: Element,
+) -> Result<Listed<Option<u64>>, NoMemory>
+    ensures { GivesAnswer result (spec.if_all (option_map (λ document. (spec.elements_of element document).count) whole) (flat_map (spec.lines_in element) documents.now)) }
+{
+    let Some(whole) = whole else {
+        return Ok(Listed::from_vec(Vec::new(alloc)));
+    };
+    let lines = lines_of(alloc, documents, element)?;
+    if lines.len() == elements_of(element, &whole).count {
+        Ok(Listed::from_vec(lines))
+    } else {
+        Ok(Listed::from_vec(Vec::new(alloc)))
+    }
+}
+
+/// Returns the lines of the elements of documents, in order.
+fn lines_of(
+    alloc: Global,
+    documents: &[Document],
+    element: Element,
+) -> Result<Vec<Option<u64>>, NoMemory>
+    ensures { IfOk result (λ lines. lines.items ≡ flat_map (spec.lines_in element) documents.now) }
+{
+    let mut lines = Vec::new(alloc);
+    for document in documents {
+        push_lines(&mut lines, elements_of(element, document))?;
+    }
+    Ok(lines)
+}
+
+fn elements_of(element: Element, document: &Document) -> Elements
+    ensures { result ≡ spec.elements_of element document.now }
+{
+    match element {
+        Element::Constraint => document.constraints,
+        Element::Role => document.roles,
+    }
+}
+
+fn push_lines(lines: &mut Vec<Option<u64>>, elements: Elements) -> Result<(), NoMemory>
+    ensures { OnOk result (lines.new.items ≡ lines.old.items ++ spec.lines_with elements.first elements.count) }
+{
+    for number in 0..elements.count {
+        lines.push(line_at(elements.first, number))?;
+    }
+    Ok(())
+}
+
+/// Returns the line of the element of this number in a document, from 0.
+fn line_at(first: Option<u64>, number: usize) -> Option<u64>
+    ensures { result ≡ spec.line_at first number }
+{
+    if number == 0 { first } else { None }
+}
+
+/// Each line that is found is the one on which the constraint or role of its place begins: documents that have together
+/// exactly those before it are before the line, and a document that begins with one begins on it.
+pub fn a_located_element_begins_there()
     ensures { spec.LinesAreRight }
 {}

@@ -1,5 +1,5 @@
 //! The file of lines: the name of the file that an imported descriptor was made from, and the lines of that file on
-//! which the constraints begin.
+//! which the constraints and roles begin.
 
 ghost use Rattle.std.specs.Prelude.{◌≡◌, IfOk, map, true};
 ghost use Rattle.std.specs.Char.{is_ascii_digit};
@@ -9,10 +9,11 @@ ghost use Rattle.sv_text.specs.Gives.{GivesAnswer};
 ghost use Rattle.sv_audited_contexts.specs.LineFile as spec;
 
 use crate::audited_context::{AuditedContext, Source};
+use crate::descriptor_lines::SourceLines;
 use std::alloc::Global;
 use sv_text::{Listed, NoMemory, Text};
 
-/// Locates the constraints of the first context by the text of the file of lines, if the options name one.
+/// Locates the constraints and roles of the first context by the text of the file of lines, if the options name one.
 pub fn located(
     alloc: Global,
     name: Option<&str>,
@@ -74,28 +75,61 @@ pub fn parts(alloc: Global, text: &str) -> Result<Vec<&str>, NoMemory>
 fn source_of(alloc: Global, parts: &[&str], path: Text) -> Result<Source, NoMemory>
     ensures { GivesAnswer result (spec.source_of path (map (λ part. part.now) parts.now)) }
 {
-    let Some((file, numbers)) = parts.split_first() else {
+    let Some((file, lines)) = parts.split_first() else {
         return Ok(Source {
             path,
             file: Text::copy_of(alloc, "")?,
-            lines: Listed::from_vec(Vec::new(alloc)),
+            lines: SourceLines::unknown(alloc),
         });
     };
     Ok(Source {
         path,
         file: Text::copy_of(alloc, *file)?,
-        lines: numbers_of(alloc, numbers)?,
+        lines: source_lines(alloc, lines)?,
     })
 }
 
-fn numbers_of(alloc: Global, texts: &[&str]) -> Result<Listed<Option<u64>>, NoMemory>
-    ensures { GivesAnswer result (map spec.number (map (λ text. text.now) texts.now)) }
+/// Reads the lines of the file after the first one: those that begin with `role ` are of roles, the others of
+/// constraints.
+fn source_lines(alloc: Global, lines: &[&str]) -> Result<SourceLines, NoMemory>
+    ensures { GivesAnswer result (spec.source_lines (map (λ line. line.now) lines.now)) }
 {
-    let mut numbers = Vec::with_capacity(alloc, texts.len())?;
-    for text in texts {
-        numbers.push(number(*text))?;
+    Ok(SourceLines {
+        constraints: constraint_lines(alloc, lines)?,
+        roles: role_lines(alloc, lines)?,
+    })
+}
+
+fn constraint_lines(alloc: Global, lines: &[&str]) -> Result<Listed<Option<u64>>, NoMemory>
+    ensures { GivesAnswer result (spec.constraint_lines (map (λ line. line.now) lines.now)) }
+{
+    let mut numbers = Vec::new(alloc);
+    for line in lines {
+        if role_number(*line).is_none() {
+            numbers.push(number(*line))?;
+        }
     }
     Ok(Listed::from_vec(numbers))
+}
+
+fn role_lines(alloc: Global, lines: &[&str]) -> Result<Listed<Option<u64>>, NoMemory>
+    ensures { GivesAnswer result (spec.role_lines (map (λ line. line.now) lines.now)) }
+{
+    let mut numbers = Vec::new(alloc);
+    for line in lines {
+        let Some(text) = role_number(*line) else {
+            continue;
+        };
+        numbers.push(number(text))?;
+    }
+    Ok(Listed::from_vec(numbers))
+}
+
+/// Returns what follows `role ` in a line that begins with it.
+fn role_number(line: &str) -> Option<&str>
+    ensures { option_copied result ≡ spec.role_number line.now }
+{
+    line.strip_prefix("role ")
 }
 
 /// Returns the number that a text of decimal digits denotes, if it fits 64 bits.

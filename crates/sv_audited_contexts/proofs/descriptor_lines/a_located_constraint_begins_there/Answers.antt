@@ -1,5 +1,0 @@
-use Rattle.sv_audited_contexts.proofs.LineLaw.{lines_are_right}
-use Rattle.sv_audited_contexts.proofs.descriptor_lines.a_located_constraint_begins_there.Goals as goal
-
-pub returns : goal.returns
-returns c = lines_are_right
