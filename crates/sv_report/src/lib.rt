@@ -1,6 +1,7 @@
 //! Reports on who may reach what: access tables and findings as text and as JSON.
 #![tactic(auto)]
 
+mod answer_words;
 mod details;
 pub mod escaped;
 mod finding_lines;
@@ -19,7 +20,8 @@ mod values;
 mod viewers;
 mod words;
 
-pub use details::{detail_text, example_location};
+pub use answer_words::answers_text;
+pub use details::{example_location, paths_text};
 pub use finding_words::{heading, kind_name, problem_text, remedy};
 pub use folded_lines::{
     LATER_WIDTH, LINE_WIDTH, folded, lines_of, parts_fit, parts_keep_characters,
