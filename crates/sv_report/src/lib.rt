@@ -35,4 +35,4 @@ pub use parts::{joined, push_all};
 pub use places::{constraint_text, line_at, line_of, number_text, place_text};
 pub use report::{Answers, ContextReport, ReportedFinding, ReportedRow, Viewer};
 pub use viewers::{context_text, entry_text, hidden_text, viewer_title};
-pub use words::{methods_text, names_text, pattern_text, who_text};
+pub use words::{methods_text, names_text, pattern_text, shown_pattern, who_text};
