@@ -20,7 +20,7 @@ use Rattle.sv_audit.proofs.DifferenceLemmas.{in_kept}
 use Rattle.sv_audit.proofs.MeetingLemmas.{same_decides, same_itself}
 use Rattle.sv_audit.proofs.Represented.{in_listed}
 use Rattle.sv_audit.specs.Reading.{is_same}
-use Rattle.sv_audit.specs.Representatives.{EachPathIsRepresented, representatives}
+use Rattle.sv_audit.specs.Representatives.{EachPathIsRepresented, directories, endings, free_paths, named_paths, representatives}
 use Rattle.sv_report.specs.declared.report.Answers.{Answers}
 use Rattle.sv_audited_contexts.specs.ServletPatterns.{mapped_patterns}
 use Rattle.sv_audit_command.specs.ContextPatterns.{context_patterns, name_at, servlet_at}
@@ -41,12 +41,12 @@ in_any test (y ∷ ys) some = elim (or_cases _ _ some) [ inl here ↦ (y, inl re
 
 kept_in : {X : Type 0} (test : X → Bool) (x : X) (xs : List X) → In x (filter test xs) → In x xs × (test x ≡ true)
 kept_in test x [] there = absurd there
-kept_in test x (y ∷ ys) there = go (test y) refl there
+kept_in test x (y ∷ ys) there = go (test y) refl there (λ later. kept_in test x ys later)
   where
-    go : (b : Bool) → test y ≡ b → In x (cond b (y ∷ filter test ys) (filter test ys)) → In x (y ∷ ys) × (test x ≡ true)
-    go true is (inl same) = (inl same, ap test same ∙ is)
-    go true is (inr later) = let it = kept_in test x ys later in (inr it.0, it.1)
-    go false is later = let it = kept_in test x ys later in (inr it.0, it.1)
+    go : (b : Bool) → test y ≡ b → In x (cond b (y ∷ filter test ys) (filter test ys)) → (In x (filter test ys) → In x ys × (test x ≡ true)) → In x (y ∷ ys) × (test x ≡ true)
+    go true is (inl same) below = (inl same, ap test same ∙ is)
+    go true is (inr later) below = (inr (below later).0, (below later).1)
+    go false is later below = (inr (below later).0, (below later).1)
 
 lists_at : (texts : List (List ℕ)) (place : ℕ) (text : List ℕ) → slice_get texts place ≡ Some text → lists texts text ≡ true
 lists_at [] zero text is = absurd cc
@@ -58,6 +58,9 @@ both_true : (a b : Bool) → (a && b) ≡ true → (a ≡ true) × (b ≡ true)
 both_true true true both = (refl, refl)
 both_true true false both = absurd (false≢true both)
 both_true false b both = absurd (false≢true both)
+
+some_same : {X : Type 0} (x y : X) → Some x ≡ Some y → x ≡ y
+some_same x y same = cc
 
 -- ---- A path of a context.
 module _ (patterns : ContextPatterns) where
@@ -115,7 +118,7 @@ module _ (constraints : List Constraint) (mappings : List ServletMapping) where
           → answers ≡ answers_of (rising patterns.names) (filter (is_at pattern) (map (answered_path patterns) (representatives all)))
       go true many none = absurd cc
       go false true none = absurd cc
-      go false false some = cc
+      go false false some = sym (some_same _ _ some)
 
   servlet_same : BestStandsFirst → (one path : List ℕ) → best_pattern (mapped_patterns mappings) one ≡ best_pattern (mapped_patterns mappings) path
       → servlet_at patterns one ≡ servlet_at patterns path
@@ -142,7 +145,7 @@ module _ (constraints : List Constraint) (mappings : List ServletMapping) where
       ∙ included_by patterns _ (servlet_at patterns path) (λ name its. named_at patterns (best (mapped_patterns mappings) path) name its) has
 
   slashed_at : (path : List ℕ) → In path (representatives all) → is_rooted path ≡ true
-  slashed_at path there = or_right _ _ (kept_in is_slashed path _ there).1
+  slashed_at path there = or_right _ _ (kept_in is_slashed path (free_paths (named_paths all) (endings all) (directories all) ++ named_paths all) there).1
 
   right_at : (pattern : Option (List ℕ)) (answers : Answers) (servlet : Option (List ℕ)) → answers_in constraints mappings pattern ≡ Some answers → includes answers servlet ≡ true
       → (path : List ℕ) × (is_rooted path ≡ true) × (best_pattern (all_patterns constraints) path ≡ pattern) × (servlet_in constraints mappings path ≡ servlet)
@@ -160,7 +163,7 @@ module _ (constraints : List Constraint) (mappings : List ServletMapping) where
       size = length-append (all_patterns constraints) (mapped_patterns mappings)
 
       not_many : nat_lt MAX_ANSWERED_PATTERNS (length all) ≡ true → ⊥
-      not_many many = absurd (both_ways _ many (rw size (grind (arith, few))))
+      not_many many = absurd (both_ways _ (rw size (grind (arith, few))) many)
 
       go : (pathless many : Bool) → pathless ≡ false → nat_lt MAX_ANSWERED_PATTERNS (length all) ≡ many
           → is_some (cond pathless None (option_map (answers_among pattern) (option_map (answered_among patterns) (cond many None (Some (representatives all)))))) ≡ true
