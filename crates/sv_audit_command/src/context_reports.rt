@@ -1,6 +1,7 @@
 //! What is reported of contexts.
 
-ghost use Rattle.std.specs.Prelude.{◌≡◌, ◌++◌, ℕ, List, OnOk, map};
+ghost use Rattle.std.specs.Prelude.{◌≡◌, ◌++◌, ℕ, List, OnOk, map, position};
+ghost use Rattle.std.specs.Str.{bytes_eq};
 ghost use Rattle.sv_audited_contexts.specs.LineFile.{lines_of};
 ghost use Rattle.sv_descriptor.specs.Names.{HaveSame};
 ghost use Rattle.sv_policy.specs.Groups.{IsGrouped};
@@ -226,7 +227,15 @@ fn finding_line(context: &AuditedContext, constraint: Option<u64>, finding: &Fin
 fn role_line(context: &AuditedContext, role: &str) -> Option<u64>
     ensures { result ≡ spec.role_line context.now role.now }
 {
-    let declared = context.rules.declared.as_slice();
-    let place = declared.iter().position(|name| name.as_str() == role)?;
-    line_at(context.source.lines.roles.as_slice(), place as u64 + 1)
+    match place_of(context.rules.declared.as_slice(), role) {
+        Some(place) => line_at(context.source.lines.roles.as_slice(), place as u64 + 1),
+        None => None,
+    }
+}
+
+/// Returns the place of a name among names.
+fn place_of(names: &[Text], name: &str) -> Option<usize>
+    ensures { result ≡ position (λ one. bytes_eq one name.now) names.now }
+{
+    names.iter().position(|one| one.as_str() == name)
 }
