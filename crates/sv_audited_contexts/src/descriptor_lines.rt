@@ -1,8 +1,8 @@
 //! The lines of a descriptor on which its elements begin: security constraints and declared roles.
 //!
 //! The TOML reader gives no places. So a descriptor is cut into parts before each line that begins with
-//! `[[security-constraint]]` or `[[security-role]]`, and each part is read as a TOML document of its own. The elements are
-//! numbered through the documents. An element that begins a part has the line of the part.
+//! `[[security-constraint]]` or `[[security-role]]`, and each part is read as a TOML document of its own. The number of
+//! an element follows from the counts of the documents before it. An element that begins a part has the line of the part.
 
 ghost use Rattle.std.specs.Prelude.{◌≡◌, ◌++◌, ◌<◌, ◌≤◌, ◌^◌, ◌∷◌, IfOk, OnOk, drop, length, map, take, option_copied, option_map};
 ghost use Rattle.std.specs.List.{concat, count_by, flat_map, position};
@@ -70,11 +70,12 @@ impl SourceLines {
     }
 }
 
-/// Returns the lines of a descriptor on which its constraints and declared roles begin. The time grows with its size.
+/// Returns the lines of a descriptor on which its constraints and declared roles begin. The time is proportional to its
+/// size.
 ///
-/// A line is known if the element begins with it in the form `[[security-constraint]]` or `[[security-role]]`, and the
-/// lines before it, from each such line to the next, are TOML documents of their own. No line is known if the documents
-/// lack an element of the descriptor.
+/// An element has a known line if the line begins with `[[security-constraint]]` or `[[security-role]]`, and the text from
+/// each such line up to the next is a TOML document of its own, as far as this element. There are no lines of constraints
+/// if these documents lack one of the descriptor, and likewise for roles.
 ///
 /// # Errors
 /// `NoMemory` if memory runs out.
@@ -99,7 +100,7 @@ fn parts_of(alloc: Global, text: &[u8]) -> Result<Vec<&[u8]>, NoMemory>
     let mut start = 0;
     let mut at = 0;
     while at < text.len() {
-        let end = at + first_line_len(&text[at..]);
+        let end = at + first_line_length(&text[at..]);
         if is_header(&text[at..end]) {
             parts.push(&text[start..at])?;
             start = at;
@@ -111,7 +112,7 @@ fn parts_of(alloc: Global, text: &[u8]) -> Result<Vec<&[u8]>, NoMemory>
 }
 
 /// Returns the length of the first line of a text that is not empty, with its line feed.
-fn first_line_len(text: &[u8]) -> usize
+fn first_line_length(text: &[u8]) -> usize
     requires { 0 < length text.now }
     ensures more { 0 < result }
     ensures within { result ≤ length text.now }

@@ -9,22 +9,22 @@ loop-at-init c = record { rising = omega arith; within = omega arith; found = rw
 
 pub loop-at-preserved-in_ok-push : goal.loop-at-preserved-in_ok-push
 loop-at-preserved-in_ok-push c =
-    let first = rw (take_rest c.args.text.now c.loop-at.at) at c.first_line_len.ensures.first in
-    let within = rw (take_rest c.args.text.now c.loop-at.at) at c.first_line_len.ensures.within in
+    let first = rw (take_rest c.args.text.now c.loop-at.at) at c.first_line_length.ensures.first in
+    let within = rw (take_rest c.args.text.now c.loop-at.at) at c.first_line_length.ensures.within in
     record {
       rising = omega arith;
       within = grind (arith, length-drop, within, c.loop-at.invariant.within);
-      found = part_ended c.args.text.now c.loop-at.start c.loop-at.at c.first_line_len.result c.loop-at.parts.items c.push.new.self.items _ (parts_of c.args.text.now)
+      found = part_ended c.args.text.now c.loop-at.start c.loop-at.at c.first_line_length.result c.loop-at.parts.items c.push.new.self.items _ (parts_of c.args.text.now)
           first (sym c.is_header.ensures ∙ c.if-is_header.true) c.in_ok-push.ensures.items refl c.loop-at.invariant.found;
     }
 
 pub loop-at-preserved : goal.loop-at-preserved
 loop-at-preserved c =
-    let first = rw (take_rest c.args.text.now c.loop-at.at) at c.first_line_len.ensures.first in
-    let within = rw (take_rest c.args.text.now c.loop-at.at) at c.first_line_len.ensures.within in
+    let first = rw (take_rest c.args.text.now c.loop-at.at) at c.first_line_length.ensures.first in
+    let within = rw (take_rest c.args.text.now c.loop-at.at) at c.first_line_length.ensures.within in
     record {
       rising = omega (arith, c.loop-at.invariant.rising);
       within = grind (arith, length-drop, within, c.loop-at.invariant.within);
-      found = part_goes_on c.args.text.now c.loop-at.start c.loop-at.at c.first_line_len.result _ (parts_of c.args.text.now)
+      found = part_goes_on c.args.text.now c.loop-at.start c.loop-at.at c.first_line_length.result _ (parts_of c.args.text.now)
           c.loop-at.invariant.rising first (sym c.is_header.ensures ∙ c.if-is_header.false) c.loop-at.invariant.found;
     }
