@@ -60,7 +60,7 @@ fn is_example(
     ensures { GivesAnswer result (spec.is_example patterns.now (option_copied pattern.entry) path.now) }
 {
     let is_read_back = is_read_back(alloc, path)?;
-    Ok(is_read_back && is_same(pattern, best_of(patterns, path)))
+    Ok(is_read_back && is_same(pattern, best_text(patterns, path)))
 }
 
 /// Returns whether reading the location of the path gives the same path, without a query.
@@ -76,8 +76,8 @@ fn is_read_back(alloc: Global, path: &str) -> Result<bool, NoMemory>
     }
 }
 
-/// Returns the best match for a path.
-fn best_of<'a>(patterns: &'a PatternTable, path: &str) -> Option<&'a str>
+/// Returns the text of the best match for a path, if there is one (Jakarta Servlet 6.0, section 12.1).
+pub fn best_text<'a>(patterns: &'a PatternTable, path: &str) -> Option<&'a str>
     ensures { option_copied result ≡ best_pattern patterns.now path.now }
 {
     match patterns.lookup(path).best {

@@ -34,7 +34,7 @@ pub use caller_comparison::same_callers;
 pub use cells::{copied_access, covering_findings};
 pub use coverage::covering;
 pub use difference::{Difference, DifferenceKind, Side};
-pub use examples::example_of;
+pub use examples::{best_text, example_of};
 pub use focus::focused;
 pub use forms::form_of;
 pub use laws::{
@@ -42,12 +42,13 @@ pub use laws::{
     narrower_patterns_are_exact, only_transport_changes, served_paths_are_rooted, tables_are_right,
     visitors_are_decided,
 };
+pub use meetings::is_same;
 pub use narrower_patterns::Narrower;
 pub use narrowing::narrower;
-pub use order::sorted;
+pub use order::{copied_texts, sorted};
 pub use path_shapes::matches_nothing;
 pub use patterns::{all_patterns, is_among, is_extension_pattern, patterns_in};
-pub use representatives::representatives;
+pub use representatives::representative_paths;
 pub use roles::push_meant;
 pub use row_differences::differences;
 pub use rows::{Group, Row, Table};

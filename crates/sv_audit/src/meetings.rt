@@ -7,7 +7,8 @@ ghost use Rattle.sv_mapping.specs.BestMatch.{best_pattern};
 ghost use Rattle.sv_text.specs.Gives.{GivesAnswer};
 ghost use Rattle.sv_audit.specs.Differences as spec;
 
-use crate::representatives::representatives;
+use crate::examples::best_text;
+use crate::representatives::representative_paths;
 use crate::rows::Row;
 use std::alloc::Global;
 use sv_mapping::{Pattern, PatternFault, PatternTable};
@@ -36,7 +37,7 @@ pub(crate) fn meetings(
     let before = PatternTable::compile(alloc, patterns.as_slice())?;
     let after = PatternTable::compile(alloc, url_patterns(alloc, afters)?.as_slice())?;
     push_url_patterns(&mut patterns, alloc, afters)?;
-    let paths = representatives(alloc, patterns.as_slice())?;
+    let paths = representative_paths(alloc, patterns.as_slice())?;
     meetings_at(alloc, &before, &after, paths.as_slice())
 }
 
@@ -124,8 +125,8 @@ fn same_rows(meeting: &Meeting, other: &Meeting) -> bool
     is_same(&meeting.before, &other.before) && is_same(&meeting.after, &other.after)
 }
 
-/// Returns whether both are the same pattern, or none.
-pub(crate) fn is_same(pattern: &Option<Text>, other: &Option<Text>) -> bool
+/// Returns whether both are the same text, or none.
+pub fn is_same(pattern: &Option<Text>, other: &Option<Text>) -> bool
     ensures { result ≡ reading.is_same pattern.now other.now }
 {
     match (pattern, other) {
@@ -145,17 +146,17 @@ fn meeting_of(
 {
     Ok(Meeting {
         path: Text::copy_of(alloc, path)?,
-        before: best_of(alloc, before, path)?,
-        after: best_of(alloc, after, path)?,
+        before: copied_best(alloc, before, path)?,
+        after: copied_best(alloc, after, path)?,
     })
 }
 
 /// Copies the text of the best match for a path, if there is one.
-fn best_of(alloc: Global, patterns: &PatternTable, path: &str) -> Result<Option<Text>, NoMemory>
+fn copied_best(alloc: Global, patterns: &PatternTable, path: &str) -> Result<Option<Text>, NoMemory>
     ensures { GivesAnswer result (best_pattern patterns.now path.now) }
 {
-    match patterns.lookup(path).best {
-        Some(place) => Ok(Some(Text::copy_of(alloc, patterns.texts()[place].as_str())?)),
+    match best_text(patterns, path) {
+        Some(text) => Ok(Some(Text::copy_of(alloc, text)?)),
         None => Ok(None),
     }
 }

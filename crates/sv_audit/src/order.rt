@@ -9,6 +9,9 @@ use std::collections::BTreeSet;
 use sv_text::{Listed, NoMemory, Text};
 
 /// Returns the texts in ascending byte order, without duplicates.
+///
+/// # Errors
+/// `NoMemory` if memory runs out.
 pub fn sorted<'a>(alloc: Global, texts: &[&'a str]) -> Result<Vec<&'a str>, NoMemory>
     ensures { IfOk result (λ ordered. map (λ text. text.now) ordered.items ≡ rising (map (λ text. text.now) texts.now)) }
 {
@@ -20,6 +23,9 @@ pub fn sorted<'a>(alloc: Global, texts: &[&'a str]) -> Result<Vec<&'a str>, NoMe
 }
 
 /// Copies texts, in order.
+///
+/// # Errors
+/// `NoMemory` if memory runs out.
 pub fn copied_texts(alloc: Global, texts: &[&str]) -> Result<Listed<Text>, NoMemory>
     ensures { GivesAnswer result (map (λ text. text.now) texts.now) }
 {

@@ -19,7 +19,7 @@ use sv_text::{NoMemory, Text};
 ///
 /// # Errors
 /// `NoMemory` if memory runs out.
-pub fn representatives(alloc: Global, patterns: &[Pattern]) -> Result<Vec<Text>, NoMemory>
+pub fn representative_paths(alloc: Global, patterns: &[Pattern]) -> Result<Vec<Text>, NoMemory>
     ensures { IfOk result (λ paths. paths.items ≡ spec.representatives patterns.now) }
 {
     let named = named_paths(alloc, patterns)?;

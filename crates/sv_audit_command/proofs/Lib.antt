@@ -1,4 +1,5 @@
 mod MappingLemmas
+mod AnswerLemmas
 mod FilesFaults
 mod AuditRun
 mod Collected

@@ -26,7 +26,7 @@ site_with asked context app = record {
   file = context.source.file;
   descriptor = app;
   constraints = context.constraints;
-  lines = context.source.lines;
+  lines = context.source.lines.constraints;
   caller = caller_in asked context.realm;
 }
 

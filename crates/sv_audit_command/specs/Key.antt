@@ -1,5 +1,5 @@
 -- The keys of findings, by which an accepting file names them.
-use Rattle.std.specs.Prelude.{ℕ, Bool, true, false, ◌||◌, List, [], ◌∷◌, ◌++◌, codes, filter, find, map, nat_eq, slice_get, Option, None, Some}
+use Rattle.std.specs.Prelude.{ℕ, Bool, true, false, ◌||◌, List, [], ◌∷◌, ◌++◌, codes, filter, find, map, nat_eq, slice_get, Option, None, Some, option_and_then}
 use Rattle.std.specs.List.{flat_map}
 use Rattle.std.specs.Option.{option_map, option_map_or}
 use Rattle.sv_findings.specs.declared.finding.Finding.{Finding}
@@ -10,6 +10,7 @@ use Rattle.sv_constraints.specs.declared.constraint.Auth.{Auth}
 use Rattle.sv_constraints.specs.declared.constraint.Auth.TheVariants as auth
 use Rattle.sv_constraints.specs.declared.constraint.Constraint.{Constraint}
 use Rattle.sv_constraints.specs.declared.constraint.Methods.{Methods}
+use Rattle.sv_mapping.specs.BestMatch.{best_pattern}
 use Rattle.sv_policy.specs.Patterns.{lists_pattern}
 use Rattle.sv_program.specs.Uncovered.{methods_text, names_text}
 use Rattle.sv_report.specs.Escaped.{escaped}
@@ -74,6 +75,10 @@ first_number constraints = option_map (λ constraint. constraint.number) (slice_
 abbrev pub first_with : List Constraint → List ℕ → Option ℕ
 first_with constraints pattern = first_number (filter (λ constraint. lists_pattern constraint pattern) constraints)
 
+-- The number of the first constraint that lists the best match for the path among the patterns (section 12.1).
+abbrev pub first_at : List Constraint → List (List ℕ) → List ℕ → Option ℕ
+first_at constraints patterns path = option_and_then (first_with constraints) (best_pattern patterns path)
+
 -- Whether an authorization constraint names the role, or all declared roles (section 13.8.1).
 abbrev pub names_role : Auth → List ℕ → Bool
 names_role auth.Absent role = false
@@ -83,18 +88,19 @@ names_role (auth.Roles names) role = lists names role || lists names (codes "*")
 abbrev pub first_naming : List Constraint → List ℕ → Option ℕ
 first_naming constraints role = option_map (λ constraint. constraint.number) (find (λ constraint. names_role constraint.auth role) constraints)
 
--- The constraint to change: that of the finding, or the first one that has its pattern or names its role.
-abbrev pub constraint_of : List Constraint → Finding → Option ℕ
-constraint_of constraints (Opened pattern methods number other) = Some number
-constraint_of constraints (Uncovered pattern methods) = first_with constraints pattern
-constraint_of constraints (ReadOtherwise pattern methods other) = first_with constraints pattern
-constraint_of constraints (HeadDiffers pattern get head) = first_with constraints pattern
-constraint_of constraints (Dead number) = Some number
-constraint_of constraints (DeadPattern number pattern) = Some number
-constraint_of constraints (Unreached number pattern) = Some number
-constraint_of constraints (Unserved number pattern) = Some number
-constraint_of constraints (Escaped number pattern) = Some number
-constraint_of constraints (LoginNeeds path) = None
-constraint_of constraints (UnknownRole number role) = Some number
-constraint_of constraints (UnheldRole role) = first_naming constraints role
-constraint_of constraints (UnusedRole role) = None
+-- The constraint to change: that of the finding, or the first one that has its pattern, names its role, or has the best
+-- match for its path among the patterns.
+abbrev pub constraint_of : List Constraint → List (List ℕ) → Finding → Option ℕ
+constraint_of constraints patterns (Opened pattern methods number other) = Some number
+constraint_of constraints patterns (Uncovered pattern methods) = first_with constraints pattern
+constraint_of constraints patterns (ReadOtherwise pattern methods other) = first_with constraints pattern
+constraint_of constraints patterns (HeadDiffers pattern get head) = first_with constraints pattern
+constraint_of constraints patterns (Dead number) = Some number
+constraint_of constraints patterns (DeadPattern number pattern) = Some number
+constraint_of constraints patterns (Unreached number pattern) = Some number
+constraint_of constraints patterns (Unserved number pattern) = Some number
+constraint_of constraints patterns (Escaped number pattern) = Some number
+constraint_of constraints patterns (LoginNeeds path) = first_at constraints patterns path
+constraint_of constraints patterns (UnknownRole number role) = Some number
+constraint_of constraints patterns (UnheldRole role) = first_naming constraints role
+constraint_of constraints patterns (UnusedRole role) = None

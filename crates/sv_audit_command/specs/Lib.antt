@@ -1,3 +1,5 @@
+pub mod ContextPatterns
+pub mod RowAnswers
 pub mod RowPaths
 pub mod Viewer
 pub mod Kinds

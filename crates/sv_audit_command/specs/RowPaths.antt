@@ -1,44 +1,22 @@
 -- What is reported with the rows of an access table (Jakarta Servlet 6.0, sections 12.1 and 13.8).
-use Rattle.std.specs.Prelude.{ℕ, false, nat_lt, List, [], length, map, slice_get, Option, None, Some, option_and_then, if◌then◌else◌}
+use Rattle.std.specs.Prelude.{ℕ, false, nat_lt, List, [], length, map, Option, None, Some, option_and_then, if◌then◌else◌}
 use Rattle.std.specs.List.{flat_map}
 use Rattle.std.specs.Option.{option_to_list}
 use Rattle.sv_audit.specs.Examples as examples
 use Rattle.sv_audit.specs.Narrower.{narrower}
 use Rattle.sv_audit.specs.declared.narrower_patterns.Narrower.{Narrower}
 use Rattle.sv_audit.specs.declared.rows.Row.{Row}
-use Rattle.sv_constraints.specs.Covering.{all_patterns}
-use Rattle.sv_constraints.specs.declared.constraint.Constraint.{Constraint}
-use Rattle.sv_descriptor.specs.declared.servlet.ServletMapping.{ServletMapping}
 use Rattle.sv_findings.specs.Reach.{reach_of}
 use Rattle.sv_findings.specs.declared.reach.Reach.{Reach}
 use Rattle.sv_findings.specs.declared.reach.Reach.TheVariants.{Reached}
-use Rattle.sv_mapping.specs.BestMatch.{best}
 use Rattle.sv_report.specs.declared.report.ReportedRow.{ReportedRow}
-use Rattle.sv_audited_contexts.specs.ServletPatterns.{mapped_patterns}
-use Rattle.sv_audit_command.specs.declared.row_paths.ContextPatterns.{ContextPatterns}
+use Rattle.sv_audit_command.specs.ContextPatterns.{servlet_at}
+use Rattle.sv_audit_command.specs.RowAnswers.{answered_paths, answers_at}
+use Rattle.sv_audit_command.specs.declared.context_patterns.ContextPatterns.{ContextPatterns}
+use Rattle.sv_audit_command.specs.declared.row_answers.AnsweredPaths.{AnsweredPaths}
 use Rattle.sv_audit_command.specs.declared.row_paths.TheConstants.{MAX_COMPARED_PATTERNS, MAX_NARROWER}
 
--- The name of the servlet, once for each pattern.
-abbrev pub names_of : ServletMapping → List (List ℕ)
-names_of mapping = map (λ pattern. mapping.servlet_name) mapping.url_patterns
-
-abbrev pub servlet_names : List ServletMapping → List (List ℕ)
-servlet_names mappings = flat_map names_of mappings
-
-abbrev pub context_patterns : List Constraint → List ServletMapping → ContextPatterns
-context_patterns its_constraints mappings = record {
-  constraints = all_patterns its_constraints;
-  servlets = mapped_patterns mappings;
-  names = servlet_names mappings;
-}
-
-abbrev pub name_at : List (List ℕ) → ℕ → Option (List ℕ)
-name_at names place = slice_get names place
-
--- The name of the servlet whose pattern is the best match of the path; none if none matches.
-abbrev pub servlet_at : ContextPatterns → List ℕ → Option (List ℕ)
-servlet_at patterns path = option_and_then (name_at patterns.names) (best patterns.servlets path)
-
+-- The servlet that answers the example, if there is one.
 abbrev pub servlet_of : ContextPatterns → Option (List ℕ) → Option (List ℕ)
 servlet_of patterns path = option_and_then (servlet_at patterns) path
 
@@ -58,13 +36,14 @@ abbrev pub reach_at : List (List ℕ) × List ℕ → Option (List ℕ) → Reac
 reach_at reaches None = Reached
 reach_at reaches (Some pattern) = reach_of reaches.0 reaches.1 pattern
 
--- A row with an example, the servlet that answers it, the patterns that are chosen before that of the row, and whether
--- requests reach it.
-abbrev pub reported_row : ContextPatterns → List (List ℕ) → List (List ℕ) × List ℕ → Row → ReportedRow
-reported_row patterns others reaches its_row = record {
+-- A row with an example, the servlet that answers it, what answers the paths of the row, the patterns that are chosen
+-- before that of the row, and whether requests reach it.
+abbrev pub reported_row : ContextPatterns → Option AnsweredPaths → List (List ℕ) → List (List ℕ) × List ℕ → Row → ReportedRow
+reported_row patterns answered others reaches its_row = record {
   row = its_row;
   example = examples.example patterns.constraints its_row.pattern;
   servlet = servlet_of patterns (examples.example patterns.constraints its_row.pattern);
+  answers = answers_at answered its_row.pattern;
   narrower = narrower_of others its_row.pattern;
   reach = reach_at reaches its_row.pattern;
 }
@@ -72,5 +51,5 @@ reported_row patterns others reaches its_row = record {
 abbrev pub row_patterns : List Row → List (List ℕ)
 row_patterns rows = flat_map (λ row. option_to_list row.pattern) rows
 
-abbrev pub reported_rows : List Constraint → List ServletMapping → List (List ℕ) × List ℕ → List Row → List ReportedRow
-reported_rows constraints mappings reaches rows = map (reported_row (context_patterns constraints mappings) (row_patterns rows) reaches) rows
+abbrev pub reported_rows : ContextPatterns → List (List ℕ) × List ℕ → List Row → List ReportedRow
+reported_rows patterns reaches rows = map (reported_row patterns (answered_paths patterns) (row_patterns rows) reaches) rows

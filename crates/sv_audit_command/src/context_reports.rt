@@ -1,25 +1,26 @@
 //! What is reported of contexts.
 
 ghost use Rattle.std.specs.Prelude.{◌≡◌, ◌++◌, ℕ, List, OnOk, map};
+ghost use Rattle.sv_audited_contexts.specs.LineFile.{lines_of};
 ghost use Rattle.sv_descriptor.specs.Names.{HaveSame};
 ghost use Rattle.sv_policy.specs.Groups.{IsGrouped};
 ghost use Rattle.sv_text.specs.Gives.{GivesAnswer};
-ghost use Rattle.sv_audit_command.specs.Accepted.{lines_of};
 ghost use Rattle.sv_audit_command.specs.ContextReports as spec;
 
 use crate::accepted::{accepted_lines, is_accepted};
 use crate::access_options::Asked;
+use crate::context_patterns::{ContextPatterns, context_patterns};
 use crate::key::{constraint_of, key_of};
 use crate::row_paths::reported_rows;
 use crate::viewer::viewer_in;
 use std::alloc::Global;
-use sv_audited_contexts::AuditedContext;
 use sv_audit::{Row, Table, table_of};
+use sv_audited_contexts::{AuditedContext, Source};
 use sv_descriptor::Names;
 use sv_findings::{Finding, Reaches, Surroundings, findings_of};
-use sv_mapping::{is_at_or_below, path_within};
+use sv_mapping::{PatternTable, is_at_or_below, path_within};
 use sv_policy::{Groups, grouped};
-use sv_report::{ContextReport, ReportedFinding, ReportedRow, Viewer};
+use sv_report::{ContextReport, ReportedFinding, ReportedRow, Viewer, line_at, line_of};
 use sv_text::{Listed, NoMemory, Text};
 
 /// What is asked of contexts: the caller whose access is shown, and the text of the accepting file.
@@ -54,16 +55,16 @@ fn context_report(
     ensures { GivesAnswer result (spec.context_report asking.entry.viewer asking.entry.accepted.now context) }
 {
     let audit = audit_of(alloc, &context, asking)?;
-    let source = context.source;
+    let Source { path, file, lines } = context.source;
     Ok(ContextReport {
-        path: source.path,
-        file: source.file,
+        path,
+        file,
         has_login: context.has_login,
         viewer: audit.viewer,
         others: audit.others,
         rows: audit.rows,
         findings: audit.findings,
-        lines: source.lines,
+        lines: lines.constraints,
     })
 }
 
@@ -81,31 +82,33 @@ fn audit_of(alloc: Global, context: &AuditedContext, asking: Asking<'_>) -> Resu
 {
     let constraints = context.constraints.as_slice();
     let table = table_of(alloc, constraints, &context.rules)?;
+    let patterns = context_patterns(alloc, constraints, context.mappings.as_slice())?;
     Ok(Audit {
         viewer: viewer_in(alloc, asking.viewer, &context.realm)?,
         others: others_in(alloc, &context.surroundings)?,
-        findings: findings_in(alloc, context, asking.accepted, &table)?,
-        rows: rows_in(alloc, context, table.rows)?,
+        findings: findings_in(
+            alloc,
+            context,
+            &patterns.constraints,
+            asking.accepted,
+            &table,
+        )?,
+        rows: rows_in(alloc, context, &patterns, table.rows)?,
     })
 }
 
 fn rows_in(
     alloc: Global,
     context: &AuditedContext,
+    patterns: &ContextPatterns,
     rows: Listed<Row>,
 ) -> Result<Listed<ReportedRow>, NoMemory>
-    ensures { GivesAnswer result (spec.rows_in context.now rows) }
+    ensures { GivesAnswer result (spec.rows_in context.now patterns.now rows) }
 {
     let surroundings = &context.surroundings;
     let paths = surroundings.contexts.as_slice();
     let reaches = Reaches::of(alloc, paths, surroundings.path.as_str())?;
-    reported_rows(
-        alloc,
-        context.constraints.as_slice(),
-        context.mappings.as_slice(),
-        &reaches,
-        rows,
-    )
+    reported_rows(alloc, patterns, &reaches, rows)
 }
 
 fn others_in(alloc: Global, surroundings: &Surroundings) -> Result<Listed<Text>, NoMemory>
@@ -146,10 +149,11 @@ fn push_nested(
 fn findings_in(
     alloc: Global,
     context: &AuditedContext,
+    patterns: &PatternTable,
     accepted: &str,
     table: &Table,
 ) -> Result<Listed<ReportedFinding>, NoMemory>
-    ensures { GivesAnswer result (spec.findings_in context.now accepted.now table.now) }
+    ensures { GivesAnswer result (spec.findings_in context.now patterns.now accepted.now table.now) }
 {
     let constraints = context.constraints.as_slice();
     let findings = findings_of(
@@ -159,45 +163,70 @@ fn findings_in(
         table,
         &context.surroundings,
     )?;
-    reported_findings(alloc, context, accepted, findings)
+    reported_findings(alloc, context, patterns, accepted, findings)
 }
 
 fn reported_findings(
     alloc: Global,
     context: &AuditedContext,
+    patterns: &PatternTable,
     accepted: &str,
     findings: Listed<Finding>,
 ) -> Result<Listed<ReportedFinding>, NoMemory>
-    ensures { GivesAnswer result (map (spec.reported_finding context.now accepted.now) findings) }
+    ensures { GivesAnswer result (map (spec.reported_finding context.now patterns.now accepted.now) findings) }
 {
     let groups = grouped(alloc, context.constraints.as_slice())?;
     let lines = accepted_lines(alloc, accepted)?;
     let mut reported = Vec::new(alloc);
     for finding in findings.into_vec() {
-        reported.push(reported_finding(alloc, context, &groups, &lines, finding)?)?;
+        let finding = reported_finding(alloc, context, &groups, patterns, &lines, finding)?;
+        reported.push(finding)?;
     }
     Ok(Listed::from_vec(reported))
 }
 
-/// Returns what is reported of a finding, given the constraints by pattern, and the lines of the accepting file.
+/// Returns what is reported of a finding, given the constraints by pattern, their patterns, and the lines of the
+/// accepting file.
 fn reported_finding(
     alloc: Global,
     context: &AuditedContext,
     groups: &Groups<'_>,
+    patterns: &PatternTable,
     lines: &Names<'_>,
     finding: Finding,
 ) -> Result<ReportedFinding, NoMemory>
     ensures { (accepted : List ℕ) → IsGrouped context.now.constraints groups.now → HaveSame lines.now (lines_of accepted) →
-        GivesAnswer result (spec.reported_finding context.now accepted finding) }
+        GivesAnswer result (spec.reported_finding context.now patterns.now accepted finding) }
 {
     let constraints = context.constraints.as_slice();
     let key = key_of(alloc, context.source.path.as_str(), constraints, &finding)?;
-    let constraint = constraint_of(constraints, groups, &finding);
+    let constraint = constraint_of(constraints, groups, patterns, &finding);
+    let line = finding_line(context, constraint, &finding);
     let is_accepted = is_accepted(lines, key.as_str());
     Ok(ReportedFinding {
         finding,
         key,
         constraint,
+        line,
         is_accepted,
     })
+}
+
+/// Returns the line on which the constraint begins, or the role that no constraint names.
+fn finding_line(context: &AuditedContext, constraint: Option<u64>, finding: &Finding) -> Option<u64>
+    ensures { result ≡ spec.finding_line context.now constraint finding.now }
+{
+    match finding {
+        Finding::UnusedRole(role) => role_line(context, role.as_str()),
+        _ => line_of(context.source.lines.constraints.as_slice(), constraint),
+    }
+}
+
+/// Returns the line on which the declaration of a role begins.
+fn role_line(context: &AuditedContext, role: &str) -> Option<u64>
+    ensures { result ≡ spec.role_line context.now role.now }
+{
+    let declared = context.rules.declared.as_slice();
+    let place = declared.iter().position(|name| name.as_str() == role)?;
+    line_at(context.source.lines.roles.as_slice(), place as u64 + 1)
 }

@@ -11,7 +11,7 @@ ghost use Rattle.sv_audit_command.specs.ExplainedRequest as spec;
 use crate::access_options::{AccessOptions, Asked};
 use crate::viewer::caller_in;
 use std::alloc::Global;
-use sv_audited_contexts::AuditedContext;
+use sv_audited_contexts::{AuditedContext, Source};
 use sv_explanation::{Asked as Request, Explanation, SiteContext, explain, explanation_text};
 use sv_policy::ExplainFault;
 use sv_program::{CommandFault, quoted};
@@ -78,12 +78,13 @@ fn push_site(
     let Some(descriptor) = descriptor else {
         return Ok(());
     };
+    let Source { path, file, lines } = source;
     sites.push(SiteContext {
-        path: source.path,
-        file: source.file,
+        path,
+        file,
         descriptor,
         constraints,
-        lines: source.lines,
+        lines: lines.constraints,
         caller,
     })?;
     Ok(())

@@ -9,10 +9,10 @@ ghost use Rattle.sv_text.specs.Gives.{GivesAnswer};
 ghost use Rattle.sv_audit_command.specs.Key as spec;
 
 use std::alloc::Global;
-use sv_audit::Access;
+use sv_audit::{Access, best_text};
 use sv_constraints::{Auth, Constraint, Methods, lists};
 use sv_findings::Finding;
-use sv_mapping::Pattern;
+use sv_mapping::{Pattern, PatternTable};
 use sv_policy::Groups;
 use sv_report::escaped::escaped;
 use sv_report::{kind_name, who_text};
@@ -215,14 +215,15 @@ fn push_pattern_words(
     Ok(())
 }
 
-/// Returns the number of the constraint to change: that of the finding, or the first one that has its pattern or names its
-/// role. What a login page needs has none, nor has a role that is not used.
+/// Returns the number of the constraint to change: that of the finding, or the first one that has its pattern, names its
+/// role, or has the best match for its path among the patterns. A role that is not used has none.
 pub(crate) fn constraint_of(
     constraints: &[Constraint],
     groups: &Groups<'_>,
+    patterns: &PatternTable,
     finding: &Finding,
 ) -> Option<u64>
-    ensures { IsGrouped constraints.now groups.now → result ≡ spec.constraint_of constraints.now finding.now }
+    ensures { IsGrouped constraints.now groups.now → result ≡ spec.constraint_of constraints.now patterns.now finding.now }
 {
     match finding {
         Finding::Opened(_, _, number, _) => Some(*number),
@@ -234,7 +235,7 @@ pub(crate) fn constraint_of(
         Finding::Unreached(number, _) => Some(*number),
         Finding::Unserved(number, _) => Some(*number),
         Finding::Escaped(number, _) => Some(*number),
-        Finding::LoginNeeds(_) => None,
+        Finding::LoginNeeds(path) => first_at(groups, patterns, path.as_str()),
         Finding::UnknownRole(number, _) => Some(*number),
         Finding::UnheldRole(role) => first_naming(constraints, role.as_str()),
         Finding::UnusedRole(_) => None,
@@ -257,6 +258,16 @@ fn names_role(constraint: &Constraint, role: &str) -> bool
     match &constraint.auth {
         Auth::Absent => false,
         Auth::Roles(names) => lists(names.as_slice(), role) || lists(names.as_slice(), "*"),
+    }
+}
+
+/// Returns the number of the first constraint that lists the best match for a path.
+fn first_at(groups: &Groups<'_>, patterns: &PatternTable, path: &str) -> Option<u64>
+    ensures { (constraints : List Constraint) → IsGrouped constraints groups.now → result ≡ spec.first_at constraints patterns.now path.now }
+{
+    match best_text(patterns, path) {
+        Some(pattern) => first_with(groups, pattern),
+        None => None,
     }
 }
 

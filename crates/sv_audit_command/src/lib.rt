@@ -6,11 +6,13 @@ mod access_options;
 mod audit_command;
 mod audit_report;
 mod compared_servers;
+mod context_patterns;
 mod context_reports;
 mod explained_request;
 mod further_files;
 mod key;
 mod kinds;
+mod row_answers;
 mod row_paths;
 mod viewer;
 
@@ -18,3 +20,4 @@ pub use access_options::{AccessOptions, Asked, Format};
 pub use audit_command::audit;
 pub use audit_report::Report;
 pub use kinds::are_kinds;
+pub use row_answers::answers_are_exact;

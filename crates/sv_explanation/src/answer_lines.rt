@@ -8,9 +8,9 @@ ghost use Rattle.sv_explanation.specs.AnswerLines as spec;
 
 use crate::explanation::{Answer, LoginAnswers, MatchedServlet};
 use crate::statuses::{FORBIDDEN, SERVICE_UNAVAILABLE};
-use crate::words::{number_text, shown_pattern};
 use std::alloc::Global;
 use sv_report::escaped::escaped;
+use sv_report::{number_text, shown_pattern};
 use sv_text::{NoMemory, Text};
 
 /// Returns the sentences on the answer to a request that the constraints decide.

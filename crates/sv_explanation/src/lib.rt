@@ -14,7 +14,6 @@ mod servlets;
 mod site_context;
 mod statuses;
 mod treatments;
-mod words;
 
 pub use explanation::{
     Answer, Explanation, JudgedRequest, LoginAnswers, MatchedServlet, ServedRequest, Treatment,

@@ -8,10 +8,10 @@ ghost use Rattle.sv_explanation.specs.ReasonLines as spec;
 ghost use Rattle.sv_explanation.specs.declared.listed_constraint.Entrants.TheVariants as entrants;
 
 use crate::listed_constraint::{Entrants, ListedConstraint};
-use crate::words::{names_text, number_text, place_text, shown_pattern};
 use std::alloc::Global;
 use sv_constraints::{Cause, OwnedDecision, OwnedWhy};
 use sv_report::escaped::escaped;
+use sv_report::{names_text, number_text, place_text, shown_pattern};
 use sv_text::{NoMemory, Text};
 
 /// Returns the sentence on the best pattern.

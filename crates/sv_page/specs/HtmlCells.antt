@@ -3,7 +3,8 @@ use Rattle.std.specs.Prelude.{ℕ, List, [], ◌∷◌, codes, Option}
 use Rattle.std.specs.List.{flat_map}
 use Rattle.sv_audit.specs.declared.rows.Group.{Group}
 use Rattle.sv_page.specs.CellWords.{class_of, explanation, reason}
-use Rattle.sv_report.specs.Details.{detail_text}
+use Rattle.sv_report.specs.AnswerWords.{answers_text}
+use Rattle.sv_report.specs.Details.{paths_text}
 use Rattle.sv_page.specs.Markup.{html_text}
 use Rattle.sv_report.specs.Parts.{joined}
 use Rattle.sv_report.specs.Viewers.{context_text, entry_text, hidden_text}
@@ -32,9 +33,15 @@ group_html context group = cell_html
     (entry_text context.viewer context.has_login group.cell.access)
     (why_text context group)
 
-unfoldable pub row_of : List ℕ → List ℕ → List ℕ → List ℕ
-row_of pattern details cells = joined (
-    codes "<tr><th scope=\"row\"><code>" ∷ pattern ∷ codes "</code><small>" ∷ details ∷ codes "</small></th><td>" ∷ cells ∷ codes "</td></tr>\n" ∷ [])
+-- A row of HTML: a pattern with what it means for paths, what answers it, and cells.
+unfoldable pub row_of : List ℕ → List ℕ → List ℕ → List ℕ → List ℕ
+row_of pattern details answers cells = joined (
+    codes "<tr><th scope=\"row\"><code>" ∷ pattern ∷ codes "</code><small>" ∷ details ∷ codes "</small></th><td class=\"by\">" ∷ answers
+    ∷ codes "</td><td>" ∷ cells ∷ codes "</td></tr>\n" ∷ [])
+
+-- A row without an example and without answers.
+abbrev pub unanswered_row : List ℕ → List ℕ → List ℕ
+unanswered_row pattern cell = row_of pattern [] [] cell
 
 -- The cell of folders that are never served (sections 10.5 and 10.6).
 abbrev pub hidden_cell : Option Viewer → List ℕ
@@ -45,13 +52,17 @@ abbrev pub foreign_cell : List ℕ → List ℕ
 foreign_cell path = cell_html (codes "hidden") (codes "all") (context_text path) (codes "Another context answers these paths (section 12.1).")
 
 abbrev pub reached_html : ContextReport → ReportedRow → List ℕ → List ℕ
-reached_html context reported pattern = row_of pattern (html_text (detail_text context.path reported)) (flat_map (group_html context) reported.row.groups)
+reached_html context reported pattern = row_of
+    pattern
+    (html_text (paths_text context.path reported))
+    (html_text (answers_text reported.example reported.servlet reported.answers))
+    (flat_map (group_html context) reported.row.groups)
 
--- The row of a pattern: with an example, its exceptions and a cell for each group of methods, or with the reason why no request reaches it.
+-- The row of a pattern: with an example, its exceptions, what answers it and a cell for each group of methods, or with the reason why no request reaches it.
 abbrev pub reach_html : ContextReport → ReportedRow → Reach → List ℕ → List ℕ
 reach_html context reported Reached pattern = reached_html context reported pattern
-reach_html context reported Hidden pattern = row_of pattern [] (hidden_cell context.viewer)
-reach_html context reported (Elsewhere path) pattern = row_of pattern [] (foreign_cell path)
+reach_html context reported Hidden pattern = unanswered_row pattern (hidden_cell context.viewer)
+reach_html context reported (Elsewhere path) pattern = unanswered_row pattern (foreign_cell path)
 
 unfoldable pub row_html : ContextReport → ReportedRow → List ℕ
 row_html context reported = reach_html context reported reported.reach (html_text (pattern_text reported.row.pattern))

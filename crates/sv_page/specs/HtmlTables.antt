@@ -2,7 +2,7 @@
 use Rattle.std.specs.Prelude.{ℕ, Bool, nat_le, List, [], ◌∷◌, codes, length, Option, take, if◌then◌else◌}
 use Rattle.std.specs.List.{flat_map}
 use Rattle.sv_uri.specs.ContextPath.{shown_context}
-use Rattle.sv_page.specs.HtmlCells.{cell_html, foreign_cell, hidden_cell, row_html, row_of}
+use Rattle.sv_page.specs.HtmlCells.{cell_html, foreign_cell, hidden_cell, row_html, unanswered_row}
 use Rattle.sv_page.specs.Markup.{html_text}
 use Rattle.sv_report.specs.Parts.{joined}
 use Rattle.sv_report.specs.Places.{number_text}
@@ -19,7 +19,7 @@ heading_html context = heading_of (shown_context context.path) context.file
 
 abbrev pub title_html : Option Viewer → List ℕ
 title_html viewer = joined (
-    codes "<div class=\"table\">\n<table>\n<tr><th scope=\"col\">pattern</th><th scope=\"col\">" ∷ html_text (viewer_title viewer) ∷ codes "</th></tr>\n" ∷ [])
+    codes "<div class=\"table\">\n<table>\n<tr><th scope=\"col\">pattern</th><th scope=\"col\">answered by</th><th scope=\"col\">" ∷ html_text (viewer_title viewer) ∷ codes "</th></tr>\n" ∷ [])
 
 -- The first items, at most so many.
 abbrev pub first_of : {A : Type 0} → ℕ → List A → List A
@@ -27,17 +27,17 @@ first_of most items = if nat_le (length items) most then items else take most it
 
 -- The protected folders (sections 10.5 and 10.6).
 abbrev pub hidden_html : Option Viewer → List ℕ
-hidden_html viewer = row_of (codes "/WEB-INF/*, /META-INF/*") [] (hidden_cell viewer)
+hidden_html viewer = unanswered_row (codes "/WEB-INF/*, /META-INF/*") (hidden_cell viewer)
 
 -- The login post of a form login (section 13.6.3.1).
 abbrev pub login_html : Bool → List ℕ
 login_html has_login =
-    if has_login then row_of (codes "*/j_security_check") [] (cell_html (codes "post") (codes "POST") (codes "login post") (codes "The container answers the login form (section 13.6.3.1)."))
+    if has_login then unanswered_row (codes "*/j_security_check") (cell_html (codes "post") (codes "POST") (codes "login post") (codes "The container answers the login form (section 13.6.3.1)."))
     else []
 
 -- The paths of another context within the one with this path (section 12.1).
 abbrev pub foreign_html : List ℕ → List ℕ → List ℕ
-foreign_html context other = row_of (joined (html_text other ∷ codes "/*" ∷ [])) [] (foreign_cell (joined (context ∷ other ∷ [])))
+foreign_html context other = unanswered_row (joined (html_text other ∷ codes "/*" ∷ [])) (foreign_cell (joined (context ∷ other ∷ [])))
 
 abbrev pub other_rows : ContextReport → List ℕ
 other_rows context = joined (hidden_html context.viewer ∷ login_html context.has_login ∷ flat_map (foreign_html context.path) context.others ∷ [])

@@ -6,14 +6,14 @@ use Rattle.sv_report.specs.FindingWords.{heading, problem_text, remedy}
 use Rattle.sv_page.specs.HtmlTables.{first_of, section_html}
 use Rattle.sv_page.specs.Markup.{html_text}
 use Rattle.sv_report.specs.Parts.{joined}
-use Rattle.sv_report.specs.Places.{line_of, number_text, place_text}
+use Rattle.sv_report.specs.Places.{number_text, place_text}
 use Rattle.sv_page.specs.declared.page.TheConstants.{MAX_LISTED_FINDINGS, PAGE_START}
 use Rattle.sv_report.specs.declared.report.ContextReport.{ContextReport}
 use Rattle.sv_report.specs.declared.report.ReportedFinding.{ReportedFinding}
 
--- What a finding is, and the place of its constraint.
+-- What a finding is, and its place.
 abbrev pub located_problem : ContextReport → ReportedFinding → List ℕ
-located_problem context reported = html_text (joined (problem_text context.has_login reported.finding ∷ place_text context.file (line_of context.lines reported.constraint) ∷ []))
+located_problem context reported = html_text (joined (problem_text context.has_login reported.finding ∷ place_text context.file reported.line ∷ []))
 
 -- The item of a finding: its context, what it is and what to write.
 unfoldable pub item_html : ContextReport → ReportedFinding → List ℕ

@@ -4,6 +4,9 @@ ghost use Rattle.std.specs.Prelude.{◌≡◌, ◌++◌, [], OnOk, string_bytes}
 ghost use Rattle.std.specs.List.{flat_map};
 ghost use Rattle.sv_text.specs.Gives.{GivesAnswer};
 ghost use Rattle.sv_page.specs.HtmlCells as spec;
+ghost use Rattle.sv_page.specs.Markup.{html_text as html};
+ghost use Rattle.sv_report.specs.AnswerWords as words;
+ghost use Rattle.sv_report.specs.Details as row_details;
 
 use crate::cell_words::{class_of, explanation, reason};
 use crate::markup::html_text;
@@ -11,13 +14,13 @@ use std::alloc::Global;
 use sv_audit::Group;
 use sv_findings::Reach;
 use sv_report::{
-    ContextReport, ReportedRow, Viewer, context_text, detail_text, entry_text, hidden_text, joined,
-    methods_text, pattern_text,
+    ContextReport, ReportedRow, Viewer, answers_text, context_text, entry_text, hidden_text,
+    joined, methods_text, paths_text, pattern_text,
 };
 use sv_text::{NoMemory, Text};
 
-/// Returns the row of a pattern: with an example, its exceptions and a cell for each group of methods, or with the reason
-/// why no request reaches it.
+/// Returns the row of a pattern: with an example, its exceptions, what answers it and a cell for each group of methods,
+/// or with the reason why no request reaches it.
 #[tactic(auto, unfolding(crate::specs::HtmlCells::row_html))]
 pub fn row_html(alloc: Global, context: &ContextReport, row: &ReportedRow) -> Result<Text, NoMemory>
     ensures { GivesAnswer result (spec.row_html context.now row.now) }
@@ -39,15 +42,35 @@ fn reached_html(
 ) -> Result<Text, NoMemory>
     ensures { GivesAnswer result (spec.reached_html context.now row.now pattern.now) }
 {
-    let details = detail_text(alloc, context.path.as_str(), row)?;
-    let details = html_text(alloc, details.as_str())?;
+    let details = paths_html(alloc, context.path.as_str(), row)?;
+    let answers = answers_html(alloc, row)?;
     let cells = cells_html(alloc, context, row.row.groups.as_slice())?;
-    row_of(alloc, pattern, details.as_str(), cells.as_str())
+    row_of(
+        alloc,
+        pattern,
+        details.as_str(),
+        answers.as_str(),
+        cells.as_str(),
+    )
+}
+
+fn paths_html(alloc: Global, context: &str, row: &ReportedRow) -> Result<Text, NoMemory>
+    ensures { GivesAnswer result (html (row_details.paths_text context.now row.now)) }
+{
+    let paths = paths_text(alloc, context, row)?;
+    html_text(alloc, paths.as_str())
+}
+
+fn answers_html(alloc: Global, row: &ReportedRow) -> Result<Text, NoMemory>
+    ensures { GivesAnswer result (html (words.answers_text row.now.example row.now.servlet row.now.answers)) }
+{
+    let answers = answers_text(alloc, row)?;
+    html_text(alloc, answers.as_str())
 }
 
 /// Returns the row of folders that are never served. The pattern is HTML.
 pub fn hidden_row(alloc: Global, viewer: &Option<Viewer>, pattern: &str) -> Result<Text, NoMemory>
-    ensures { GivesAnswer result (spec.row_of pattern.now [] (spec.hidden_cell viewer.now)) }
+    ensures { GivesAnswer result (spec.unanswered_row pattern.now (spec.hidden_cell viewer.now)) }
 {
     let cell = cell_html(
         alloc,
@@ -56,12 +79,12 @@ pub fn hidden_row(alloc: Global, viewer: &Option<Viewer>, pattern: &str) -> Resu
         hidden_text(viewer),
         "The container never serves these folders (sections 10.5 and 10.6).",
     )?;
-    row_of(alloc, pattern, "", cell.as_str())
+    unanswered_row(alloc, pattern, cell.as_str())
 }
 
 /// Returns the row of paths that belong to the context with this path. The pattern is HTML.
 pub fn foreign_row(alloc: Global, path: &str, pattern: &str) -> Result<Text, NoMemory>
-    ensures { GivesAnswer result (spec.row_of pattern.now [] (spec.foreign_cell path.now)) }
+    ensures { GivesAnswer result (spec.unanswered_row pattern.now (spec.foreign_cell path.now)) }
 {
     let who = context_text(alloc, path)?;
     let cell = cell_html(
@@ -71,13 +94,26 @@ pub fn foreign_row(alloc: Global, path: &str, pattern: &str) -> Result<Text, NoM
         who.as_str(),
         "Another context answers these paths (section 12.1).",
     )?;
-    row_of(alloc, pattern, "", cell.as_str())
+    unanswered_row(alloc, pattern, cell.as_str())
+}
+
+/// Returns a row without an example and without answers. The parts are HTML.
+pub fn unanswered_row(alloc: Global, pattern: &str, cell: &str) -> Result<Text, NoMemory>
+    ensures { GivesAnswer result (spec.unanswered_row pattern.now cell.now) }
+{
+    row_of(alloc, pattern, "", "", cell)
 }
 
 /// Returns a row of these parts, which are HTML.
 #[tactic(auto, unfolding(crate::specs::HtmlCells::row_of))]
-pub fn row_of(alloc: Global, pattern: &str, details: &str, cells: &str) -> Result<Text, NoMemory>
-    ensures { GivesAnswer result (spec.row_of pattern.now details.now cells.now) }
+fn row_of(
+    alloc: Global,
+    pattern: &str,
+    details: &str,
+    answers: &str,
+    cells: &str,
+) -> Result<Text, NoMemory>
+    ensures { GivesAnswer result (spec.row_of pattern.now details.now answers.now cells.now) }
 {
     joined(
         alloc,
@@ -86,7 +122,9 @@ pub fn row_of(alloc: Global, pattern: &str, details: &str, cells: &str) -> Resul
             pattern,
             "</code><small>",
             details,
-            "</small></th><td>",
+            "</small></th><td class=\"by\">",
+            answers,
+            "</td><td>",
             cells,
             "</td></tr>\n",
         ],

@@ -6,7 +6,7 @@ ghost use Rattle.sv_text.specs.Gives.{GivesAnswer};
 ghost use Rattle.sv_page.specs.HtmlCells as cells;
 ghost use Rattle.sv_page.specs.HtmlTables as spec;
 
-use crate::html_cells::{cell_html, foreign_row, hidden_row, row_html, row_of};
+use crate::html_cells::{cell_html, foreign_row, hidden_row, row_html, unanswered_row};
 use crate::markup::html_text;
 use std::alloc::Global;
 use sv_report::{ContextReport, ReportedRow, Viewer, joined, number_text, viewer_title};
@@ -73,7 +73,7 @@ fn title_html(alloc: Global, viewer: &Option<Viewer>) -> Result<Text, NoMemory>
     joined(
         alloc,
         &[
-            "<div class=\"table\">\n<table>\n<tr><th scope=\"col\">pattern</th><th scope=\"col\">",
+            "<div class=\"table\">\n<table>\n<tr><th scope=\"col\">pattern</th><th scope=\"col\">answered by</th><th scope=\"col\">",
             title.as_str(),
             "</th></tr>\n",
         ],
@@ -169,7 +169,7 @@ fn login_html(alloc: Global, has_login: bool) -> Result<Text, NoMemory>
         "login post",
         "The container answers the login form (section 13.6.3.1).",
     )?;
-    row_of(alloc, "*/j_security_check", "", cell.as_str())
+    unanswered_row(alloc, "*/j_security_check", cell.as_str())
 }
 
 /// Returns a note if not all rows are shown.

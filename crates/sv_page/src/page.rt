@@ -46,8 +46,9 @@ li.accepted { border-color: var(--line); color: var(--faint); }
 .table { overflow-x: auto; }
 table { width: 100%; border-collapse: collapse; }
 th, td { padding: 0.4rem 0.6rem; border: 1px solid var(--line); text-align: left; vertical-align: top; }
-th[scope="row"] { width: 32%; font-weight: normal; }
+th[scope="row"] { width: 30%; font-weight: normal; }
 th small { display: block; }
+.by { width: 16%; color: var(--faint); font-size: 0.83em; overflow-wrap: anywhere; }
 details { display: inline-block; vertical-align: top; max-width: 24rem; margin: 0.1rem 0.2rem 0.1rem 0;
   padding: 0.15rem 0.6rem; border: 1px solid var(--line); border-radius: 0.3rem; }
 summary { cursor: pointer; }
@@ -221,12 +222,7 @@ fn located_problem(
     ensures { GivesAnswer result (spec.located_problem context.now finding.now) }
 {
     let problem = problem_text(alloc, context.has_login, &finding.finding)?;
-    let place = place_text(
-        alloc,
-        context.file.as_str(),
-        context.lines.as_slice(),
-        finding.constraint,
-    )?;
+    let place = place_text(alloc, context.file.as_str(), finding.line)?;
     let text = joined(alloc, &[problem.as_str(), place.as_str()])?;
     html_text(alloc, text.as_str())
 }

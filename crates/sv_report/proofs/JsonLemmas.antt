@@ -9,11 +9,12 @@ use Rattle.sv_findings.specs.declared.reach.Reach.TheVariants.{Reached, Hidden, 
 use Rattle.sv_report.specs.Details.{example_location}
 use Rattle.sv_report.specs.FindingJson.{finding_members, finding_value, with_subject}
 use Rattle.sv_report.specs.FindingWords.{kind_name}
-use Rattle.sv_report.specs.Json.{elsewhere, group_value, named_viewer, row_value, viewer_enters, viewer_value}
+use Rattle.sv_report.specs.Json.{answers_value, elsewhere, group_value, listed_answers, named_viewer, row_value, viewer_enters, viewer_value}
 use Rattle.sv_report.specs.JsonParts.{number_value, roles_in, strings, text_value, truth_value}
 use Rattle.sv_report.specs.Places.{line_of}
 use Rattle.sv_findings.specs.declared.finding.Finding.{Finding}
 use Rattle.sv_findings.specs.declared.finding.Finding.TheVariants.{Opened, Uncovered, ReadOtherwise, HeadDiffers, Dead, DeadPattern, Unreached, Unserved, Escaped, LoginNeeds, UnknownRole, UnheldRole, UnusedRole}
+use Rattle.sv_report.specs.declared.report.Answers.{Answers}
 use Rattle.sv_report.specs.declared.report.ContextReport.{ContextReport}
 use Rattle.sv_report.specs.declared.report.ReportedFinding.{ReportedFinding}
 use Rattle.sv_report.specs.declared.report.ReportedRow.{ReportedRow}
@@ -55,14 +56,20 @@ in_elsewhere Reached = refl
 in_elsewhere Hidden = refl
 in_elsewhere (Elsewhere path) = refl
 
+in_answers : (answers : Option Answers) → has_float (answers_value answers) ≡ false
+unfolding listed_answers
+in_answers None = refl
+in_answers (Some answers) = ap (λ a. a || false) (in_strings answers.servlets)
+
 pub in_row : (context : ContextReport) (reported : ReportedRow) → has_float (row_value context reported) ≡ false
 unfolding row_value
 in_row context reported =
-    ap₂ (λ a b. a || b) (in_elsewhere reported.reach)
+    ap₂ (λ a b. a || b) (in_answers reported.answers)
+    (ap₂ (λ a b. a || b) (in_elsewhere reported.reach)
     (ap₂ (λ a b. a || b) (in_text (example_location context.path reported.example))
     (ap₂ (λ a b. a || b) (no_floats (group_value context) (in_group context) reported.row.groups)
     (ap₂ (λ a b. a || b) (in_strings reported.narrower.patterns)
-    (ap₂ (λ a b. a || (b || false)) (in_text reported.row.pattern) (in_text reported.servlet)))))
+    (ap₂ (λ a b. a || (b || false)) (in_text reported.row.pattern) (in_text reported.servlet))))))
 
 pub in_viewer : (viewer : Option Viewer) → has_float (viewer_value viewer) ≡ false
 unfolding named_viewer
@@ -88,4 +95,4 @@ in_members has_login is_accepted constraint line key kind (UnusedRole role) = ap
 pub in_finding : (context : ContextReport) (reported : ReportedFinding) → has_float (finding_value context reported) ≡ false
 unfolding finding_value
 in_finding context reported =
-    in_members context.has_login reported.is_accepted reported.constraint (line_of context.lines reported.constraint) reported.key (kind_name reported.finding) reported.finding
+    in_members context.has_login reported.is_accepted reported.constraint reported.line reported.key (kind_name reported.finding) reported.finding

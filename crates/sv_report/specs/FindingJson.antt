@@ -7,7 +7,6 @@ use Rattle.sv_findings.specs.declared.finding.Finding.{Finding}
 use Rattle.sv_findings.specs.declared.finding.Finding.TheVariants.{Opened, Uncovered, ReadOtherwise, HeadDiffers, Dead, DeadPattern, Unreached, Unserved, Escaped, LoginNeeds, UnknownRole, UnheldRole, UnusedRole}
 use Rattle.sv_report.specs.FindingWords.{kind_name}
 use Rattle.sv_report.specs.JsonParts.{are_excepted, enters, number_value, roles_in, strings}
-use Rattle.sv_report.specs.Places.{line_of}
 use Rattle.sv_audit.specs.declared.access.Access.{Access}
 use Rattle.sv_report.specs.declared.report.ContextReport.{ContextReport}
 use Rattle.sv_report.specs.declared.report.ReportedFinding.{ReportedFinding}
@@ -64,4 +63,4 @@ finding_members accepted constraint key kind line subject =
 unfoldable pub finding_value : ContextReport → ReportedFinding → Data
 finding_value context reported = object (finding_members
     (boolean reported.is_accepted) (number_value reported.constraint) (string reported.key) (string (kind_name reported.finding))
-    (number_value (line_of context.lines reported.constraint)) (with_subject context.has_login reported.finding no_members))
+    (number_value reported.line) (with_subject context.has_login reported.finding no_members))

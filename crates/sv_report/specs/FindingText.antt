@@ -2,12 +2,12 @@
 use Rattle.std.specs.Prelude.{ℕ, List, [], ◌∷◌, codes}
 use Rattle.sv_report.specs.FindingWords.{heading, problem_text, remedy}
 use Rattle.sv_report.specs.Parts.{joined}
-use Rattle.sv_report.specs.Places.{line_of, place_text}
+use Rattle.sv_report.specs.Places.{place_text}
 use Rattle.sv_report.specs.declared.report.ContextReport.{ContextReport}
 use Rattle.sv_report.specs.declared.report.ReportedFinding.{ReportedFinding}
 
--- The lines of a finding, with the place of its constraint.
+-- The lines of a finding, with its place.
 abbrev pub finding_lines : ContextReport → ReportedFinding → List ℕ
 finding_lines context reported = joined (
-    heading reported.is_accepted ∷ codes ": " ∷ problem_text context.has_login reported.finding ∷ place_text context.file (line_of context.lines reported.constraint)
+    heading reported.is_accepted ∷ codes ": " ∷ problem_text context.has_login reported.finding ∷ place_text context.file reported.line
     ∷ codes "\n  " ∷ remedy reported.finding ∷ codes "\n" ∷ [])

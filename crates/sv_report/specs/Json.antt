@@ -14,6 +14,7 @@ use Rattle.sv_report.specs.FindingJson.{finding_value}
 use Rattle.sv_report.specs.JsonParts.{are_excepted, because, enters, number_value, roles_in, strings, text_value, truth_value}
 use Rattle.sv_report.specs.Places.{line_of}
 use Rattle.sv_report.specs.Viewers.{may_enter}
+use Rattle.sv_report.specs.declared.report.Answers.{Answers}
 use Rattle.sv_report.specs.declared.report.ContextReport.{ContextReport}
 use Rattle.sv_report.specs.declared.report.ReportedRow.{ReportedRow}
 use Rattle.sv_report.specs.declared.report.Viewer.{Viewer}
@@ -51,9 +52,18 @@ elsewhere Reached = null
 elsewhere Hidden = null
 elsewhere (Elsewhere path) = string path
 
+-- What answers the paths of a row.
+unfoldable pub listed_answers : Answers → Data
+listed_answers answers = object (member (codes "files") (boolean answers.has_files) (member (codes "servlets") (strings answers.servlets) no_members))
+
+abbrev pub answers_value : Option Answers → Data
+answers_value None = null
+answers_value (Some answers) = listed_answers answers
+
 -- A row.
 unfoldable pub row_value : ContextReport → ReportedRow → Data
 row_value context reported = object
+    (member (codes "answers") (answers_value reported.answers)
     (member (codes "context") (elsewhere reported.reach)
     (member (codes "example") (text_value (example_location context.path reported.example))
     (member (codes "groups") (array (items_of (map (group_value context) reported.row.groups)))
@@ -61,7 +71,7 @@ row_value context reported = object
     (member (codes "narrowerComplete") (boolean reported.narrower.are_all)
     (member (codes "pattern") (text_value reported.row.pattern)
     (member (codes "reach") (string (reach_word reported.reach))
-    (member (codes "servlet") (text_value reported.servlet) no_members))))))))
+    (member (codes "servlet") (text_value reported.servlet) no_members)))))))))
 
 unfoldable pub named_viewer : Viewer → Data
 named_viewer viewer = object (member (codes "name") (string viewer.name) (member (codes "roles") (strings viewer.roles) no_members))

@@ -4,6 +4,7 @@ pub mod Words
 pub mod Folded
 pub mod Places
 pub mod Viewers
+pub mod AnswerWords
 pub mod Details
 pub mod FindingWords
 pub mod FindingText

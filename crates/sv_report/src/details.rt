@@ -5,7 +5,7 @@ ghost use Rattle.std.specs.List.{flat_map};
 ghost use Rattle.sv_text.specs.Gives.{GivesAnswer};
 ghost use Rattle.sv_report.specs.Details as spec;
 
-use crate::escaped::escaped;
+use crate::answer_words::{elsewhere_text, servlet_text};
 use crate::parts::{joined, push_all};
 use crate::report::ReportedRow;
 use crate::words::shown_pattern;
@@ -14,7 +14,7 @@ use sv_audit::Narrower;
 use sv_text::{NoMemory, Text};
 use sv_uri::location;
 
-/// Returns the line of an example and of the exceptions of a row, or nothing if there is neither.
+/// Returns the line of an example, of what answers the paths and of the exceptions of a row, or nothing if there are none.
 pub fn detail_line(alloc: Global, context: &str, row: &ReportedRow) -> Result<Text, NoMemory>
     ensures { GivesAnswer result (spec.detail_line context.now row.now) }
 {
@@ -25,26 +25,56 @@ pub fn detail_line(alloc: Global, context: &str, row: &ReportedRow) -> Result<Te
     joined(alloc, &["  ", text.as_str(), "\n"])
 }
 
-/// Returns an example and the exceptions of a row.
+/// Returns an example of a row with what answers it, what answers its other paths, and the exceptions.
 #[tactic(auto, unfolding(crate::specs::Details::detail_text))]
-pub fn detail_text(alloc: Global, context: &str, row: &ReportedRow) -> Result<Text, NoMemory>
+fn detail_text(alloc: Global, context: &str, row: &ReportedRow) -> Result<Text, NoMemory>
     ensures { GivesAnswer result (spec.detail_text context.now row.now) }
 {
-    let example = example_location(alloc, context, &row.example)?;
-    let example = example_text(alloc, &example, &row.servlet)?;
+    let example = answered_example(alloc, context, row)?;
+    let elsewhere = elsewhere_text(alloc, row)?;
+    let answers = both(alloc, example.as_str(), elsewhere.as_str())?;
     let exceptions = exceptions_text(alloc, &row.narrower)?;
-    let between = between(example.as_str(), exceptions.as_str());
-    joined(alloc, &[example.as_str(), between, exceptions.as_str()])
+    both(alloc, answers.as_str(), exceptions.as_str())
 }
 
-fn between(example: &str, exceptions: &str) -> &'static str
-    ensures { result.now ≡ spec.between example.now exceptions.now }
+/// Returns an example and the exceptions of a row, separated by a semicolon.
+///
+/// # Errors
+/// `NoMemory` if memory runs out.
+#[tactic(auto, unfolding(crate::specs::Details::paths_text))]
+pub fn paths_text(alloc: Global, context: &str, row: &ReportedRow) -> Result<Text, NoMemory>
+    ensures { GivesAnswer result (spec.paths_text context.now row.now) }
 {
-    if example.is_empty() || exceptions.is_empty() {
+    let example = example_location(alloc, context, &row.example)?;
+    let example = example_text(alloc, &example)?;
+    let exceptions = exceptions_text(alloc, &row.narrower)?;
+    both(alloc, example.as_str(), exceptions.as_str())
+}
+
+/// Joins two parts, with a semicolon between them if neither is empty.
+#[tactic(auto, unfolding(crate::specs::Details::both))]
+fn both<'a>(alloc: Global, first: &'a str, second: &'a str) -> Result<Text, NoMemory>
+    ensures { GivesAnswer result (spec.both first.now second.now) }
+{
+    let between = between(first, second);
+    joined(alloc, &[first, between, second])
+}
+
+fn between<'a>(first: &'a str, second: &'a str) -> &'a str
+    ensures { result.now ≡ spec.between first.now second.now }
+{
+    if first.is_empty() || second.is_empty() {
         ""
     } else {
         "; "
     }
+}
+
+fn answered_example(alloc: Global, context: &str, row: &ReportedRow) -> Result<Text, NoMemory>
+    ensures { GivesAnswer result (spec.answered_example context.now row.now) }
+{
+    let example = example_location(alloc, context, &row.example)?;
+    answered_text(alloc, &example, &row.servlet)
 }
 
 /// Returns the path of a row as a client requests it, with the path of its context.
@@ -63,12 +93,21 @@ pub fn example_location(
     Ok(Some(Text::from_string(place)))
 }
 
-fn example_text(
+fn example_text(alloc: Global, example: &Option<Text>) -> Result<Text, NoMemory>
+    ensures { GivesAnswer result (spec.example_text example.now) }
+{
+    match example {
+        None => Text::copy_of(alloc, ""),
+        Some(place) => joined(alloc, &["such as ", place.as_str()]),
+    }
+}
+
+fn answered_text(
     alloc: Global,
     example: &Option<Text>,
     servlet: &Option<Text>,
 ) -> Result<Text, NoMemory>
-    ensures { GivesAnswer result (spec.example_text example.now servlet.now) }
+    ensures { GivesAnswer result (spec.answered_text example.now servlet.now) }
 {
     match example {
         None => Text::copy_of(alloc, ""),
@@ -77,29 +116,13 @@ fn example_text(
 }
 
 fn answered_place(alloc: Global, place: &str, servlet: &Option<Text>) -> Result<Text, NoMemory>
-    ensures { GivesAnswer result (spec.example_text (Some place.now) servlet.now) }
+    ensures { GivesAnswer result (spec.answered_text (Some place.now) servlet.now) }
 {
     let servlet = servlet_text(alloc, servlet)?;
     joined(
         alloc,
         &["such as ", place, ", answered by ", servlet.as_str()],
     )
-}
-
-fn servlet_text(alloc: Global, servlet: &Option<Text>) -> Result<Text, NoMemory>
-    ensures { GivesAnswer result (spec.servlet_text servlet.now) }
-{
-    match servlet {
-        None => Text::copy_of(alloc, "files"),
-        Some(name) => named_servlet(alloc, name.as_str()),
-    }
-}
-
-fn named_servlet(alloc: Global, name: &str) -> Result<Text, NoMemory>
-    ensures { GivesAnswer result (spec.servlet_text (Some name.now)) }
-{
-    let name = escaped(alloc, name)?;
-    joined(alloc, &["servlet ", name.as_str()])
 }
 
 /// Returns the patterns that are chosen before the pattern of a row.

@@ -34,9 +34,8 @@ fn push_finding(
 ) -> Result<(), NoMemory>
     ensures { OnOk result (string_bytes text.new ≡ string_bytes text.old ++ spec.finding_lines context.now finding.now) }
 {
-    let lines = context.lines.as_slice();
     let problem = problem_text(alloc, context.has_login, &finding.finding)?;
-    let place = place_text(alloc, context.file.as_str(), lines, finding.constraint)?;
+    let place = place_text(alloc, context.file.as_str(), finding.line)?;
     push_all(
         text,
         &[

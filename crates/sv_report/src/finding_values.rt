@@ -8,7 +8,6 @@ ghost use Rattle.sv_report.specs.FindingJson as spec;
 use crate::finding_words::kind_name;
 use crate::json_words::{are_excepted, enters, names_in, roles_in};
 use crate::members::{put_number, put_text, put_texts, put_truth};
-use crate::places::line_of;
 use crate::report::{ContextReport, ReportedFinding};
 use serde_json::{Map, Value};
 use std::alloc::Global;
@@ -25,7 +24,6 @@ pub fn finding_value(
 ) -> Result<Value, NoMemory>
     ensures { IfOk result (λ value. view value ≡ spec.finding_value context.now finding.now) }
 {
-    let line = line_of(context.lines.as_slice(), finding.constraint);
     let kind = kind_name(&finding.finding);
     let mut members = Map::new(alloc);
     put_subject(&mut members, alloc, context.has_login, &finding.finding)?;
@@ -33,7 +31,7 @@ pub fn finding_value(
     put_number(&mut members, alloc, "constraint", finding.constraint)?;
     put_text(&mut members, alloc, "key", finding.key.as_str())?;
     put_text(&mut members, alloc, "kind", kind)?;
-    put_number(&mut members, alloc, "line", line)?;
+    put_number(&mut members, alloc, "line", finding.line)?;
     Ok(Value::Object(members))
 }
 

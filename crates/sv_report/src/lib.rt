@@ -1,6 +1,7 @@
 //! Reports on who may reach what: access tables and findings as text and as JSON.
 #![tactic(auto)]
 
+mod answer_words;
 mod details;
 pub mod escaped;
 mod finding_lines;
@@ -19,7 +20,8 @@ mod values;
 mod viewers;
 mod words;
 
-pub use details::{detail_text, example_location};
+pub use answer_words::answers_text;
+pub use details::{example_location, paths_text};
 pub use finding_words::{heading, kind_name, problem_text, remedy};
 pub use folded_lines::{
     LATER_WIDTH, LINE_WIDTH, folded, lines_of, parts_fit, parts_keep_characters,
@@ -30,7 +32,7 @@ pub use keys::keys_text;
 pub use lines::{METHODS_WIDTH, PATTERN_WIDTH, WHO_WIDTH, audit_text};
 pub use members::{put_text, put_text_if, put_texts, put_truth, put_truth_if, put_value};
 pub use parts::{joined, push_all};
-pub use places::{constraint_text, number_text, place_text};
-pub use report::{ContextReport, ReportedFinding, ReportedRow, Viewer};
+pub use places::{constraint_text, line_at, line_of, number_text, place_text};
+pub use report::{Answers, ContextReport, ReportedFinding, ReportedRow, Viewer};
 pub use viewers::{context_text, entry_text, hidden_text, viewer_title};
-pub use words::{methods_text, names_text, pattern_text, who_text};
+pub use words::{methods_text, names_text, pattern_text, shown_pattern, who_text};

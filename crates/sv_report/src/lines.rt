@@ -40,8 +40,8 @@ struct Columns<'a> {
     constraint: &'a str,
 }
 
-/// Returns the text of the access tables of contexts: a line for each group of methods, one for the example and the
-/// exceptions of each row, lines for the folders that are never served, for the login post and for other contexts, and
+/// Returns the text of the access tables of contexts: a line for each group of methods, one for an example, the answers
+/// and the exceptions of each row, lines for the folders that are never served, for the login post and for other contexts, and
 /// two lines for each finding. A row that no request reaches has one line. Control characters are escaped, and no line has more than 100 characters (see `folded`).
 ///
 /// # Errors

@@ -19,7 +19,8 @@ pub fn line_of(lines: &[Option<u64>], constraint: Option<u64>) -> Option<u64>
     }
 }
 
-fn line_at(lines: &[Option<u64>], number: u64) -> Option<u64>
+/// Returns the line at place `number - 1` of lines, if it is known.
+pub fn line_at(lines: &[Option<u64>], number: u64) -> Option<u64>
     ensures { result ≡ spec.line_at lines.now number }
 {
     if number == 0 {
@@ -62,16 +63,11 @@ fn numbered(alloc: Global, number: u64, line: Option<u64>) -> Result<Text, NoMem
     }
 }
 
-/// Returns the place of a constraint in a file, in parentheses after a space, or nothing if its line is not known.
-pub fn place_text(
-    alloc: Global,
-    file: &str,
-    lines: &[Option<u64>],
-    constraint: Option<u64>,
-) -> Result<Text, NoMemory>
-    ensures { GivesAnswer result (spec.place_text file.now (spec.line_of lines.now constraint)) }
+/// Returns a place in a file, in parentheses after a space, or nothing if its line is not known.
+pub fn place_text(alloc: Global, file: &str, line: Option<u64>) -> Result<Text, NoMemory>
+    ensures { GivesAnswer result (spec.place_text file.now line) }
 {
-    match line_of(lines, constraint) {
+    match line {
         None => Text::copy_of(alloc, ""),
         Some(line) => file_line(alloc, file, line),
     }

@@ -43,10 +43,21 @@ pub struct ReportedRow {
     pub example: Option<Text>,
     /// The name of the servlet that answers the example. Without one files answer it.
     pub servlet: Option<Text>,
+    /// What answers the paths of the row; none if it is not listed.
+    pub answers: Option<Answers>,
     /// The patterns that are chosen before this one at some of its paths.
     pub narrower: Narrower,
     /// Whether requests reach the pattern.
     pub reach: Reach,
+}
+
+/// What answers the paths of a row.
+#[derive(Drop)]
+pub struct Answers {
+    /// The names of the servlets that answer some path of the row, each once, in ascending byte order.
+    pub servlets: Listed<Text>,
+    /// Whether files answer some path of the row.
+    pub has_files: bool,
 }
 
 /// A finding, with where it belongs and whether it is accepted.
@@ -58,6 +69,8 @@ pub struct ReportedFinding {
     pub key: Text,
     /// The number of the constraint to change.
     pub constraint: Option<u64>,
+    /// The line of the context's file at which to change it, if it is known.
+    pub line: Option<u64>,
     /// Whether the finding is accepted.
     pub is_accepted: bool,
 }

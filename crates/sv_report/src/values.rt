@@ -11,7 +11,7 @@ use crate::members::{
     put_number, put_text, put_text_if, put_texts, put_truth, put_truth_if, put_value,
 };
 use crate::places::line_of;
-use crate::report::{ContextReport, ReportedRow, Viewer};
+use crate::report::{Answers, ContextReport, ReportedRow, Viewer};
 use crate::viewers::may_enter;
 use serde_json::{Map, Value};
 use std::alloc::Global;
@@ -49,8 +49,10 @@ pub fn row_value(
     let groups = group_values(alloc, context, row.row.groups.as_slice())?;
     let example = example_location(alloc, context.path.as_str(), &row.example)?;
     let other = elsewhere(alloc, &row.reach)?;
+    let answers = answers_value(alloc, &row.answers)?;
     let narrower = row.narrower.patterns.as_slice();
     let mut members = Map::new(alloc);
+    put_value(&mut members, alloc, "answers", answers)?;
     put_value(&mut members, alloc, "context", other)?;
     put_text_if(&mut members, alloc, "example", &example)?;
     put_value(&mut members, alloc, "groups", groups)?;
@@ -64,6 +66,25 @@ pub fn row_value(
     put_text_if(&mut members, alloc, "pattern", &row.row.pattern)?;
     put_text(&mut members, alloc, "reach", reach_word(&row.reach))?;
     put_text_if(&mut members, alloc, "servlet", &row.servlet)?;
+    Ok(Value::Object(members))
+}
+
+/// Returns what answers the paths of a row as a value, or null.
+fn answers_value(alloc: Global, answers: &Option<Answers>) -> Result<Value, NoMemory>
+    ensures { IfOk result (λ value. view value ≡ spec.answers_value answers.now) }
+{
+    match answers {
+        None => Ok(Value::Null),
+        Some(answers) => listed_answers(alloc, answers),
+    }
+}
+
+fn listed_answers(alloc: Global, answers: &Answers) -> Result<Value, NoMemory>
+    ensures { IfOk result (λ value. view value ≡ spec.listed_answers answers.now) }
+{
+    let mut members = Map::new(alloc);
+    put_truth(&mut members, alloc, "files", answers.has_files)?;
+    put_texts(&mut members, alloc, "servlets", answers.servlets.as_slice())?;
     Ok(Value::Object(members))
 }
 

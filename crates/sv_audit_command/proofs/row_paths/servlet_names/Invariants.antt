@@ -1,6 +1,0 @@
-use Rattle.std.proofs.Common.{◌≡◌, take}
-use Rattle.sv_audit_command.specs.RowPaths.{servlet_names}
-use Rattle.sv_audit_command.proofs.row_paths.servlet_names.Given as goal
-
-abbrev pub invariant-loop-mapping : goal.invariant-loop-mapping
-invariant-loop-mapping l = l.names.items ≡ servlet_names (take l.mapping-index l.mappings)
