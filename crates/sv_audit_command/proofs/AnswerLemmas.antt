@@ -59,6 +59,18 @@ both_true true true both = (refl, refl)
 both_true true false both = absurd (false≢true both)
 both_true false b both = absurd (false≢true both)
 
+pub any_of_map : {X Y : Type 0} (test : Y → Bool) (f : X → Y) (xs : List X) → list_any test (map f xs) ≡ list_any (λ x. test (f x)) xs
+any_of_map test f [] = refl
+any_of_map test f (x ∷ xs) = ap (λ some. test (f x) || some) (any_of_map test f xs)
+
+-- The same answers of the same names and paths.
+pub same_answers : (Is : Answers → Type 0) (names known : List (List ℕ)) (paths found : List AnsweredPath) → names ≡ known → paths ≡ found
+    → Is (answers_of names paths) → Is (answers_of known found)
+same_answers Is names known paths found names_are paths_are is =
+    let of_known : List (List ℕ) → Type 0 = λ listed. Is (answers_of listed found) in
+    let of_found : List AnsweredPath → Type 0 = λ listed. Is (answers_of names listed) in
+    subst of_known names_are (subst of_found paths_are is)
+
 some_same : {X : Type 0} (x y : X) → Some x ≡ Some y → x ≡ y
 some_same x y same = cc
 

@@ -1,5 +1,6 @@
 mod MappingLemmas
 mod AnswerLemmas
+mod AuditLemmas
 mod FilesFaults
 mod AuditRun
 mod Collected

@@ -1,9 +1,14 @@
--- The servlets of mappings.
-use Rattle.std.proofs.Common.{◌≡◌, ◌∙◌, ℕ, ◌+◌, ◌<◌, List, [], ◌∷◌, ◌++◌, length, map, get_or, take, ap, subst, sym}
+-- The servlets of mappings, and the rows of patterns.
+use Rattle.std.proofs.Common.{◌≡◌, ◌∙◌, ℕ, ◌+◌, ◌<◌, List, [], ◌∷◌, ◌++◌, length, map, get_or, take, ap, subst, sym, Option}
 use Rattle.std.proofs.lemmas.List.{append-nil, take_more}
 use Rattle.std.proofs.lemmas.List.Concat.{flat_map-append}
 use Rattle.sv_descriptor.specs.declared.servlet.ServletMapping.{ServletMapping}
+use Rattle.sv_audit.specs.declared.rows.Row.{Row}
+use Rattle.sv_report.specs.declared.report.ReportedRow.{ReportedRow}
 use Rattle.sv_audit_command.specs.ContextPatterns.{names_of, servlet_names}
+use Rattle.sv_audit_command.specs.RowPaths.{reported_row}
+use Rattle.sv_audit_command.specs.declared.context_patterns.ContextPatterns.{ContextPatterns}
+use Rattle.sv_audit_command.specs.declared.row_answers.AnsweredPaths.{AnsweredPaths}
 
 -- The names of one more mapping.
 pub names_more : (mappings : List ServletMapping) (i : ℕ) (mapping : ServletMapping) (before after : List (List ℕ)) (name : List ℕ) (patterns : List (List ℕ))
@@ -18,3 +23,12 @@ names_more mappings i mapping before after name patterns within is so_far its li
     ∙ sym (ap servlet_names (take_more mappings i mapping within)
     ∙ (flat_map-append names_of (take i mappings) (get_or mappings i mapping ∷ [])
     ∙ ap (λ tail. servlet_names (take i mappings) ++ tail) (append-nil (names_of (get_or mappings i mapping)))))))))
+
+-- The same rows of the same answers and patterns.
+pub same_rows : (Is : List ReportedRow → Type 0) (patterns : ContextPatterns) (found made : Option AnsweredPaths) (others texts : List (List ℕ)) (reaches : List (List ℕ) × List ℕ) (rows : List Row)
+    → found ≡ made → others ≡ texts
+    → Is (map (reported_row patterns found others reaches) rows) → Is (map (reported_row patterns made texts reaches) rows)
+same_rows Is patterns found made others texts reaches rows answers_are others_are is =
+    let of_made : Option AnsweredPaths → Type 0 = λ answered. Is (map (reported_row patterns answered texts reaches) rows) in
+    let of_texts : List (List ℕ) → Type 0 = λ listed. Is (map (reported_row patterns found listed reaches) rows) in
+    subst of_made answers_are (subst of_texts others_are is)

@@ -63,14 +63,17 @@ patterns_in context = context_patterns context.constraints context.mappings
 abbrev pub rows_in : AuditedContext → ContextPatterns → List Row → List ReportedRow
 rows_in context patterns rows = reported_rows patterns (context.surroundings.contexts, context.surroundings.path) rows
 
--- What follows from its constraints.
-abbrev pub audit_of : Option Asked → List ℕ → AuditedContext → Audit
-audit_of asked accepted context = record {
+-- What follows from the constraints of a context, given its patterns and its access table.
+abbrev pub audit_with : Option Asked → List ℕ → AuditedContext → ContextPatterns → Table → Audit
+audit_with asked accepted context patterns table = record {
   viewer = viewer_in asked context.realm;
   others = nested_paths context.surroundings.contexts context.surroundings.path;
-  rows = rows_in context (patterns_in context) (table_in context).rows;
-  findings = findings_in context (patterns_in context).constraints accepted (table_in context);
+  rows = rows_in context patterns table.rows;
+  findings = findings_in context patterns.constraints accepted table;
 }
+
+abbrev pub audit_of : Option Asked → List ℕ → AuditedContext → Audit
+audit_of asked accepted context = audit_with asked accepted context (patterns_in context) (table_in context)
 
 abbrev pub context_report : Option Asked → List ℕ → AuditedContext → ContextReport
 context_report asked accepted context =

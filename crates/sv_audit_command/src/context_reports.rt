@@ -81,20 +81,40 @@ struct Audit {
 fn audit_of(alloc: Global, context: &AuditedContext, asking: Asking<'_>) -> Result<Audit, NoMemory>
     ensures { GivesAnswer result (spec.audit_of asking.entry.viewer asking.entry.accepted.now context.now) }
 {
+    let table = table_in(alloc, context)?;
+    let patterns = patterns_in(alloc, context)?;
+    audit_with(alloc, context, asking, &patterns, table)
+}
+
+fn table_in(alloc: Global, context: &AuditedContext) -> Result<Table, NoMemory>
+    ensures { GivesAnswer result (spec.table_in context.now) }
+{
+    table_of(alloc, context.constraints.as_slice(), &context.rules)
+}
+
+fn patterns_in(alloc: Global, context: &AuditedContext) -> Result<ContextPatterns, NoMemory>
+    ensures { GivesAnswer result (spec.patterns_in context.now) }
+{
     let constraints = context.constraints.as_slice();
-    let table = table_of(alloc, constraints, &context.rules)?;
-    let patterns = context_patterns(alloc, constraints, context.mappings.as_slice())?;
+    context_patterns(alloc, constraints, context.mappings.as_slice())
+}
+
+/// Returns what follows from the constraints of a context, given its patterns and its access table.
+fn audit_with(
+    alloc: Global,
+    context: &AuditedContext,
+    asking: Asking<'_>,
+    patterns: &ContextPatterns,
+    table: Table,
+) -> Result<Audit, NoMemory>
+    ensures { GivesAnswer result (spec.audit_with asking.entry.viewer asking.entry.accepted.now context.now patterns.now table) }
+{
+    let accepted = asking.accepted;
     Ok(Audit {
         viewer: viewer_in(alloc, asking.viewer, &context.realm)?,
         others: others_in(alloc, &context.surroundings)?,
-        findings: findings_in(
-            alloc,
-            context,
-            &patterns.constraints,
-            asking.accepted,
-            &table,
-        )?,
-        rows: rows_in(alloc, context, &patterns, table.rows)?,
+        findings: findings_in(alloc, context, &patterns.constraints, accepted, &table)?,
+        rows: rows_in(alloc, context, patterns, table.rows)?,
     })
 }
 

@@ -205,6 +205,12 @@ fn servlets_of(
 fn have_answer(paths: &[&AnsweredPath], servlet: Option<&str>) -> bool
     ensures { result ≡ spec.have_answer (map (λ path. path.now) paths.now) (option_copied servlet.entry) }
 {
+    any_is_answered_by(paths, servlet)
+}
+
+fn any_is_answered_by(paths: &[&AnsweredPath], servlet: Option<&str>) -> bool
+    ensures { result ≡ list_any (λ path. reading.is_same path.now.servlet (option_copied servlet.entry)) paths.now }
+{
     paths.iter().any(|path| is_answered_by(path, servlet))
 }
 

@@ -9,5 +9,5 @@ loop-finding-preserved c =
     let are : IsGrouped c.args.context.now.constraints c.in_ok-groups.groups = rw (← c.as_slice.ensures) c.in_ok-groups.ensures in
     one_more_made (reported_finding c.args.context.now c.args.patterns.now c.args.accepted.now) c.loop-finding.reported.items c.push.new.self.items
     c.loop-finding.yielded (into_iter_items c.loop-finding.finding-iterator) (into_iter_items c.next.new.self) c.args.findings
-    c.in-Some.finding c.in_ok-reported_finding.field-0 c.loop-finding.invariant c.in-Some.ensures.steps.0 c.in_ok-push.ensures.items
-    (c.in_ok-reported_finding.ensures c.args.accepted.now are c.in_ok-lines.ensures)
+    c.in-Some.finding c.in_ok-finding.finding c.loop-finding.invariant c.in-Some.ensures.steps.0 c.in_ok-push.ensures.items
+    (c.in_ok-finding.ensures c.args.accepted.now are c.in_ok-lines.ensures)
