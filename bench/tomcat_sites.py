@@ -80,7 +80,7 @@ class Site:
         self.context = f"/site{place}" if context is None else context
         self.room = room / self.name
         read = descriptor.read(path.read_bytes(), Told(str(path)))
-        self.tables = read.tables
+        self.parts = read.parts
         self.room.mkdir(exist_ok=True)
         (self.room / "web.toml").write_text(read.text(), encoding="utf-8")
         self.callers = self._callers()
@@ -109,7 +109,7 @@ class Site:
         return self.context[1:] or "ROOT"
 
     def _named(self, header: str) -> list[dict[str, Value]]:
-        return [table for its_header, table in self.tables if its_header == header]
+        return [part.table for part in self.parts if part.header == header]
 
     def _collections(self) -> Iterator[dict[str, Value]]:
         for table in self._named("[[security-constraint]]"):
