@@ -4,3 +4,4 @@ mod FormLemmas
 mod IdLemmas
 mod PassLemmas
 mod SessionLemmas
+mod NameLemmas
