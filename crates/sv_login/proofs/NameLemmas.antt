@@ -1,13 +1,14 @@
 -- The first byte of an encoded name, and decoded names that are ASCII.
 use Rattle.std.proofs.Common.{◌≡◌, ℕ, zero, suc, ◌+◌, ◌*◌, ◌<◌, ◌≤◌, true, false, List, [], ◌∷◌, ◌++◌, map, length, take, drop, get_or, IsAscii, bytes_eq, refl, sym, ap, subst, ◌∙◌, arith, inl, inr, ⊎_elim}
 use Rattle.std.proofs.lemmas.Bool.{cases_eq, cases_Bool, cond-true, cond-false, eq-eqb, ne_eqb}
+use Rattle.std.proofs.lemmas.List.{length-map}
 use Rattle.std.proofs.lemmas.Slice.Eq.{bytes_eq-Decides}
 use Rattle.std.proofs.lemmas.Str.{utf8_lossy_step, IsUtf8-from_ascii, utf8_valid_len-IsUtf8}
 use Rattle.std.specs.Char.{digit_value}
 use Rattle.std.specs.Str.Lossy.{utf8_valid_len, utf8_lossy, utf8_lossy_within, after_first_chunk, replacement_bytes}
 use Rattle.form_urlencoded.specs.Form.{decode, plus_to_space}
 use Rattle.percent_encoding.specs.Percent.{KeepsFirst, percent_decode}
-use Rattle.percent_encoding.proofs.PercentLemmas.{KeepsFirst_from_no_escape, percent_decode_escape}
+use Rattle.percent_encoding.proofs.PercentLemmas.{KeepsFirst_from_no_escape, percent_decode_escape, length-percent_decode}
 
 percent_stays : (b : ℕ) → plus_to_space b ≡ 37 → b ≡ 37
 percent_stays b is = ⊎_elim
@@ -84,3 +85,9 @@ lossy_name bytes name ascii = ⊎_elim
     unlike (utf8_lossy bytes) name (λ same. no_replacement (take (utf8_valid_len bytes) bytes) (utf8_lossy (after_first_chunk bytes)) (subst IsAscii (sym same ∙ step) ascii))
     ∙ sym (unlike bytes name (λ same. faulty (utf8_valid_len-IsUtf8 bytes (IsUtf8-from_ascii bytes (subst IsAscii (sym same) ascii))))))
     (cases_eq (utf8_valid_len bytes) (length bytes))
+
+-- A text that is shorter than a name does not decode to it.
+pub too_short : (encoded name : List ℕ) → length encoded < length name → bytes_eq (decode encoded) name ≡ false
+too_short encoded name short =
+    let sizes = length-percent_decode (map plus_to_space encoded) in
+    unlike (decode encoded) name (λ same. omega (arith, ap length same, sizes.0, length-map encoded plus_to_space))

@@ -1,12 +1,12 @@
 //! The credentials of a login post.
 
-ghost use Rattle.std.specs.Prelude.{◌≡◌, [], ◌∷◌, IsAscii};
+ghost use Rattle.std.specs.Prelude.{◌≡◌};
 ghost use Rattle.std.specs.Option.{option_copied};
 ghost use Rattle.sv_text.specs.Gives.{GivesAnswer};
-ghost use Rattle.sv_login.specs.Credentials.{credentials_in, value_or};
+ghost use Rattle.sv_login.specs.Credentials.{credentials_in};
 ghost use Rattle.sv_login.specs.Post.{user_of};
 ghost use Rattle.sv_message.specs.Form.{form_parameters};
-ghost use Rattle.sv_message.specs.Parameters.{parameters_of, text_of};
+ghost use Rattle.sv_message.specs.Parameters.{parameters_of};
 
 use crate::field_name::is_name;
 use form_urlencoded::raw_pairs;
@@ -49,8 +49,12 @@ impl Credentials {
         let mut name = None;
         let mut password = None;
         for (key, value) in raw_pairs(form) {
-            name = value_or(alloc, name, "j_username", key, value)?;
-            password = value_or(alloc, password, "j_password", key, value)?;
+            if name.is_none() && is_name(key, "j_username") {
+                name = Some(text_of(alloc, value)?);
+            }
+            if password.is_none() && is_name(key, "j_password") {
+                password = Some(text_of(alloc, value)?);
+            }
             if name.is_some() && password.is_some() {
                 return Ok(Credentials { name, password });
             }
@@ -68,21 +72,4 @@ impl Credentials {
         let caller = realm.check(name.as_str(), password.as_bytes())?;
         Some(caller.number)
     }
-}
-
-/// Returns the value found before, or otherwise the decoded value of an encoded field if it has the name.
-fn value_or(
-    alloc: Global,
-    seen: Option<Text>,
-    name: &str,
-    key: &[u8],
-    value: &[u8],
-) -> Result<Option<Text>, NoMemory>
-    requires { IsAscii name.now }
-    ensures { GivesAnswer result (value_or seen name.now ((text_of key.now, text_of value.now) ∷ [])) }
-{
-    if seen.is_some() || !is_name(key, name) {
-        return Ok(seen);
-    }
-    Ok(Some(text_of(alloc, value)?))
 }

@@ -7,11 +7,12 @@ ghost use Rattle.sv_message.specs.Parameters.{text_of};
 
 /// Returns whether an encoded name decodes to the given one (URL Standard, section 5.1). It does not allocate, and it
 /// stops at the first byte that differs.
+#[inline(always)]
 pub(crate) fn is_name(encoded: &[u8], name: &str) -> bool
     requires { IsAscii name.now }
     ensures { result ≡ bytes_eq (text_of encoded.now) name.now }
 {
-    decodes_to(encoded, name.as_bytes())
+    encoded.len() >= name.len() && decodes_to(encoded, name.as_bytes())
 }
 
 fn decodes_to(encoded: &[u8], bytes: &[u8]) -> bool
@@ -27,6 +28,7 @@ fn decodes_to(encoded: &[u8], bytes: &[u8]) -> bool
 }
 
 /// Returns the first byte of the decoded text, and the encoded rest.
+#[inline(always)]
 fn first_decoded(encoded: &[u8]) -> Option<(u8, &[u8])>
     ensures { MatchOption result (decode encoded.now ≡ []) (λ found. decode encoded.now ≡ found.0 ∷ decode found.1.now) }
 {
@@ -39,6 +41,7 @@ fn first_decoded(encoded: &[u8]) -> Option<(u8, &[u8])>
 }
 
 /// Returns the byte of the escape at the front, and the encoded rest.
+#[inline(always)]
 fn first_escaped(encoded: &[u8]) -> Option<(u8, &[u8])>
     ensures { MatchOption result (KeepsFirst (map plus_to_space encoded.now)) (λ found. decode encoded.now ≡ found.0 ∷ decode found.1.now) }
 {
