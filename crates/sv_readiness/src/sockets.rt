@@ -1,8 +1,9 @@
 //! The poller of a listener and its connections.
 
-ghost use Rattle.std.specs.Prelude.{◌≡◌, ◌≢◌, Some};
+ghost use Rattle.std.specs.Prelude.{◌≡◌, ◌≢◌, ◌≤◌, Some};
 ghost use Rattle.sv_connection.specs.declared.poller.PollEvent.TheVariants.{Asked};
 ghost use Rattle.sv_readiness.specs.Polling.{HoldsLine, RepliesIfAny};
+ghost use Rattle.sv_readiness.specs.declared.control.TheConstants.{FIRST_CLIENT};
 
 use crate::acceptor::Acceptor;
 use crate::clock_reading::read_clocks;
@@ -130,6 +131,7 @@ impl<'a, C: Clock> Sockets<'a, C> {
 
     // Returns the event of the control socket, if any.
     fn heard_at(&mut self, token: usize) -> Option<PollEvent>
+        requires { FIRST_CLIENT ≤ token }
         ensures { result ≡ Some Asked → HoldsLine self.new.control }
     {
         let now = self.seconds();
