@@ -1,6 +1,5 @@
 mod CaseLemmas
 mod HeldLemmas
-mod FormLemmas
 mod IdLemmas
 mod PassLemmas
 mod SessionLemmas
