@@ -179,7 +179,10 @@ def tried_commands() -> list[tuple[str, list[str]]]:
     build = (
         "sv build\n    proves and builds the program from its sources, in half an hour or more\n"
     )
-    release = "sv release\n    does what build does, and makes the program the released one\n"
+    release = (
+        "sv release\n"
+        "    proves and builds sv, hello and guestbook, and makes them the released programs\n"
+    )
     needed = "needs the Rattle toolchain (rt on the path)\n"
     with tempfile.TemporaryDirectory(prefix="sv-import-") as folder:
         room = Path(folder)
