@@ -26,7 +26,6 @@ build() {
 release() {
     local name all
     local -A sums
-    need_toolchain
     mapfile -t all < <(for name in "${released_programs[@]}"; do crates_below "$name"; done | awk '!seen[$0]++')
     echo "sv: proving and building ${#all[@]} crates for ${released_programs[*]}" >&2
     for name in "${released_programs[@]}"; do
@@ -56,6 +55,7 @@ usage() {
 # usage.
 build_command() {
     if [ $# = 1 ]; then
+        need_toolchain sv "building from the sources"
         "$1"
     elif [[ $# == 2 && ($2 == -h || $2 == --help) ]]; then
         usage "$1"
