@@ -13,8 +13,9 @@ program=sv
 
 # Proves and builds the crates of the program.
 build() {
-    local sum
+    local crates sum
     need_toolchain
+    mapfile -t crates < <(program_crates)
     sum=$(source_sum)
     echo "sv: proving and building ${#crates[@]} crates; later runs start at once" >&2
     prove_together "${crates[@]}"
@@ -65,7 +66,6 @@ build_command() {
     fi
 }
 
-mapfile -t crates < <(program_crates)
 case ${1:-} in
     build | release) build_command "$@" ;;
     *)

@@ -207,6 +207,13 @@ def tried_commands() -> list[tuple[str, list[str]]]:
                     ["tools/try", "hello", "8080"],
                     Ended(1, "", f"try: running crates/hello without a proof {needed}"),
                 ),
+                (
+                    no_rt,
+                    ["tools/libraries", "hello"],
+                    Ended(1, "", f"libraries: proving the libraries below crates/hello {needed}"),
+                ),
+                (no_rt, ["sv", "build"], Ended(1, "", f"sv: building from the sources {needed}")),
+                (no_rt, ["sv", "release"], Ended(1, "", f"sv: building from the sources {needed}")),
                 (no_rt, ["test"], Ended(1, "", f"test: proving and testing {needed}")),
                 (
                     no_rt,
