@@ -177,7 +177,7 @@ module _ (constraints : List Constraint) (mappings : List ServletMapping) where
 
   right_at : (pattern : Option (List ℕ)) (answers : Answers) (servlet : Option (List ℕ)) → answers_in constraints mappings pattern ≡ Some answers → includes answers servlet ≡ true
       → (path : List ℕ) × (is_rooted path ≡ true) × (best_pattern (all_patterns constraints) path ≡ pattern) × (servlet_in constraints mappings path ≡ servlet)
-          × (is_pathless pattern ≡ false) × (is_pathless (best_pattern (mapped_patterns mappings) path) ≡ false)
+      × (is_pathless pattern ≡ false) × (is_pathless (best_pattern (mapped_patterns mappings) path) ≡ false)
   right_at pattern answers servlet is included =
       let made = listed_from pattern answers is in
       let has = has_included patterns (rising patterns.names) _ servlet (sym (ap (λ found. includes found servlet) made) ∙ included) in

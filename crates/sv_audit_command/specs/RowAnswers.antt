@@ -78,7 +78,7 @@ abbrev pub AnswersAreRight : Type 0
 AnswersAreRight = (constraints : List Constraint) (mappings : List ServletMapping) (pattern : Option (List ℕ)) (answers : Answers) (servlet : Option (List ℕ))
     → answers_in constraints mappings pattern ≡ Some answers → IsTrue (includes answers servlet)
     → (path : List ℕ) × IsTrue (is_rooted path) × (best_pattern (all_patterns constraints) path ≡ pattern) × (servlet_in constraints mappings path ≡ servlet)
-        × (is_pathless pattern ≡ false) × (is_pathless (best_pattern (mapped_patterns mappings) path) ≡ false)
+    × (is_pathless pattern ≡ false) × (is_pathless (best_pattern (mapped_patterns mappings) path) ≡ false)
 
 -- Answers are listed unless there are too many patterns, or the row has no canonical path.
 abbrev pub AnswersAreListed : Type 0

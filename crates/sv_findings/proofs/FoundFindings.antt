@@ -11,7 +11,6 @@ use Rattle.sv_realm.specs.declared.caller.Caller.{Caller}
 use Rattle.sv_constraints.specs.Covering.{all_patterns, covering, covers_method, lists, patterns_in}
 use Rattle.sv_constraints.specs.Verdict.{verdict, verdict_at}
 use Rattle.sv_constraints.specs.declared.cause.Cause.{Cause}
-use Rattle.sv_constraints.specs.declared.cause.Cause.TheVariants as cause
 use Rattle.sv_constraints.specs.declared.constraint.Constraint.{Constraint}
 use Rattle.sv_constraints.specs.declared.constraint.Rules.{Rules}
 use Rattle.sv_policy.proofs.Best.{any_in, or_right}
@@ -29,7 +28,7 @@ use Rattle.sv_audit.specs.Access.{cell_at}
 use Rattle.sv_findings.proofs.OpenedLemmas.{contained, kept_any, method_found, opened_exact, some_pair}
 use Rattle.sv_findings.specs.Dead.{dead_patterns_in, decides_nothing, escaped, is_dead}
 use Rattle.sv_findings.specs.FindingLaws.{DeadIsFound, HeadIsFound, IsReached, OpenedIsFound, ReadingIsFound, UncoveredIsFound, UnreachedIsFound, says_dead, says_head, says_opened, says_read, says_uncovered, says_unreached}
-use Rattle.sv_audit.specs.Callers.{has_method, is_open, same_callers}
+use Rattle.sv_audit.specs.Callers.{has_method, same_callers}
 use Rattle.sv_findings.specs.Findings.{findings_of, pattern_findings}
 use Rattle.sv_findings.specs.LoginNeeds.{login_needs}
 use Rattle.sv_findings.specs.RoleFindings.{role_findings}
