@@ -11,11 +11,14 @@ use Rattle.sv_descriptor.specs.declared.web_app.WebApp.{WebApp}
 use Rattle.sv_files.specs.declared.files.File.{File}
 use Rattle.sv_realm.specs.declared.account.User.{User}
 use Rattle.sv_program.specs.Configuration.{Step, descriptor_in, users_in}
+use Rattle.sv_program.specs.declared.command_fault.CommandFault.{CommandFault}
 use Rattle.sv_program.specs.declared.command_fault.CommandFault.TheVariants as fault
 use Rattle.sv_program.specs.declared.configuration.ContextTexts.{ContextTexts}
 use Rattle.sv_deployments.specs.Files.{files_in}
 use Rattle.sv_deployments.specs.Folders.{FolderFiles}
 use Rattle.sv_deployments.specs.declared.class_fault.TheConstants.{CLASSES}
+use Rattle.sv_deployments.specs.declared.class_fault.ClassFault.TheVariants.{UnknownClass, NoMemory}
+use Rattle.sv_deployments.specs.declared.component_place.ComponentPlace.{ComponentPlace}
 use Rattle.sv_deployments.specs.declared.folders.FoundContext.{FoundContext}
 
 -- the deployment of a context, with its components as lists
@@ -41,13 +44,19 @@ deployment given = record {
 abbrev pub deployments : List ProgramDeployment → List Deployed
 deployments = map deployment
 
--- the components, or the fault of a class that the program does not have
-abbrev pub known : Made Components → Step Components
-known (Ok made) = Ok made
-known (Err class) = Err (fault.Class class CLASSES.now)
+-- the fault of a class that the program does not have, for the component at this place of the descriptor
+abbrev pub unknown_class : ContextTexts → List ℕ → ComponentPlace → CommandFault
+unknown_class texts class place = fault.Class class CLASSES.now
 
-abbrev pub components_in : WebApp → Step Components
-components_in app = known (components_of app)
+-- the components, or the fault of a class
+abbrev pub known : ContextTexts → Made Components → Step Components
+known texts (Ok made) = Ok made
+known texts (Err (UnknownClass class place)) = Err (unknown_class texts class place)
+known texts (Err NoMemory) = Err fault.NoMemory
+
+-- the components of a context with this descriptor
+abbrev pub components_in : ContextTexts → WebApp → Step Components
+components_in texts app = known texts (components_of app)
 
 -- the descriptor, users and files of a context, or the first fault among them
 abbrev pub read_of : ContextTexts → FolderFiles → Step ((WebApp × List User) × List File)
@@ -60,7 +69,7 @@ deployment_for texts found = do
   its_descriptor ← descriptor_in texts
   its_users ← users_in texts
   its_files ← files_in texts.context found
-  its_parts ← components_in its_descriptor
+  its_parts ← components_in texts its_descriptor
   Ok (record { path = texts.context.path; descriptor = its_descriptor; files = its_files; users = its_users; parts = its_parts })
 
 abbrev pub deployment_of : FoundContext → Step Deployed
