@@ -11,17 +11,13 @@ use Rattle.sv_descriptor.specs.declared.fault.FaultCode.{FaultCode}
 use Rattle.sv_descriptor.specs.declared.fault.FaultCode.TheVariants.{NotToml}
 use Rattle.sv_descriptor.specs.declared.fault.LocatedFault.{LocatedFault}
 use Rattle.sv_program.specs.FileLine.{IsFileLine}
+use Rattle.sv_program.specs.FilePlace.{line_text}
 use Rattle.sv_program.specs.Offending.{offending}
 use Rattle.sv_program.specs.Place.{line_behind, column_behind}
 use Rattle.sv_program.specs.Sentence.{sentence}
 use Rattle.sv_program.specs.Unavailable.{reason_text}
 use Rattle.sv_program.specs.declared.detail.Detail.{Detail}
 use Rattle.sv_program.specs.declared.detail.Detail.TheVariants as detail
-
--- the line number after the name of the file, if the line is known
-abbrev pub line_text : Option ℕ → List ℕ
-line_text None = codes ""
-line_text (Some line) = codes ":" ++ decimal line
 
 -- the offending value, if it is shown
 abbrev pub value_text : Option (List ℕ) → List ℕ
@@ -86,7 +82,7 @@ detail_text (detail.Line line) = line.now
 detail_text (detail.Named name why) = codes "  " ++ name.now ++ codes ": " ++ reason_text why
 detail_text (detail.Address address why) = codes "  " ++ socket_text address ++ codes ": " ++ reason_text why
 detail_text (detail.Component place) = codes "  " ++ place_text place ++ codes " of its descriptor: init failed"
-detail_text (detail.Classes classes) = codes "  the program has " ++ classes.now
+detail_text (detail.Classes place classes) = codes "  " ++ (place.now ++ (codes ": the program has " ++ classes.now))
 detail_text (detail.User shown) = codes "  the context has no user " ++ shown.now
 detail_text (detail.Method shown) = codes "  the method is not a token: " ++ shown.now
 detail_text (detail.Sentence sentence) = codes "  " ++ sentence.now

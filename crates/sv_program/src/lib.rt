@@ -10,7 +10,9 @@ mod disk;
 mod example_policy;
 mod file_fault;
 mod file_line;
+mod file_place;
 mod first_command;
+mod keys;
 mod limits;
 mod line;
 mod offending_value;
@@ -29,7 +31,9 @@ pub use configuration_files::{read_contexts, read_server_file};
 pub use detail::Detail;
 pub use disk::{Disk, FileStore, FileText};
 pub use file_fault::FileFault;
+pub use file_place::{FilePlace, item_steps, place_text};
 pub use first_command::{denies_uncovered, first, first_line};
+pub use keys::{Format, KEYS, KeyDescription};
 pub use limits::{
     MAX_FILE_BYTES, MAX_INPUT_BYTES, MAX_LOCATED_BYTES, MAX_SHOWN_CHARACTERS, limits_are_as_stated,
     limits_of_the_second_line,

@@ -8,6 +8,7 @@ ghost use Rattle.sv_program.specs.Detail as spec;
 ghost use Rattle.sv_program.specs.Offending.{offending as offending_value};
 
 use crate::file_line::file_line;
+use crate::file_place::line_text;
 use crate::offending_value::offending;
 use crate::place::{column_behind, line_behind};
 use crate::sentence::{back, front};
@@ -103,16 +104,6 @@ fn problem_line(
     let value = value_text(alloc, value)?;
     let text = format!(in alloc; "  {name}{place}: {front}{key}{back}{value}")?;
     Ok(Text::from_string(text))
-}
-
-/// Returns the number of a line, after a colon.
-fn line_text(alloc: Global, line: Option<usize>) -> Result<Text, NoMemory>
-    ensures { GivesAnswer result (spec.line_text line) }
-{
-    match line {
-        Some(line) => Ok(Text::from_string(format!(in alloc; ":{line}")?)),
-        None => Text::copy_of(alloc, ""),
-    }
 }
 
 /// Returns the offending value, after a colon and a space.
