@@ -14,6 +14,7 @@ use Rattle.sv_deployments.specs.Deployments.{Deployed, components_in, deployment
 use Rattle.sv_deployments.specs.Files.{files_in}
 use Rattle.sv_deployments.specs.Folders.{FolderGiving}
 use Rattle.sv_deployments.specs.declared.check.CheckedContext.{CheckedContext}
+use Rattle.sv_deployments.specs.declared.check.CheckedServer.{CheckedServer}
 use Rattle.sv_deployments.specs.declared.check.ContextCounts.{ContextCounts}
 use Rattle.sv_deployments.specs.declared.folders.FoundContext.{FoundContext}
 
@@ -53,41 +54,37 @@ counts_in (Ok made) = Some (counts_of made)
 counts_in (Err fault) = None
 
 abbrev pub checked_context : FoundContext → CheckedContext
-checked_context found = record {
-  path = found.texts.context.path;
-  faults = context_faults found;
-  counts = counts_in (deployment_of found);
-}
+checked_context found = record { path = found.texts.context.path; counts = counts_in (deployment_of found) }
+
+abbrev pub checked_server : List FoundContext → CheckedServer
+checked_server found = record { faults = flat_map context_faults found; contexts = map checked_context found }
 
 -- ---- the files and folders that the store gives
 
--- the contexts of a server file with this text, if it could be read, checked one by one
-abbrev pub checked_for : List ℕ → FileText → List FoundContext → Step (List CheckedContext)
+-- the contexts of a server file with this text, if it could be read
+abbrev pub checked_for : List ℕ → FileText → List FoundContext → Step CheckedServer
 checked_for config file found = do
   server ← server_in config file
-  Ok (map checked_context found)
+  Ok (checked_server found)
 
-abbrev pub IsCheckedServer : {S : Type 0} → Giving S → FolderGiving S → List ℕ → Step (List CheckedContext) → S → S → Type 0
+abbrev pub IsCheckedServer : {S : Type 0} → Giving S → FolderGiving S → List ℕ → Step CheckedServer → S → S → Type 0
 IsCheckedServer gives_text gives_files config checked before after =
     (file : FileText) × (found : List FoundContext)
     × AreGiven gives_text gives_files config file found before after
     × (checked ≡ checked_for config file found)
 
 -- the result is the checked contexts, or the fault of the server file, unless memory ran out
-abbrev pub FindsChecked : {S : Type 0} → Giving S → FolderGiving S → List ℕ → Result (List CheckedContext) CommandFault → S → S → Type 0
+abbrev pub FindsChecked : {S : Type 0} → Giving S → FolderGiving S → List ℕ → Result CheckedServer CommandFault → S → S → Type 0
 FindsChecked gives_text gives_files config result before after =
-    UnlessNoMemory result ((checked : Step (List CheckedContext))
+    UnlessNoMemory result ((checked : Step CheckedServer)
     × IsCheckedServer gives_text gives_files config checked before after
     × Gives command_fault result checked)
 
 -- ---- laws
 
-abbrev pub all_faults : List FoundContext → List CommandFault
-all_faults found = flat_map context_faults found
-
 -- contexts that can be deployed have no fault, and what they have is counted; otherwise the first fault is the one with
 -- which the deployment ends
 abbrev pub FindsFirstFault : Type 0
 FindsFirstFault = (found : List FoundContext) → MatchResult (each deployment_of found)
-    (λ made. (all_faults found ≡ []) × (map (λ context. counts_in (deployment_of context)) found ≡ map (λ one. Some (counts_of one)) made))
-    (λ fault. (rest : List CommandFault) × (all_faults found ≡ fault ∷ rest))
+    (λ made. ((checked_server found).faults ≡ []) × (map (λ context. context.counts) (checked_server found).contexts ≡ map (λ one. Some (counts_of one)) made))
+    (λ fault. (rest : List CommandFault) × ((checked_server found).faults ≡ fault ∷ rest))

@@ -1,5 +1,5 @@
 -- The deployments of a server's contexts.
-use Rattle.std.specs.Prelude.{ℕ, List, map, Ok, Err}
+use Rattle.std.specs.Prelude.{ℕ, List, [], map, Ok, Err}
 use Rattle.sv_text.specs.Steps.{◌>>=◌}
 use Rattle.sv_deployments.specs.Parts.{Components, Made, components, components_of}
 use Rattle.sv_deployments.specs.Results.{both}
@@ -11,9 +11,11 @@ use Rattle.sv_descriptor.specs.declared.web_app.WebApp.{WebApp}
 use Rattle.sv_files.specs.declared.files.File.{File}
 use Rattle.sv_realm.specs.declared.account.User.{User}
 use Rattle.sv_program.specs.Configuration.{Step, descriptor_in, users_in}
+use Rattle.sv_program.specs.FileStore.{FileText}
 use Rattle.sv_program.specs.declared.command_fault.CommandFault.{CommandFault}
 use Rattle.sv_program.specs.declared.command_fault.CommandFault.TheVariants as fault
 use Rattle.sv_program.specs.declared.configuration.ContextTexts.{ContextTexts}
+use Rattle.sv_deployments.specs.ComponentPlace.{steps_to}
 use Rattle.sv_deployments.specs.Files.{files_in}
 use Rattle.sv_deployments.specs.Folders.{FolderFiles}
 use Rattle.sv_deployments.specs.declared.class_fault.TheConstants.{CLASSES}
@@ -44,9 +46,15 @@ deployment given = record {
 abbrev pub deployments : List ProgramDeployment → List Deployed
 deployments = map deployment
 
+-- the text of a file, empty if it is not available
+abbrev pub descriptor_text : FileText → List ℕ
+descriptor_text (Ok text) = text
+descriptor_text (Err why) = []
+
 -- the fault of a class that the program does not have, for the component at this place of the descriptor
 abbrev pub unknown_class : ContextTexts → List ℕ → ComponentPlace → CommandFault
-unknown_class texts class place = fault.Class class CLASSES.now
+unknown_class texts class place =
+    fault.Class class (record { file = texts.context.descriptor; text = descriptor_text texts.descriptor; steps = steps_to place }) CLASSES.now
 
 -- the components, or the fault of a class
 abbrev pub known : ContextTexts → Made Components → Step Components

@@ -1,8 +1,9 @@
 //! The check of a server's contexts, which reads everything that a start reads and starts nothing.
 
-ghost use Rattle.std.specs.Prelude.{◌≡◌, ◌++◌, Ok, length, map, IfOk};
+ghost use Rattle.std.specs.Prelude.{◌≡◌, ◌++◌, [], Ok, length, IfOk};
 ghost use Rattle.sv_deployments.specs.Check as spec;
 ghost use Rattle.sv_deployments.specs.Counted as counted;
+ghost use Rattle.sv_files.specs.Fault.{list_faults};
 ghost use Rattle.sv_program.specs.CommandFault.{command_fault};
 ghost use Rattle.sv_program.specs.Configuration.{Step};
 ghost use Rattle.sv_text.specs.Gives.{Gives, GivesAnswer};
@@ -11,20 +12,28 @@ use crate::deployments::{files_in, parts_in};
 use crate::folders::{FolderFiles, FolderStore, FoundContext, read_folders};
 use std::alloc::Global;
 use sv_descriptor::{ContextEntry, Descriptor};
-use sv_files::Files;
+use sv_files::File;
 use sv_program::{
     CommandFault, ContextTexts, FileStore, descriptor_in, read_contexts, read_server_file, realm_in,
 };
 use sv_realm::Realm;
 use sv_text::{Listed, NoMemory, Text};
 
+/// The contexts of a server that were checked.
+#[derive(Drop)]
+pub struct CheckedServer {
+    /// Of each context the first fault of its descriptor, of its users file, of its folder and of its classes, in this
+    /// order.
+    pub faults: Listed<CommandFault>,
+    /// The contexts in order.
+    pub contexts: Listed<CheckedContext>,
+}
+
 /// A context that was checked.
 #[derive(Drop)]
 pub struct CheckedContext {
     /// The context path.
     pub path: Text,
-    /// The first fault of its descriptor, of its users file, of its folder and of its classes, in this order.
-    pub faults: Listed<CommandFault>,
     /// What it has, unless it has a fault.
     pub counts: Option<ContextCounts>,
 }
@@ -57,7 +66,7 @@ pub fn read_checked<S: FileStore + FolderStore>(
     alloc: Global,
     store: &mut S,
     config: &str,
-) -> Result<Listed<CheckedContext>, CommandFault>
+) -> Result<CheckedServer, CommandFault>
     ensures { spec.FindsChecked S.gives_text S.gives_files config.now result store.old store.new }
 {
     let server = read_server_file(alloc, store, config)?;
@@ -73,27 +82,33 @@ pub fn read_checked<S: FileStore + FolderStore>(
 pub fn check_contexts(
     alloc: Global,
     contexts: Listed<FoundContext>,
-) -> Result<Listed<CheckedContext>, NoMemory>
-    ensures { GivesAnswer result (map spec.checked_context contexts) }
+) -> Result<CheckedServer, NoMemory>
+    ensures { GivesAnswer result (spec.checked_server contexts) }
 {
+    let mut faults = Vec::new(alloc);
     let mut checked = Vec::new(alloc);
     for context in contexts.into_vec() {
-        checked.push(check_context(alloc, context)?)?;
+        let context = check_context(alloc, context, &mut faults)?;
+        checked.push(context)?;
     }
-    Ok(Listed::from_vec(checked))
+    Ok(CheckedServer {
+        faults: Listed::from_vec(faults),
+        contexts: Listed::from_vec(checked),
+    })
 }
 
-fn check_context(alloc: Global, context: FoundContext) -> Result<CheckedContext, NoMemory>
-    ensures { GivesAnswer result (spec.checked_context context) }
+// Checks a context, and adds its faults to the list.
+fn check_context(
+    alloc: Global,
+    context: FoundContext,
+    faults: &mut Vec<CommandFault>,
+) -> Result<CheckedContext, NoMemory>
+    ensures { IfOk result (λ checked. (faults.new.items ≡ faults.old.items ++ spec.context_faults context) × (checked ≡ spec.checked_context context)) }
 {
     let FoundContext { texts, files } = context;
-    let mut faults = Vec::new(alloc);
-    let counts = check_files(alloc, &texts, files, &mut faults)?;
-    Ok(CheckedContext {
-        path: Text::copy_of(alloc, texts.context.path.as_str())?,
-        faults: Listed::from_vec(faults),
-        counts,
-    })
+    let counts = check_files(alloc, &texts, files, faults)?;
+    let path = Text::copy_of(alloc, texts.context.path.as_str())?;
+    Ok(CheckedContext { path, counts })
 }
 
 // Counts what a context with these texts and files has, and adds its faults to the list.
@@ -266,15 +281,16 @@ fn file_counts(
     let files = files_in(alloc, context, files)?;
     Ok(FileCounts {
         files: files.list().len(),
-        bytes: total_bytes(&files),
+        bytes: total_bytes(files.list()),
     })
 }
 
-fn total_bytes(files: &Files) -> usize
+fn total_bytes(files: &[File]) -> usize
+    requires { list_faults files.now ≡ [] }
     ensures { result ≡ spec.total_bytes files.now }
 {
     let mut total = 0;
-    for file in files.list() {
+    for file in files {
         total += file.bytes.as_slice().len();
     }
     total

@@ -1,11 +1,12 @@
 //! The places of components in a descriptor.
 
-ghost use Rattle.sv_deployments.specs.ComponentPlace as spec;
+ghost use Rattle.sv_deployments.specs.ComponentPlace.{steps_to};
 ghost use Rattle.sv_text.specs.Gives.{GivesAnswer};
 
 use std::alloc::Global;
 use sv_descriptor::ValueStep;
-use sv_text::{Listed, NoMemory, Text};
+use sv_program::item_steps;
+use sv_text::{Listed, NoMemory};
 
 /// The place of a component among those of its kind in its descriptor, from 0.
 #[derive(Clone, Copy, Debug)]
@@ -21,23 +22,14 @@ pub enum ComponentPlace {
 impl ComponentPlace {
     /// Returns the steps from the descriptor's table to the class of the component.
     pub fn steps(self, alloc: Global) -> Result<Listed<ValueStep>, NoMemory>
-        ensures { GivesAnswer result (spec.steps_to self) }
+        ensures { GivesAnswer result (steps_to self) }
     {
         match self {
-            ComponentPlace::Servlet(place) => steps(alloc, "servlet", place, "servlet-class"),
-            ComponentPlace::Filter(place) => steps(alloc, "filter", place, "filter-class"),
-            ComponentPlace::Listener(place) => steps(alloc, "listener", place, "listener-class"),
+            ComponentPlace::Servlet(place) => item_steps(alloc, "servlet", place, "servlet-class"),
+            ComponentPlace::Filter(place) => item_steps(alloc, "filter", place, "filter-class"),
+            ComponentPlace::Listener(place) => {
+                item_steps(alloc, "listener", place, "listener-class")
+            }
         }
     }
-}
-
-// Returns the steps to a key of an item of a list of tables.
-fn steps(alloc: Global, list: &str, place: usize, key: &str) -> Result<Listed<ValueStep>, NoMemory>
-    ensures { GivesAnswer result (spec.steps list.now place key.now) }
-{
-    let mut steps = Vec::with_capacity(alloc, 3)?;
-    steps.push(ValueStep::Key(Text::copy_of(alloc, list)?))?;
-    steps.push(ValueStep::Item(place))?;
-    steps.push(ValueStep::Key(Text::copy_of(alloc, key)?))?;
-    Ok(Listed::from_vec(steps))
 }

@@ -22,7 +22,7 @@ use sv_descriptor::{ContextEntry, Descriptor};
 use sv_files::{File, Files};
 use sv_lifecycle::Deployment;
 use sv_live::Parts;
-use sv_program::{CommandFault, ContextTexts, descriptor_in, realm_in};
+use sv_program::{CommandFault, ContextTexts, FilePlace, descriptor_in, realm_in};
 use sv_realm::Realm;
 use sv_text::{Listed, Text};
 
@@ -137,12 +137,23 @@ fn unknown_class<T>(
 ) -> Result<T, CommandFault>
     ensures { Gives command_fault result (Err (spec.unknown_class texts.now name place)) }
 {
-    let _ = texts;
-    let _ = place;
+    let file = texts.context.descriptor.as_str();
+    let place = FilePlace::of(alloc, file, descriptor_text(texts), place.steps(alloc)?)?;
     Err(CommandFault::Class {
         name,
+        place,
         known: Text::copy_of(alloc, CLASSES)?,
     })
+}
+
+// Returns the text of the descriptor, or none if its file is not available.
+fn descriptor_text(texts: &ContextTexts) -> &str
+    ensures { result.now ≡ spec.descriptor_text texts.now.descriptor }
+{
+    match &texts.descriptor {
+        Ok(text) => text.as_str(),
+        Err(_) => "",
+    }
 }
 
 /// Returns both values.

@@ -36,7 +36,8 @@ mod who;
 pub use bad::Bad;
 pub use bye::Bye;
 pub use check::{
-    CheckedContext, ContextCounts, check_contexts, checks_find_what_a_start_finds, read_checked,
+    CheckedContext, CheckedServer, ContextCounts, check_contexts, checks_find_what_a_start_finds,
+    read_checked,
 };
 pub use class_fault::{CLASSES, ClassFault};
 pub use component_place::ComponentPlace;
