@@ -20,6 +20,7 @@ use Rattle.sv_deployments.specs.declared.check.ContextCounts.{ContextCounts}
 use Rattle.sv_container.specs.Paths.{ArePermitted, Forbids}
 use Rattle.sv_container.specs.declared.container.TheConstants.{MAX_CONTEXTS}
 use Rattle.sv.specs.declared.check_command.CheckReport.{CheckReport}
+use Rattle.sv.specs.declared.check_command.TheConstants.{CONSTRAINT}
 
 -- ---- the faults
 
@@ -56,12 +57,19 @@ AreLines (found ∷ rest) text = (own others : List ℕ) × AreLinesOf found own
 abbrev pub counted : ℕ → List ℕ → List ℕ
 counted number noun = decimal number ++ codes " " ++ noun ++ (if nat_eq number 1 then [] else codes "s")
 
-abbrev pub counts_text : ContextCounts → List ℕ
-counts_text counts =
+abbrev pub components_text : ContextCounts → List ℕ
+components_text counts =
     counted counts.servlets (codes "servlet") ++ codes ", " ++ counted counts.filters (codes "filter")
-    ++ codes ", " ++ counted counts.listeners (codes "listener") ++ codes ", " ++ counted counts.constraints (codes "security constraint")
-    ++ codes ", " ++ counted counts.users (codes "user") ++ codes ", " ++ counted counts.files (codes "file")
-    ++ codes " of " ++ counted counts.bytes (codes "byte")
+    ++ codes ", " ++ counted counts.listeners (codes "listener")
+
+abbrev pub rules_text : ContextCounts → List ℕ
+rules_text counts = counted counts.constraints CONSTRAINT.now ++ codes ", " ++ counted counts.users (codes "user")
+
+abbrev pub files_text : ContextCounts → List ℕ
+files_text counts = counted counts.files (codes "file") ++ codes " of " ++ counted counts.bytes (codes "byte")
+
+abbrev pub counts_text : ContextCounts → List ℕ
+counts_text counts = components_text counts ++ codes ", " ++ rules_text counts ++ codes ", " ++ files_text counts
 
 -- the line of a context that has no fault
 abbrev pub line_of : List ℕ → Option ContextCounts → List ℕ

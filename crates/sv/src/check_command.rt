@@ -165,17 +165,40 @@ fn context_line(alloc: Global, context: &CheckedContext) -> Result<Text, NoMemor
 fn counts_text(alloc: Global, counts: &ContextCounts) -> Result<Text, NoMemory>
     ensures { GivesAnswer result (spec.counts_text counts.now) }
 {
-    let servlets = counted(counts.servlets, "servlet");
-    let filters = counted(counts.filters, "filter");
-    let listeners = counted(counts.listeners, "listener");
-    let constraints = counted(counts.constraints, "security constraint");
-    let users = counted(counts.users, "user");
-    let files = counted(counts.files, "file");
-    let bytes = counted(counts.bytes, "byte");
-    Ok(Text::from_string(format!(in alloc;
-        "{servlets}, {filters}, {listeners}, {constraints}, {users}, {files} of {bytes}"
-    )?))
+    let components = components_text(alloc, counts)?;
+    let rules = rules_text(alloc, counts)?;
+    let files = files_text(alloc, counts)?;
+    let (components, rules, files) = (components.as_str(), rules.as_str(), files.as_str());
+    Ok(Text::from_string(format!(in alloc; "{components}, {rules}, {files}")?))
 }
+
+fn components_text(alloc: Global, counts: &ContextCounts) -> Result<Text, NoMemory>
+    ensures { GivesAnswer result (spec.components_text counts.now) }
+{
+    let servlets = number_of(counts.servlets, "servlet");
+    let filters = number_of(counts.filters, "filter");
+    let listeners = number_of(counts.listeners, "listener");
+    Ok(Text::from_string(format!(in alloc; "{servlets}, {filters}, {listeners}")?))
+}
+
+fn rules_text(alloc: Global, counts: &ContextCounts) -> Result<Text, NoMemory>
+    ensures { GivesAnswer result (spec.rules_text counts.now) }
+{
+    let constraints = number_of(counts.constraints, CONSTRAINT);
+    let users = number_of(counts.users, "user");
+    Ok(Text::from_string(format!(in alloc; "{constraints}, {users}")?))
+}
+
+fn files_text(alloc: Global, counts: &ContextCounts) -> Result<Text, NoMemory>
+    ensures { GivesAnswer result (spec.files_text counts.now) }
+{
+    let files = number_of(counts.files, "file");
+    let bytes = number_of(counts.bytes, "byte");
+    Ok(Text::from_string(format!(in alloc; "{files} of {bytes}")?))
+}
+
+/// The noun for a security constraint.
+const CONSTRAINT: &str = "security constraint";
 
 /// A number of things. Its text is the number and the noun, which has an `s` unless the number is one.
 #[derive(Clone, Copy)]
@@ -184,7 +207,7 @@ struct Counted {
     noun: &'static str,
 }
 
-fn counted(number: usize, noun: &'static str) -> Counted
+fn number_of(number: usize, noun: &'static str) -> Counted
     ensures { spec.counted result.number result.noun.now ≡ spec.counted number noun.now }
 {
     Counted { number, noun }
