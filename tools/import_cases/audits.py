@@ -179,7 +179,10 @@ def tried_commands() -> list[tuple[str, list[str]]]:
     build = (
         "sv build\n    proves and builds the program from its sources, in half an hour or more\n"
     )
-    release = "sv release\n    does what build does, and makes the program the released one\n"
+    release = (
+        "sv release\n"
+        "    proves and builds sv, hello and guestbook, and makes them the released programs\n"
+    )
     needed = "needs the Rattle toolchain (rt on the path)\n"
     with tempfile.TemporaryDirectory(prefix="sv-import-") as folder:
         room = Path(folder)
@@ -204,6 +207,13 @@ def tried_commands() -> list[tuple[str, list[str]]]:
                     ["tools/try", "hello", "8080"],
                     Ended(1, "", f"try: running crates/hello without a proof {needed}"),
                 ),
+                (
+                    no_rt,
+                    ["tools/libraries", "hello"],
+                    Ended(1, "", f"libraries: proving the libraries below crates/hello {needed}"),
+                ),
+                (no_rt, ["sv", "build"], Ended(1, "", f"sv: building from the sources {needed}")),
+                (no_rt, ["sv", "release"], Ended(1, "", f"sv: building from the sources {needed}")),
                 (no_rt, ["test"], Ended(1, "", f"test: proving and testing {needed}")),
                 (
                     no_rt,

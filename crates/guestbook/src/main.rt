@@ -32,7 +32,7 @@ fn run<R: Net + Clock + RandomSource + Print + Eprint + AllocGlobal, S: Alter + 
 fn serve(rt: &HostRuntime, options: Options, file: &str) -> anyhow::Result<ExitCode> {
     match Connection::open(rt, file) {
         Ok(connection) => run(rt, options, connection),
-        Err(_) => bail!("{file} cannot be opened"),
+        Err(error) => bail!("{file} cannot be opened: {error}"),
     }
 }
 

@@ -1,15 +1,17 @@
 //! The credentials of a login post.
 
-ghost use Rattle.std.specs.Prelude.{◌≡◌, [], ◌∷◌};
+ghost use Rattle.std.specs.Prelude.{◌≡◌};
 ghost use Rattle.std.specs.Option.{option_copied};
 ghost use Rattle.sv_text.specs.Gives.{GivesAnswer};
-ghost use Rattle.sv_login.specs.Credentials.{credentials_in, value_or};
+ghost use Rattle.sv_login.specs.Credentials.{credentials_in};
 ghost use Rattle.sv_login.specs.Post.{user_of};
 ghost use Rattle.sv_message.specs.Form.{form_parameters};
 ghost use Rattle.sv_message.specs.Parameters.{parameters_of};
 
+use crate::field_name::is_name;
+use form_urlencoded::raw_pairs;
 use std::alloc::Global;
-use sv_message::is_form;
+use sv_message::{is_form, text_of};
 use sv_realm::Realm;
 use sv_text::{NoMemory, Text};
 
@@ -39,16 +41,23 @@ impl Credentials {
         Credentials::of_form(alloc, body)
     }
 
-    /// Returns the first `j_username` and the first `j_password` of a form, in one pass.
+    /// Returns the first `j_username` and the first `j_password` of a form, in one pass that ends when both are found.
+    /// Only their values are decoded.
     fn of_form(alloc: Global, form: &[u8]) -> Result<Credentials, NoMemory>
         ensures { GivesAnswer result (credentials_in (parameters_of form.now)) }
     {
         let mut name = None;
         let mut password = None;
-        for field in form_urlencoded::parse(alloc, form) {
-            let (key, value) = field?;
-            name = value_or(alloc, name, "j_username", key.as_str(), value.as_str())?;
-            password = value_or(alloc, password, "j_password", key.as_str(), value.as_str())?;
+        for (key, value) in raw_pairs(form) {
+            if name.is_none() && is_name(key, "j_username") {
+                name = Some(text_of(alloc, value)?);
+            }
+            if password.is_none() && is_name(key, "j_password") {
+                password = Some(text_of(alloc, value)?);
+            }
+            if name.is_some() && password.is_some() {
+                return Ok(Credentials { name, password });
+            }
         }
         Ok(Credentials { name, password })
     }
@@ -62,25 +71,5 @@ impl Credentials {
         let password = self.password.as_ref()?;
         let caller = realm.check(name.as_str(), password.as_bytes())?;
         Some(caller.number)
-    }
-}
-
-/// Returns the value found before, or otherwise the value of a field if it has the name.
-fn value_or(
-    alloc: Global,
-    seen: Option<Text>,
-    name: &str,
-    key: &str,
-    value: &str,
-) -> Result<Option<Text>, NoMemory>
-    ensures { GivesAnswer result (value_or seen name.now ((key.now, value.now) ∷ [])) }
-{
-    if seen.is_some() {
-        return Ok(seen);
-    }
-    if key == name {
-        Ok(Some(Text::copy_of(alloc, value)?))
-    } else {
-        Ok(None)
     }
 }

@@ -4,6 +4,7 @@
 
 mod cookie;
 mod credentials;
+mod field_name;
 mod laws;
 mod login_session;
 mod outcome;

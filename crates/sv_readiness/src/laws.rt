@@ -10,8 +10,9 @@ ghost use Rattle.sv_readiness.specs.SlewingLaws.{
 
 use crate::limits::{
     ASKED_AT_ONCE, DROPPED_READ_BYTES, EVENTS_AT_ONCE, FIRST_DROPPED_READ_BYTES, LINGER_SECONDS,
-    MAX_ASKING_SECONDS, MAX_DROPPED_BYTES, MAX_DROPPED_READS, MAX_LINE_BYTES, MAX_LINGERING,
-    MAX_READY_BEFORE_ACCEPT, MAX_READY_BEFORE_READING, MAX_SENT_AT_ONCE, SLEW_DIVISOR,
+    MAX_ASKING_SECONDS, MAX_CONTROL_CLIENTS, MAX_DROPPED_BYTES, MAX_DROPPED_READS, MAX_LINE_BYTES,
+    MAX_LINGERING, MAX_READY_BEFORE_ACCEPT, MAX_READY_BEFORE_READING, MAX_SENT_AT_ONCE,
+    SLEW_DIVISOR,
 };
 
 /// States the limits of this crate as numbers. By them a closed connection drops at most 1 MiB at a time and 16 MiB in
@@ -22,6 +23,7 @@ pub fn limits_are_as_stated()
     ensures told { MAX_READY_BEFORE_READING ≡ 16 }
     ensures sent { MAX_SENT_AT_ONCE ≡ 4096 }
     ensures streams { MAX_LINGERING ≡ 256 }
+    ensures clients { MAX_CONTROL_CLIENTS ≡ 256 }
     ensures seconds { LINGER_SECONDS ≡ 2 }
     ensures bytes { MAX_DROPPED_BYTES ≡ 16777216 }
     ensures reads { MAX_DROPPED_READS ≡ 64 }

@@ -6,6 +6,8 @@ mod acceptor;
 mod calls;
 mod clock_reading;
 mod control;
+mod control_client;
+mod control_clients;
 mod control_commands;
 mod control_line;
 mod control_replies;
@@ -26,8 +28,8 @@ pub use laws::{
     time_keeps_pace, time_never_goes_back,
 };
 pub use limits::{
-    DROPPED_READ_BYTES, EVENTS_AT_ONCE, LINGER_SECONDS, MAX_ASKING_SECONDS, MAX_DROPPED_BYTES,
-    MAX_DROPPED_READS, MAX_LINE_BYTES, MAX_LINGERING, MAX_READY_BEFORE_ACCEPT,
+    DROPPED_READ_BYTES, EVENTS_AT_ONCE, LINGER_SECONDS, MAX_ASKING_SECONDS, MAX_CONTROL_CLIENTS,
+    MAX_DROPPED_BYTES, MAX_DROPPED_READS, MAX_LINE_BYTES, MAX_LINGERING, MAX_READY_BEFORE_ACCEPT,
     MAX_READY_BEFORE_READING, MAX_SENT_AT_ONCE, SLEW_DIVISOR,
 };
 pub use listener::Listening;

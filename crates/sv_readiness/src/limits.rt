@@ -33,6 +33,9 @@ pub const DROPPED_READ_BYTES: usize = 16_384;
 /// small buffer is cheap to provide.
 pub(crate) const FIRST_DROPPED_READ_BYTES: usize = 256;
 
+/// Maximum number of clients of the control socket at once.
+pub const MAX_CONTROL_CLIENTS: usize = 256;
+
 /// Maximum length of a command at the control socket in bytes, including its line end.
 pub const MAX_LINE_BYTES: usize = 8_192;
 

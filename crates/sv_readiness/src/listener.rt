@@ -1,7 +1,7 @@
 //! A listener and the poll that reports its connections.
 
 use crate::control::CONTROL;
-use mio::net::{TcpListener, TcpStream, UnixListener};
+use mio::net::{TcpListener, TcpStream, UnixListener, UnixStream};
 use mio::{Interest, Poll, Registry, Token};
 use std::fs::{Files, Permissions, remove_file, set_permissions, symlink_metadata};
 use std::io;
@@ -9,7 +9,6 @@ use std::io::ErrorKind;
 use std::net::{Net, SocketAddr};
 use std::os::fd::OwnedFd;
 use std::os::unix::fs::{FileTypeExt, PermissionsExt};
-use std::os::unix::net::UnixStream;
 
 // The token of the listener. No connection has it as its number.
 pub(crate) const LISTENER: usize = usize::MAX;
@@ -106,7 +105,8 @@ fn is_left<H: Files + Net>(host: &H, path: &str) -> bool {
     is_socket && is_refused(host, path)
 }
 
-// Whether the system refuses a connection to a socket file.
+// Whether the system refuses a connection to a socket file. It does not wait: a listener whose clients all wait, since its
+// process does not go on, is no reason to replace the file.
 fn is_refused<H: Net>(host: &H, path: &str) -> bool {
     match UnixStream::connect(host, path) {
         Ok(_) => false,

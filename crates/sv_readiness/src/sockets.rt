@@ -1,12 +1,13 @@
 //! The poller of a listener and its connections.
 
-ghost use Rattle.std.specs.Prelude.{◌≡◌, ◌≢◌, Some};
+ghost use Rattle.std.specs.Prelude.{◌≡◌, ◌≢◌, ◌≤◌, Some};
 ghost use Rattle.sv_connection.specs.declared.poller.PollEvent.TheVariants.{Asked};
 ghost use Rattle.sv_readiness.specs.Polling.{HoldsLine, RepliesIfAny};
+ghost use Rattle.sv_readiness.specs.declared.control.TheConstants.{FIRST_CLIENT};
 
 use crate::acceptor::Acceptor;
 use crate::clock_reading::read_clocks;
-use crate::control::{ASKER, CONTROL, Control};
+use crate::control::{CONTROL, Control, FIRST_CLIENT};
 use crate::limits::{EVENTS_AT_ONCE, MAX_READY_BEFORE_ACCEPT, MAX_READY_BEFORE_READING};
 use crate::lingering_close::Lingering;
 use crate::listener::{LISTENER, Listening};
@@ -112,7 +113,7 @@ impl<'a, C: Clock> Sockets<'a, C> {
     fn told_of(&mut self, token: usize) -> Option<PollEvent>
         ensures { result ≡ Some Asked → HoldsLine self.new.control }
     {
-        if token == CONTROL || token == ASKER {
+        if token >= FIRST_CLIENT && token != LISTENER {
             return self.heard_at(token);
         }
         if self.lingers(token) {
@@ -130,6 +131,7 @@ impl<'a, C: Clock> Sockets<'a, C> {
 
     // Returns the event of the control socket, if any.
     fn heard_at(&mut self, token: usize) -> Option<PollEvent>
+        requires { FIRST_CLIENT ≤ token }
         ensures { result ≡ Some Asked → HoldsLine self.new.control }
     {
         let now = self.seconds();
@@ -138,24 +140,21 @@ impl<'a, C: Clock> Sockets<'a, C> {
         };
         if token == CONTROL {
             control.welcome_told(now);
+            return None;
         }
-        control.hear(now)
+        control.hear(token - FIRST_CLIENT, now)
     }
 
-    // Closes expired streams and an expired control client. The client is read first; if its line is whole, returns
-    // its event instead.
+    // Closes expired streams and expired control clients. These are read first; if a line is whole, returns its event
+    // instead.
     fn expire(&mut self) -> Option<PollEvent>
         ensures { result ≡ Some Asked → HoldsLine self.new.control }
     {
         self.lingering.expire(self.second);
-        let told = self.heard_at(ASKER);
-        if told.is_some() {
-            return told;
+        match &mut self.control {
+            Some(control) => control.expire(self.second),
+            None => None,
         }
-        if let Some(control) = &mut self.control {
-            control.expire(self.second);
-        }
-        None
     }
 
     // Whether to report that a client may be waiting: after [`MAX_READY_BEFORE_ACCEPT`] ready connections, or, if an
@@ -250,7 +249,7 @@ impl<'a, C: Clock> Sockets<'a, C> {
         false
     }
 
-    // Accepts the next client of the control socket, if none is connected.
+    // Accepts the clients of the control socket that wait.
     fn welcome(&mut self) {
         let now = self.seconds();
         if let Some(control) = &mut self.control {
@@ -274,7 +273,7 @@ impl<'a, C: Clock> Sockets<'a, C> {
         ensures { self.new.control ≡ self.old.control }
     {
         let token = Token(number as usize);
-        if token.0 >= ASKER {
+        if token.0 >= FIRST_CLIENT {
             return None;
         }
         let mut peer = StreamPeer::new(stream, self.registry, token);
