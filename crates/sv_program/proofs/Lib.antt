@@ -4,6 +4,7 @@ mod Arguments
 pub mod Faults
 mod FileLines
 mod FirstRead
+mod TableKeys
 mod Lines
 pub mod PrintedRun
 mod Readings

@@ -6,7 +6,6 @@ use Rattle.std.specs.Option.{option_and_then}
 use Rattle.toml.specs.Parse.{parse_document}
 use Rattle.sv_journal.specs.declared.calls.Place.{Place}
 use Rattle.sv_journal.specs.declared.calls.Place.TheVariants.{Filter, Servlet}
-use Rattle.sv_descriptor.specs.declared.fault.DescriptorFault.{DescriptorFault}
 use Rattle.sv_descriptor.specs.declared.fault.FaultCode.{FaultCode}
 use Rattle.sv_descriptor.specs.declared.fault.FaultCode.TheVariants.{NotToml}
 use Rattle.sv_descriptor.specs.declared.fault.LocatedFault.{LocatedFault}
@@ -24,8 +23,8 @@ abbrev pub value_text : Option (List ℕ) → List ℕ
 value_text None = codes ""
 value_text (Some value) = codes ": " ++ value
 
-abbrev pub problem_line : List ℕ → Option ℕ → DescriptorFault → Option (List ℕ) → List ℕ
-problem_line name line fault value = codes "  " ++ name ++ line_text line ++ codes ": " ++ sentence fault ++ value_text value
+abbrev pub problem_line : List ℕ → Option ℕ → LocatedFault → Option (List ℕ) → List ℕ
+problem_line name line found value = codes "  " ++ name ++ line_text line ++ codes ": " ++ sentence found ++ value_text value
 
 -- the line with the place after these bytes of the text
 abbrev pub line_with_place : List ℕ → List ℕ → List ℕ → List ℕ
@@ -37,17 +36,17 @@ abbrev pub IsPlaced : List ℕ → List ℕ → List ℕ → Type 0
 IsPlaced name text line = (at : ℕ) × (message : List ℕ) × (at ≤ length text) × (line ≡ line_with_place name (take at text) message)
 
 -- the line has a place if the text is not valid TOML
-abbrev pub IsTextLine : List ℕ → List ℕ → DescriptorFault → List ℕ → Type 0
+abbrev pub IsTextLine : List ℕ → List ℕ → LocatedFault → List ℕ → Type 0
 IsTextLine name text found line = MatchOption (parse_document text) (IsPlaced name text line) (λ _. line ≡ problem_line name None found None)
 
 -- the line says on which line of the file the offending value begins
 abbrev pub IsProblemLine : List ℕ → List ℕ → LocatedFault → List ℕ → Type 0
 IsProblemLine name text found line =
     (place : Option ℕ) × IsFileLine text found.steps place
-    × (line ≡ problem_line name place found.fault (option_and_then (offending found) (parse_document text)))
+    × (line ≡ problem_line name place found (option_and_then (offending found) (parse_document text)))
 
 abbrev pub IsLineOf : FaultCode → List ℕ → List ℕ → LocatedFault → List ℕ → Type 0
-IsLineOf NotToml name text found line = IsTextLine name text found.fault line
+IsLineOf NotToml name text found line = IsTextLine name text found line
 IsLineOf other name text found line = IsProblemLine name text found line
 
 -- the line for a fault of a file of this name and text

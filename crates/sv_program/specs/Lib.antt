@@ -2,6 +2,7 @@ pub mod Detail
 pub mod FaultDetail
 pub mod FileLine
 pub mod FilePlace
+pub mod Keys
 pub mod Place
 pub mod Sentence
 pub mod Shown

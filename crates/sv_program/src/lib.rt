@@ -20,6 +20,7 @@ mod output;
 mod place;
 mod sentence;
 mod socket_fault;
+mod taken;
 mod toml_value;
 mod unavailable;
 mod uncovered_command;
@@ -33,7 +34,7 @@ pub use disk::{Disk, FileStore, FileText};
 pub use file_fault::FileFault;
 pub use file_place::{FilePlace, item_steps, place_text};
 pub use first_command::{denies_uncovered, first, first_line};
-pub use keys::{Format, KEYS, KeyDescription};
+pub use keys::{Format, KEYS, KeyDescription, KeyRow};
 pub use limits::{
     MAX_FILE_BYTES, MAX_INPUT_BYTES, MAX_LOCATED_BYTES, MAX_SHOWN_CHARACTERS, limits_are_as_stated,
     limits_of_the_second_line,
