@@ -156,7 +156,7 @@ def expected_of(case, row, cells):
 
 def without_taken(it):
     """A message about a value, with TAKES for what its key takes if that is what the message says."""
-    for text in TAKES.get(it[2].decode(), ["a text"]):
+    for text in [*TAKES.get(it[2].decode(), []), "a text"]:
         if it[3] == text.encode() or it[3].startswith(text.encode() + b": "):
             return it[1] + b"TAKES" + it[3][len(text.encode()) :]
     return it[0]

@@ -4,6 +4,8 @@ mod Arguments
 pub mod Faults
 mod FileLines
 mod FirstRead
+mod KeyLaws
+mod Samples
 mod TableKeys
 mod Lines
 pub mod PrintedRun
