@@ -7,12 +7,13 @@ use Rattle.sv_descriptor.specs.Fault.{number}
 use Rattle.sv_descriptor.specs.declared.fault.DescriptorFault.{DescriptorFault}
 use Rattle.sv_files.specs.Fault.{fault_number as files_number}
 use Rattle.sv_uri.specs.ContextPath.{shown_context}
+use Rattle.sv_program.specs.Shown.{printed_key}
 use Rattle.sv_program.specs.declared.command_fault.CommandFault.{CommandFault}
 use Rattle.sv_program.specs.declared.command_fault.CommandFault.TheVariants.{Input, Output, File, Server, Descriptor, Users, Class, Files, Start, Socket, Script, User, Method, NoMemory, Findings, Faults}
 
--- the key of the fault in a configuration file, or `-` if the fault concerns the whole text
+-- the key of the fault in a configuration file, or `-` if the fault concerns the whole text or the key is empty
 abbrev pub key_text : List ℕ → List ℕ
-key_text key = if bytes_eq key [] then codes "-" else key
+key_text key = if bytes_eq key [] then codes "-" else printed_key key
 
 -- `CODE KEY`
 abbrev pub fault_text : DescriptorFault → List ℕ

@@ -13,7 +13,6 @@ use crate::unavailable::Unavailable;
 use std::alloc::{AllocError, AllocFailed};
 use std::error::Error;
 use std::fmt;
-use sv_descriptor::DescriptorFault;
 use sv_files::FilesFault;
 use sv_journal::NewCode;
 use sv_text::{NoMemory, Text};
@@ -166,17 +165,17 @@ impl CommandFault {
             CommandFault::Server(fault) => Line {
                 front: "sv: server",
                 place: "",
-                end: LineEnd::Shown(numbered(fault.fault())),
+                end: LineEnd::Shown(numbered(fault)),
             },
             CommandFault::Descriptor { context, fault } => Line {
                 front: "sv: descriptor ",
                 place: shown_context(context.as_str()),
-                end: LineEnd::Shown(numbered(fault.fault())),
+                end: LineEnd::Shown(numbered(fault)),
             },
             CommandFault::Users { context, fault } => Line {
                 front: "sv: users ",
                 place: shown_context(context.as_str()),
-                end: LineEnd::Shown(numbered(fault.fault())),
+                end: LineEnd::Shown(numbered(fault)),
             },
             CommandFault::Class { name, .. } => named("sv: class ", name.as_str()),
             CommandFault::Files { context, fault } => Line {
@@ -281,20 +280,24 @@ impl fmt::Display for Shown<'_> {
 }
 
 /// Returns the number and the key of a fault.
-fn numbered(fault: &DescriptorFault) -> Shown<'_>
-    ensures { shown_text result ≡ fault_text fault.now }
+fn numbered(fault: &FileFault) -> Shown<'_>
+    ensures { shown_text result ≡ fault_text fault.now.found.fault }
 {
     Shown {
-        code: fault.code.number(),
-        key: shown_key(fault.key.as_str()),
+        code: fault.fault().code.number(),
+        key: shown_key(fault),
     }
 }
 
-/// Returns the key, or `-` if it is empty.
-fn shown_key(key: &str) -> &str
-    ensures { result.now ≡ key_text key.now }
+/// Returns the key of a fault, or `-` if it is empty.
+fn shown_key(fault: &FileFault) -> &str
+    ensures { result.now ≡ key_text fault.now.found.fault.key }
 {
-    if key.is_empty() { "-" } else { key }
+    if fault.fault().key.as_str().is_empty() {
+        "-"
+    } else {
+        fault.key()
+    }
 }
 
 impl fmt::Debug for CommandFault {

@@ -5,7 +5,9 @@ ghost use Rattle.sv_text.specs.Gives.{GivesAnswer};
 ghost use Rattle.sv_descriptor.specs.Fault.{item_key};
 ghost use Rattle.sv_program.specs.FilePlace as spec;
 
-use crate::file_line::file_line;
+use crate::file_line::front;
+use crate::place::{column_behind, line_behind};
+use crate::value_place::{Spot, spot_of};
 use std::alloc::Global;
 use std::marker::Model;
 use sv_descriptor::ValueStep;
@@ -59,7 +61,7 @@ impl FilePlace {
         })
     }
 
-    /// Returns the place as it is printed: `FILE:LINE`, or `FILE` if the line is not known.
+    /// Returns the place as it is printed: `FILE:LINE:COLUMN`, or as much of it as is known.
     pub fn text(&self) -> &str
         ensures { IsPlaceText self.now.file self.now.text self.now.steps result.now }
     {
@@ -67,8 +69,8 @@ impl FilePlace {
     }
 }
 
-/// Returns the place of the value after these steps in the file of this name and text, as it is printed: `FILE:LINE`, or
-/// `FILE` if the line is not known.
+/// Returns the place of the value after these steps in the file of this name and text, as it is printed:
+/// `FILE:LINE:COLUMN`, or as much of it as is known.
 pub fn place_text(
     alloc: Global,
     file: &str,
@@ -77,20 +79,31 @@ pub fn place_text(
 ) -> Result<Text, NoMemory>
     ensures { IfOk result (spec.IsPlaceText file.now text.now steps.now) }
 {
-    let line = file_line(alloc, text.as_bytes(), steps)?;
-    let line = line_text(alloc, line)?;
-    let text = format!(in alloc; "{file}{line}")?;
-    Ok(Text::from_string(text))
+    let spot = spot_of(alloc, text.as_bytes(), steps)?;
+    let place = spot_text(alloc, text.as_bytes(), spot)?;
+    let shown = format!(in alloc; "{file}{place}")?;
+    Ok(Text::from_string(shown))
 }
 
-/// Returns the number of a line, after a colon.
-pub(crate) fn line_text(alloc: Global, line: Option<usize>) -> Result<Text, NoMemory>
-    ensures { GivesAnswer result (spec.line_text line) }
+/// Returns the line and the column of a place in the text, after colons, as far as they are known.
+pub(crate) fn spot_text(alloc: Global, text: &[u8], spot: Spot) -> Result<Text, NoMemory>
+    ensures { GivesAnswer result (spec.spot_text text.now spot) }
 {
-    match line {
-        Some(line) => Ok(Text::from_string(format!(in alloc; ":{line}")?)),
-        None => Text::copy_of(alloc, ""),
+    match spot {
+        Spot::Nowhere => Text::copy_of(alloc, ""),
+        Spot::Line(line) => Ok(Text::from_string(format!(in alloc; ":{line}")?)),
+        Spot::Byte(at) => byte_text(alloc, front(text, at)),
     }
+}
+
+/// Returns the line and the column of the place after these bytes, after colons.
+fn byte_text(alloc: Global, before: &[u8]) -> Result<Text, NoMemory>
+    ensures { GivesAnswer result (spec.byte_text before.now) }
+{
+    let line = line_behind(before);
+    let column = column_behind(before);
+    let text = format!(in alloc; ":{line}:{column}")?;
+    Ok(Text::from_string(text))
 }
 
 /// Returns the steps to a key of an item of a list in the file's table.
