@@ -16,7 +16,6 @@ use sv_files::File;
 use sv_program::{
     CommandFault, ContextTexts, FileStore, descriptor_in, read_contexts, read_server_file, realm_in,
 };
-use sv_realm::Realm;
 use sv_text::{Listed, NoMemory, Text};
 
 /// The contexts of a server that were checked.
@@ -254,20 +253,7 @@ fn take_classes(
 fn user_count(alloc: Global, texts: &ContextTexts) -> Result<usize, CommandFault>
     ensures { Gives command_fault result (counted.user_count texts.now) }
 {
-    let realm = realm_in(alloc, texts)?;
-    Ok(count_users(&realm)?)
-}
-
-// Returns the number of users of a realm, which is far below the limit of this search.
-fn count_users(realm: &Realm) -> Result<usize, NoMemory>
-    ensures { GivesAnswer result (length realm.now) }
-{
-    for number in 0..u32::MAX {
-        if realm.caller(number).is_none() {
-            return Ok(number as usize);
-        }
-    }
-    Err(NoMemory)
+    Ok(users_in(alloc, texts)?.len())
 }
 
 // Reads the static files of a context, and counts them.
