@@ -14,7 +14,7 @@ use std::alloc::Global;
 use sv_descriptor::{ContextEntry, Descriptor};
 use sv_files::File;
 use sv_program::{
-    CommandFault, ContextTexts, FileStore, descriptor_in, read_contexts, read_server_file, realm_in,
+    CommandFault, ContextTexts, FileStore, descriptor_in, read_contexts, read_server_file, users_in,
 };
 use sv_text::{Listed, NoMemory, Text};
 
