@@ -10,6 +10,7 @@ import subprocess
 import tempfile
 import threading
 
+from case_keys import TAKES
 from case_notation import REPEATED, naming, repeated, unescaped
 from case_steps import run_steps
 from case_tables import filled, rows_of
@@ -153,12 +154,22 @@ def expected_of(case, row, cells):
     return {**expected, "visited": [unescaped(line) for line in visited], "step": b""}
 
 
+def without_taken(it):
+    """A message about a value, with TAKES for what its key takes if that is what the message says."""
+    for text in [*TAKES.get(it[2].decode(), []), "a text"]:
+        if it[3] == text.encode() or it[3].startswith(text.encode() + b": "):
+            return it[1] + b"TAKES" + it[3][len(text.encode()) :]
+    return it[0]
+
+
 def without_places(given, expected):
-    """What was given, with PLACE or LINE for its places if such are expected."""
+    """What was given, with PLACE, LINE and TAKES for its places and for what keys take, if such are expected."""
+    if b" is not TAKES" in expected:
+        given = re.sub(rb"(?m)(: the value of `([^`\n]*)` is not )([^\n]+)$", without_taken, given)
     if b":PLACE\n" in expected:
         return re.sub(rb"(?m)^(  [^ \n]+):\d+:\d+: [^\n]+$", rb"\1:PLACE", given)
     if b":LINE: " in expected:
-        return re.sub(rb"(?m)^(  [^ :\n]+)(?::\d+)?: (?!\d)", rb"\1:LINE: ", given)
+        return re.sub(rb"(?m)^(  [^ :\n]+)(?::\d+){0,2}: (?!\d)", rb"\1:LINE: ", given)
     return given
 
 

@@ -10,22 +10,23 @@ TOOLS = os.path.dirname(os.path.realpath(__file__))
 BYTE = re.compile(r"\\x[0-9A-Fa-f]{2}|\\?.")
 
 # The faults of a configuration file in the order of their numbers, from 1, each with the message that
-# follows the name of the file. LINE is any line number, or none.
+# follows the name of the file. LINE is any line and column, or none; TAKES is what the key takes in one
+# of its tables.
 FAULTS = {
     "NotToml": b":PLACE",
     "UnknownKey": b":LINE: the key `KEY` is not known here",
     "MissingKey": b":LINE: the key `KEY` is missing",
-    "WrongType": b":LINE: the value of `KEY` is of a wrong type",
+    "WrongType": b":LINE: the value of `KEY` is not TAKES",
     "BadPattern": b":LINE: no URL pattern stands at `KEY`",
     "DuplicatePattern": b":LINE: a pattern at `KEY` was mapped before",
     "UnknownServlet": b":LINE: no servlet is declared by the name at `KEY`",
     "UnknownFilter": b":LINE: no filter is declared by the name at `KEY`",
     "BothMethodLists": b":LINE: methods are listed beside `KEY`",
     "ReservedRole": b":LINE: a role at `KEY` is `*` or `**`, which have a meaning of their own",
-    "BadTimeout": b":LINE: the time at `KEY` is longer than a year",
-    "BadValue": b":LINE: the value of `KEY` is out of its range, or not one of those that are known",
+    "BadTimeout": b":LINE: the value of `KEY` is not TAKES",
+    "BadValue": b":LINE: the value of `KEY` is not TAKES",
     "DuplicateName": b":LINE: the name at `KEY` was given before",
-    "TooMany": b":LINE: the list at `KEY` is longer than its limit",
+    "TooMany": b":LINE: the value of `KEY` is not TAKES",
 }
 # The program prints no offending text for these.
 WITHOUT_TEXT = {"NotToml", "UnknownKey", "MissingKey", "BothMethodLists", "TooMany"}

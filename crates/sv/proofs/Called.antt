@@ -6,7 +6,7 @@ use Rattle.std.specs.Str.{bytes_eq}
 use Rattle.sv.specs.Topics.{IsCalled, IsHelpOption, topic_name, topics}
 use Rattle.sv.specs.Values.{Finds}
 use Rattle.sv.specs.declared.topic.Topic.{Topic}
-use Rattle.sv.specs.declared.topic.Topic.TheVariants.{First, Policy, Uncovered, Audit, Replay, Serve, Run, SelfTest, Help, Version}
+use Rattle.sv.specs.declared.topic.Topic.TheVariants.{First, Policy, Uncovered, Audit, Check, Replay, Serve, Run, SelfTest, Help, Version}
 
 abbrev pub named : List ℕ → Option (List ℕ)
 named word = find (bytes_eq word) (map topic_name topics)
@@ -17,6 +17,7 @@ found First none = cc
 found Policy none = cc
 found Uncovered none = cc
 found Audit none = cc
+found Check none = cc
 found Replay none = cc
 found Serve none = cc
 found Run none = cc

@@ -1,4 +1,5 @@
 pub mod Called
+pub mod CheckLines
 pub mod Decoding
 pub mod Finding
 pub mod Going
@@ -11,6 +12,7 @@ pub mod One
 pub mod OneLine
 pub mod OneTopic
 mod Policy
+pub mod RefusedContexts
 pub mod Saying
 pub mod Setting
 pub mod Walking

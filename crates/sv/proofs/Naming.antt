@@ -5,7 +5,7 @@ use Rattle.std.specs.Str.{bytes_eq}
 use Rattle.sv.proofs.Decoding.{same_heads}
 use Rattle.sv.specs.Command.{AreWordsOf, AskForHelp, IsNamed}
 use Rattle.sv.specs.declared.command.Command.{Command}
-use Rattle.sv.specs.declared.command.Command.TheVariants.{First, Policy, Uncovered, Audit, Replay, Serve, Run, SelfTest, Help, Version}
+use Rattle.sv.specs.declared.command.Command.TheVariants.{First, Policy, Uncovered, Audit, Check, Replay, Serve, Run, SelfTest, Help, Version}
 use Rattle.sv.specs.declared.topic.Topic.{Topic}
 use Rattle.sv.specs.declared.topic.Topic.TheVariants as topic
 use Rattle.sv.specs.AuditOptions.{IsAudit}
@@ -22,6 +22,7 @@ module _ (words : List (List ℕ)) where
   only_run none (Policy question) is = cc
   only_run none (Uncovered config) is = cc
   only_run none (Audit options) (rest, same, asked) = cc
+  only_run none (Check config) is = cc
   only_run none (Replay config) is = cc
   only_run none (Serve service) is = cc
   only_run none (Run options) (rest, same, asked) =
@@ -42,6 +43,7 @@ module _ (words : List (List ℕ)) where
   only_audit none (Uncovered config) is = other_name (codes "uncovered") _ is refl
   only_audit none (Audit options) (rest, same, asked) =
       none options (subst (λ w. IsAudit w options) (sym (ap (drop 1) same)) asked)
+  only_audit none (Check config) is = other_name (codes "check") _ is refl
   only_audit none (Replay config) is = other_name (codes "replay") _ is refl
   only_audit none (Serve service) is = other_name (codes "serve") _ is refl
   only_audit none (Run options) (rest, same, asked) = other_name (codes "run") rest same refl
@@ -60,6 +62,7 @@ module _ (word : List ℕ) (rest words : List (List ℕ)) (same : words ≡ word
   not_called (Policy question) is = none topic.Policy (begins (topic_name topic.Policy) _ is)
   not_called (Uncovered config) is = none topic.Uncovered (begins (topic_name topic.Uncovered) _ is)
   not_called (Audit options) is = none topic.Audit (begins (topic_name topic.Audit) is.0 is.1)
+  not_called (Check config) is = none topic.Check (begins (topic_name topic.Check) _ is)
   not_called (Replay config) is = none topic.Replay (begins (topic_name topic.Replay) _ is)
   not_called (Serve service) is = none topic.Serve (begins (topic_name topic.Serve) _ is)
   not_called (Run options) is = none topic.Run (begins (topic_name topic.Run) is.0 is.1)

@@ -12,7 +12,7 @@ use Rattle.sv.specs.Values.{Finds}
 use Rattle.sv.specs.declared.command.Command.{Command}
 use Rattle.sv.specs.declared.command.Command.TheVariants as command
 use Rattle.sv.specs.declared.topic.Topic.{Topic}
-use Rattle.sv.specs.declared.topic.Topic.TheVariants.{First, Policy, Uncovered, Audit, Replay, Serve, Run, SelfTest, Help, Version}
+use Rattle.sv.specs.declared.topic.Topic.TheVariants.{First, Policy, Uncovered, Audit, Check, Replay, Serve, Run, SelfTest, Help, Version}
 
 -- the command that a word calls
 topic_at : List ℕ → Option Topic
@@ -21,6 +21,7 @@ topic_at word =
     else if bytes_eq word (codes "policy") then Some Policy
     else if bytes_eq word (codes "uncovered") then Some Uncovered
     else if bytes_eq word (codes "audit") then Some Audit
+    else if bytes_eq word (codes "check") then Some Check
     else if bytes_eq word (codes "replay") then Some Replay
     else if bytes_eq word (codes "serve") then Some Serve
     else if bytes_eq word (codes "run") then Some Run
@@ -35,6 +36,7 @@ topic_at-called word First same = ap topic_at same
 topic_at-called word Policy same = ap topic_at same
 topic_at-called word Uncovered same = ap topic_at same
 topic_at-called word Audit same = ap topic_at same
+topic_at-called word Check same = ap topic_at same
 topic_at-called word Replay same = ap topic_at same
 topic_at-called word Serve same = ap topic_at same
 topic_at-called word Run same = ap topic_at same
@@ -93,6 +95,7 @@ begins arguments (command.First deny) is = (_, _, is, refl)
 begins arguments (command.Policy question) is = (_, _, is, refl)
 begins arguments (command.Uncovered config) is = (_, _, is, refl)
 begins arguments (command.Audit options) (rest, is, asked) = (_, rest, is, refl)
+begins arguments (command.Check config) is = (_, _, is, refl)
 begins arguments (command.Replay config) is = (_, _, is, refl)
 begins arguments (command.Serve service) is = (_, _, is, refl)
 begins arguments (command.Run options) (rest, is, asked) = (_, rest, is, refl)

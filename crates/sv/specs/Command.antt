@@ -6,7 +6,7 @@ use Rattle.sv.specs.Question.{question_words}
 use Rattle.sv.specs.Service.{service_words}
 use Rattle.sv.specs.Topics.{IsCalled, IsHelpOption, topic_name}
 use Rattle.sv.specs.declared.command.Command.{Command}
-use Rattle.sv.specs.declared.command.Command.TheVariants.{First, Policy, Uncovered, Audit, Replay, Serve, Run, SelfTest, Help, Version}
+use Rattle.sv.specs.declared.command.Command.TheVariants.{First, Policy, Uncovered, Audit, Check, Replay, Serve, Run, SelfTest, Help, Version}
 use Rattle.sv.specs.declared.topic.Topic.{Topic}
 use Rattle.sv.specs.declared.topic.Topic.TheVariants as topic
 use Rattle.sv_program.specs.Arguments.{name_words}
@@ -35,6 +35,7 @@ AreWordsOf arguments (First deny_uncovered) = arguments ≡ codes "first" ∷ fi
 AreWordsOf arguments (Policy question) = arguments ≡ codes "policy" ∷ question_words question
 AreWordsOf arguments (Uncovered config) = arguments ≡ codes "uncovered" ∷ name_words config
 AreWordsOf arguments (Audit options) = IsBehind (codes "audit") IsAudit arguments options
+AreWordsOf arguments (Check config) = arguments ≡ codes "check" ∷ name_words config
 AreWordsOf arguments (Replay config) = arguments ≡ codes "replay" ∷ name_words config
 AreWordsOf arguments (Serve service) = arguments ≡ codes "serve" ∷ service_words service
 AreWordsOf arguments (Run options) = IsBehind (codes "run") IsAsked arguments options

@@ -15,11 +15,12 @@ use Rattle.sv_deployments.specs.Configuration.{FindsConfiguration}
 use Rattle.sv_deployments.specs.Folders.{FolderGiving}
 use Rattle.sv_deployments.specs.declared.configuration.Configuration.{Configuration}
 use Rattle.sv_audit_command.specs.AuditCommand.{Audits, IsAudited, IsBeforeOutput}
+use Rattle.sv.specs.CheckCommand.{Checks, IsBeforeReport}
 use Rattle.sv.specs.Policy.{RunsPolicy}
 use Rattle.sv.specs.Printed.{Shows}
 use Rattle.sv.specs.Topics.{help_text}
 use Rattle.sv.specs.declared.command.Command.{Command}
-use Rattle.sv.specs.declared.command.Command.TheVariants.{First, Policy, Uncovered, Audit, Replay, Serve, Run, SelfTest, Help, Version}
+use Rattle.sv.specs.declared.command.Command.TheVariants.{First, Policy, Uncovered, Audit, Check, Replay, Serve, Run, SelfTest, Help, Version}
 use Rattle.sv.specs.declared.texts.TheConstants.{VERSION}
 
 -- a fault in reading a server's files and folders is the command's fault
@@ -39,9 +40,10 @@ ServesNothing (Run options) = ⊥
 ServesNothing (SelfTest config) = ⊥
 ServesNothing other = Unit {0}
 
--- the command ends with this fault before it writes; `audit` counts findings after its report
+-- the command ends with this fault before it writes; `audit` counts findings and `check` counts faults after its report
 abbrev pub IsBefore : Command → CommandFault → Type 0
 IsBefore (Audit options) fault = IsBeforeOutput fault
+IsBefore (Check config) fault = IsBeforeReport fault
 IsBefore command fault = fault ≢ Output
 
 module _ (moving : ComponentSteps ProgramServlet ProgramFilter ProgramListener) where
@@ -53,6 +55,7 @@ module _ (moving : ComponentSteps ProgramServlet ProgramFilter ProgramListener) 
   RunsCommand gives files (Uncovered config) result before after stream old new = Prints (IsReported gives config.now) result before after old new
   RunsCommand gives files (Audit options) result before after stream old new =
       Audits (IsAudited gives files options.access options.config.now) result before after old new
+  RunsCommand gives files (Check config) result before after stream old new = Checks gives files config.now result before after old new
   RunsCommand gives files (Replay config) result before after stream old new = ReadsFiles gives files config.now result before after
   RunsCommand gives files (Serve service) result before after stream old new = ReadsFiles gives files service.config.now result before after
   RunsCommand gives files (Run options) result before after stream old new = ReadsFiles gives files options.config.now result before after

@@ -7,7 +7,7 @@ use Rattle.sv.specs.AuditOptions.{IsAudit}
 use Rattle.sv.specs.RunOptions.{IsAsked}
 use Rattle.sv.specs.Usage.{IsUsageLine}
 use Rattle.sv.specs.declared.command.Command.{Command}
-use Rattle.sv.specs.declared.command.Command.TheVariants.{First, Policy, Uncovered, Audit, Replay, Serve, Run, SelfTest, Help, Version}
+use Rattle.sv.specs.declared.command.Command.TheVariants.{First, Policy, Uncovered, Audit, Check, Replay, Serve, Run, SelfTest, Help, Version}
 use Rattle.sv.specs.declared.topic.Topic.{Topic}
 use Rattle.sv.specs.declared.topic.Topic.TheVariants as topic
 use Rattle.sv.specs.declared.audit_options.AuditOptions.{AuditOptions}
@@ -51,6 +51,7 @@ topic_of (First deny_uncovered) = topic.First
 topic_of (Policy question) = topic.Policy
 topic_of (Uncovered config) = topic.Uncovered
 topic_of (Audit options) = topic.Audit
+topic_of (Check config) = topic.Check
 topic_of (Replay config) = topic.Replay
 topic_of (Serve service) = topic.Serve
 topic_of (Run options) = topic.Run

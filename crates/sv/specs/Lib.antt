@@ -3,6 +3,7 @@ pub mod AuditOptions
 pub mod AuditWords
 pub mod RunOptions
 pub mod Given
+pub mod CheckCommand
 pub mod Command
 pub mod Laws
 pub mod Question

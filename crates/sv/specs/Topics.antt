@@ -2,18 +2,19 @@
 use Rattle.std.specs.Prelude.{◌≡◌, ℕ, ◌⊎◌, List, [], ◌∷◌, ◌++◌, codes, map, Option, Some, None}
 use Rattle.std.specs.List.{flat_map}
 use Rattle.sv.specs.declared.topic.Topic.{Topic}
-use Rattle.sv.specs.declared.topic.Topic.TheVariants.{First, Policy, Uncovered, Audit, Replay, Serve, Run, SelfTest, Help, Version}
+use Rattle.sv.specs.declared.topic.Topic.TheVariants.{First, Policy, Uncovered, Audit, Check, Replay, Serve, Run, SelfTest, Help, Version}
 use Rattle.sv.specs.declared.texts.TheConstants as text
 
 -- all commands, in the order of the help
 abbrev pub topics : List Topic
-topics = First ∷ Policy ∷ Uncovered ∷ Audit ∷ Replay ∷ Serve ∷ Run ∷ SelfTest ∷ Help ∷ Version ∷ []
+topics = First ∷ Policy ∷ Uncovered ∷ Audit ∷ Check ∷ Replay ∷ Serve ∷ Run ∷ SelfTest ∷ Help ∷ Version ∷ []
 
 abbrev pub topic_name : Topic → List ℕ
 topic_name First = codes "first"
 topic_name Policy = codes "policy"
 topic_name Uncovered = codes "uncovered"
 topic_name Audit = codes "audit"
+topic_name Check = codes "check"
 topic_name Replay = codes "replay"
 topic_name Serve = codes "serve"
 topic_name Run = codes "run"
@@ -31,6 +32,7 @@ topic_usage First = codes "sv first [deny]"
 topic_usage Policy = codes "sv policy CONFIG METHOD TARGET [USER]"
 topic_usage Uncovered = codes "sv uncovered CONFIG"
 topic_usage Audit = codes "sv audit CONFIG [OPTION ..]"
+topic_usage Check = codes "sv check CONFIG"
 topic_usage Replay = codes "sv replay CONFIG"
 topic_usage Serve = codes "sv serve CONFIG N"
 topic_usage Run = codes "sv run CONFIG [OPTION ..]"
@@ -44,6 +46,7 @@ topic_description First = text.FIRST.now
 topic_description Policy = text.POLICY.now
 topic_description Uncovered = text.UNCOVERED.now
 topic_description Audit = text.AUDIT.now
+topic_description Check = text.CHECK.now
 topic_description Replay = text.REPLAY.now
 topic_description Serve = text.SERVE.now
 topic_description Run = text.RUN.now

@@ -32,6 +32,11 @@ pub enum Command<'a> {
     /// `audit CONFIG [OPTION ..]`: prints who may reach what in a server's contexts. [`AuditOptions::parse`] lists the
     /// options.
     Audit(AuditOptions<'a>),
+    /// `check CONFIG`: reads everything that `run` reads, and prints what the contexts have or which faults they have.
+    Check {
+        /// The name of the server file.
+        config: &'a str,
+    },
     /// `replay CONFIG`: runs the script on standard input on a server's container, and prints the results.
     Replay {
         /// The name of the server file.
@@ -59,7 +64,7 @@ impl<'a> Command<'a> {
     ///
     /// `-h` and `--help` mean `help`, and `--version` means `version`. `COMMAND -h` and `COMMAND --help` mean
     /// `help COMMAND`, so a server file of one of these names must be written `./-h` or `./--help` if it is the only
-    /// argument of `uncovered`, `audit`, `replay`, `run` or `selftest`.
+    /// argument of `uncovered`, `audit`, `check`, `replay`, `run` or `selftest`.
     pub fn parse(arguments: &'a [String]) -> Option<Command<'a>>
         ensures { Finds (IsNamed (map string_bytes arguments.now)) result }
     {
@@ -89,6 +94,10 @@ fn command_in(arguments: &[String]) -> Option<Command<'_>>
             Some(Command::Uncovered { config })
         }
         Topic::Audit => audit_in(rest),
+        Topic::Check => {
+            let config = config_in(rest)?;
+            Some(Command::Check { config })
+        }
         Topic::Replay => {
             let config = config_in(rest)?;
             Some(Command::Replay { config })

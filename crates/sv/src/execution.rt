@@ -4,6 +4,7 @@ ghost use Rattle.sv_component.specs.Steps.{steps_of};
 ghost use Rattle.std.specs.Prelude.{◌≡◌, IfErr};
 ghost use Rattle.sv.specs.Execution.{IsBefore, ReadsFiles, RunsCommand, ServesNothing};
 
+use crate::check_command::check;
 use crate::command::Command;
 use crate::help_command::help;
 use crate::policy_command::policy;
@@ -49,6 +50,7 @@ pub fn carry_out<
         Command::Policy(question) => policy(alloc, store, writer, &question),
         Command::Uncovered { config } => uncovered(alloc, store, writer, config),
         Command::Audit(options) => audit(alloc, store, writer, options.config, &options.access),
+        Command::Check { config } => check(alloc, store, writer, config),
         Command::Replay { config } => replay_streams(alloc, store, reader, writer, config),
         Command::Serve(service) => {
             let count = service.connections.value();

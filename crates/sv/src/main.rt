@@ -3,6 +3,7 @@
 
 mod asked_container;
 mod audit_options;
+mod check_command;
 mod command;
 mod count;
 mod execution;

@@ -28,6 +28,10 @@ pub const AUDIT: &str = "    \
     --diff OTHER            shows what the server file OTHER decides differently; text or json; not with --path
 ";
 
+/// What `check` does.
+pub const CHECK: &str =
+    "    reads everything that run reads, starts nothing, and counts it or lists its faults\n";
+
 /// What `replay` does.
 pub const REPLAY: &str =
     "    runs the script of events on standard input, without a socket, and prints the results\n";

@@ -5,7 +5,7 @@ ghost use Rattle.sv.specs.Topics.{IsCalled, IsHelpOption, topic_description, top
 ghost use Rattle.sv.specs.Values.{Finds};
 
 use crate::texts::{
-    AUDIT, FIRST, HELP, POLICY, REPLAY, RUN, SELF_TEST, SERVE, UNCOVERED, VERSION_TOPIC,
+    AUDIT, CHECK, FIRST, HELP, POLICY, REPLAY, RUN, SELF_TEST, SERVE, UNCOVERED, VERSION_TOPIC,
 };
 
 /// A command of the program, as a topic of help.
@@ -19,6 +19,8 @@ pub enum Topic {
     Uncovered,
     /// The command `audit`.
     Audit,
+    /// The command `check`.
+    Check,
     /// The command `replay`.
     Replay,
     /// The command `serve`.
@@ -34,11 +36,12 @@ pub enum Topic {
 }
 
 /// All topics, in the order in which `help` lists them.
-pub const TOPICS: [Topic; 10] = [
+pub const TOPICS: [Topic; 11] = [
     Topic::First,
     Topic::Policy,
     Topic::Uncovered,
     Topic::Audit,
+    Topic::Check,
     Topic::Replay,
     Topic::Serve,
     Topic::Run,
@@ -83,6 +86,7 @@ impl Topic {
             Topic::Policy => "policy",
             Topic::Uncovered => "uncovered",
             Topic::Audit => "audit",
+            Topic::Check => "check",
             Topic::Replay => "replay",
             Topic::Serve => "serve",
             Topic::Run => "run",
@@ -101,6 +105,7 @@ impl Topic {
             Topic::Policy => "sv policy CONFIG METHOD TARGET [USER]",
             Topic::Uncovered => "sv uncovered CONFIG",
             Topic::Audit => "sv audit CONFIG [OPTION ..]",
+            Topic::Check => "sv check CONFIG",
             Topic::Replay => "sv replay CONFIG",
             Topic::Serve => "sv serve CONFIG N",
             Topic::Run => "sv run CONFIG [OPTION ..]",
@@ -119,6 +124,7 @@ impl Topic {
             Topic::Policy => POLICY,
             Topic::Uncovered => UNCOVERED,
             Topic::Audit => AUDIT,
+            Topic::Check => CHECK,
             Topic::Replay => REPLAY,
             Topic::Serve => SERVE,
             Topic::Run => RUN,

@@ -18,10 +18,10 @@ in_turn (Err fault) other last next = refl
 
 -- the deployment consists of the readings and the components made from them
 pub as_read : (texts : ContextTexts) (found : FolderFiles)
-    → deployment_for texts found ≡ (read_of texts found >>= λ read. components_in read.0.0 >>= λ parts.
+    → deployment_for texts found ≡ (read_of texts found >>= λ read. components_in texts read.0.0 >>= λ parts.
     Ok (record { path = texts.context.path; descriptor = read.0.0; files = read.1; users = read.0.1; parts = parts }))
 as_read texts found =
-    in_turn (descriptor_in texts) (users_in texts) (files_in texts.context found) (λ descriptor users files. components_in descriptor >>= λ parts.
+    in_turn (descriptor_in texts) (users_in texts) (files_in texts.context found) (λ descriptor users files. components_in texts descriptor >>= λ parts.
     Ok (record { path = texts.context.path; descriptor = descriptor; files = files; users = users; parts = parts }))
 
 -- if the first part was read, a fault is one of the other part

@@ -1,5 +1,7 @@
 pub mod Counting
+pub mod Check
 pub mod ClassFault
+pub mod ComponentPlace
 pub mod FilesFault
 pub mod FilterClasses
 pub mod ListenerClasses
@@ -7,6 +9,7 @@ pub mod Parts
 pub mod Results
 pub mod ServletClasses
 pub mod Configuration
+pub mod Counted
 pub mod Deployments
 pub mod Files
 pub mod Folders

@@ -3,6 +3,7 @@
 ghost use Rattle.std.specs.Prelude.{◌≡◌, Some};
 ghost use Rattle.sv_deployments.specs.ClassFault.{fault_text};
 
+use crate::component_place::ComponentPlace;
 use std::alloc::{AllocError, AllocFailed};
 use std::error::Error;
 use std::fmt;
@@ -16,9 +17,9 @@ and the listener Log";
 /// The reason why the components of a descriptor were not created. Its text is the name of the class, or `no memory`.
 #[derive(Debug, Drop)]
 pub enum ClassFault {
-    /// The program has no such class for the component. This is the first unknown class of the servlets, then of the
-    /// filters, then of the listeners.
-    UnknownClass(Text),
+    /// The program has no such class for the component at this place of the descriptor. This is the first unknown class
+    /// of the servlets, then of the filters, then of the listeners.
+    UnknownClass(Text, ComponentPlace),
     /// Memory ran out. The classes may or may not be known.
     NoMemory,
 }
@@ -28,7 +29,7 @@ impl fmt::Display for ClassFault {
 
     fn fmt<W: fmt::Write>(&self, f: &mut fmt::Formatter<W>) -> fmt::Result {
         f.write_str(match self {
-            ClassFault::UnknownClass(class) => class.as_str(),
+            ClassFault::UnknownClass(class, _) => class.as_str(),
             ClassFault::NoMemory => "no memory",
         })
     }

@@ -1,11 +1,13 @@
 //! Declarations in a descriptor, and the components that they declare.
 
-ghost use Rattle.std.specs.Prelude.{ℕ, List, Result, Err};
+ghost use Rattle.std.specs.Prelude.{ℕ, Result, Err};
 ghost use Rattle.sv_text.specs.Gives.{Gives};
 ghost use Rattle.sv_deployments.specs.ClassFault.{class_fault};
-ghost use Rattle.sv_deployments.specs.Parts.{each, filter_of, listener_of, servlet_of};
+ghost use Rattle.sv_deployments.specs.Parts.{each_from, filter_of, listener_of, servlet_of};
+ghost use Rattle.sv_deployments.specs.declared.class_fault.ClassFault.TheVariants.{UnknownClass};
 
 use crate::class_fault::ClassFault;
+use crate::component_place::ComponentPlace;
 use crate::program_filter::ProgramFilter;
 use crate::program_listener::ProgramListener;
 use crate::program_servlet::ProgramServlet;
@@ -19,12 +21,14 @@ pub(crate) trait Declared {
     /// The component.
     type Component: Drop;
 
-    // The declared component, or the name of its class if that is unknown.
-    ghost stands_for: { Self → Result Self.Component (List ℕ) };
+    ghost use Rattle.sv_deployments.specs.declared.class_fault.ClassFault.{ClassFault};
 
-    /// Creates the declared component.
-    fn component(&self, alloc: Global) -> Result<Self::Component, ClassFault>
-        ensures { Gives class_fault result (stands_for self.now) };
+    // The component that is declared at this place among those of its kind, or the fault of its class.
+    ghost stands_for: { ℕ → Self → Result Self.Component ClassFault };
+
+    /// Creates the component, which is declared at this place among those of its kind.
+    fn component(&self, alloc: Global, place: usize) -> Result<Self::Component, ClassFault>
+        ensures { Gives class_fault result (stands_for place self.now) };
 }
 
 /// Creates the declared components, in order.
@@ -35,11 +39,11 @@ pub(crate) fn components_of<D: Declared>(
     alloc: Global,
     declared: &[D],
 ) -> Result<Listed<D::Component>, ClassFault>
-    ensures { Gives class_fault result (each D.stands_for declared.now) }
+    ensures { Gives class_fault result (each_from D.stands_for 0 declared.now) }
 {
     let mut components = Vec::with_capacity(alloc, declared.len())?;
     for entry in declared {
-        components.push(entry.component(alloc)?)?;
+        components.push(entry.component(alloc, components.len())?)?;
     }
     Ok(Listed::from_vec(components))
 }
@@ -49,13 +53,13 @@ impl Declared for ServletEntry {
 
     ghost stands_for = { servlet_of };
 
-    fn component(&self, alloc: Global) -> Result<Named<ProgramServlet>, ClassFault> {
+    fn component(&self, alloc: Global, place: usize) -> Result<Named<ProgramServlet>, ClassFault> {
         match ProgramServlet::of_class(alloc, self.servlet_class.as_str()) {
             Some(component) => Ok(Named {
                 name: Text::copy_of(alloc, self.servlet_name.as_str())?,
                 component,
             }),
-            None => unknown(alloc, &self.servlet_class),
+            None => unknown(alloc, &self.servlet_class, ComponentPlace::Servlet(place)),
         }
     }
 }
@@ -65,13 +69,13 @@ impl Declared for FilterEntry {
 
     ghost stands_for = { filter_of };
 
-    fn component(&self, alloc: Global) -> Result<Named<ProgramFilter>, ClassFault> {
+    fn component(&self, alloc: Global, place: usize) -> Result<Named<ProgramFilter>, ClassFault> {
         match ProgramFilter::of_class(alloc, self.filter_class.as_str()) {
             Some(component) => Ok(Named {
                 name: Text::copy_of(alloc, self.filter_name.as_str())?,
                 component,
             }),
-            None => unknown(alloc, &self.filter_class),
+            None => unknown(alloc, &self.filter_class, ComponentPlace::Filter(place)),
         }
     }
 }
@@ -81,17 +85,18 @@ impl Declared for ListenerEntry {
 
     ghost stands_for = { listener_of };
 
-    fn component(&self, alloc: Global) -> Result<ProgramListener, ClassFault> {
+    fn component(&self, alloc: Global, place: usize) -> Result<ProgramListener, ClassFault> {
         match ProgramListener::of_class(self.listener_class.as_str()) {
             Some(component) => Ok(component),
-            None => unknown(alloc, &self.listener_class),
+            None => unknown(alloc, &self.listener_class, ComponentPlace::Listener(place)),
         }
     }
 }
 
 // Returns the fault of an unknown class.
-fn unknown<T>(alloc: Global, class: &Text) -> Result<T, ClassFault>
-    ensures { Gives class_fault result (Err class.now) }
+fn unknown<T>(alloc: Global, class: &Text, place: ComponentPlace) -> Result<T, ClassFault>
+    ensures { Gives class_fault result (Err (UnknownClass class.now place)) }
 {
-    Err(ClassFault::UnknownClass(Text::copy_of(alloc, class.as_str())?))
+    let class = Text::copy_of(alloc, class.as_str())?;
+    Err(ClassFault::UnknownClass(class, place))
 }

@@ -10,6 +10,7 @@ ghost use Rattle.sv_program.specs.Configuration.{each};
 ghost use Rattle.sv_text.specs.Gives.{Gives};
 
 use crate::class_fault::{CLASSES, ClassFault};
+use crate::component_place::ComponentPlace;
 use crate::files::files_of;
 use crate::folders::{FolderFiles, FoundContext};
 use crate::parts::parts_of;
@@ -21,7 +22,7 @@ use sv_descriptor::{ContextEntry, Descriptor};
 use sv_files::{File, Files};
 use sv_lifecycle::Deployment;
 use sv_live::Parts;
-use sv_program::{CommandFault, ContextTexts, descriptor_in, realm_in};
+use sv_program::{CommandFault, ContextTexts, FilePlace, descriptor_in, realm_in};
 use sv_realm::Realm;
 use sv_text::{Listed, Text};
 
@@ -63,7 +64,7 @@ fn deployment_for(
 {
     let path = Text::copy_of(alloc, texts.context.path.as_str())?;
     let read = read(alloc, texts, files)?;
-    let parts = parts_in(alloc, &read.0.0);
+    let parts = parts_in(alloc, texts, &read.0.0);
     // A generic function combines them, so that no read value is live where the components may fail.
     let (((descriptor, users), files), parts) = both(Ok(read), parts)?;
     Ok(Deployment {
@@ -88,7 +89,7 @@ fn read(
 }
 
 // Returns the static files of a context.
-fn files_in(
+pub(crate) fn files_in(
     alloc: Global,
     context: &ContextEntry,
     files: FolderFiles,
@@ -112,20 +113,46 @@ fn listed_files(alloc: Global, name: &str, files: FolderFiles) -> Result<Listed<
     }
 }
 
-// Creates the components of a context.
-fn parts_in(
+// Creates the components of a context with this descriptor.
+pub(crate) fn parts_in(
     alloc: Global,
+    texts: &ContextTexts,
     descriptor: &Descriptor,
 ) -> Result<Parts<ProgramServlet, ProgramFilter, ProgramListener>, CommandFault>
-    ensures { Gives command_fault (seen components result) (spec.components_in descriptor.now) }
+    ensures { Gives command_fault (seen components result) (spec.components_in texts.now descriptor.now) }
 {
     match parts_of(alloc, descriptor) {
         Ok(parts) => Ok(parts),
-        Err(ClassFault::UnknownClass(name)) => Err(CommandFault::Class {
-            name,
-            known: Text::copy_of(alloc, CLASSES)?,
-        }),
+        Err(ClassFault::UnknownClass(name, place)) => unknown_class(alloc, texts, name, place),
         Err(ClassFault::NoMemory) => Err(CommandFault::NoMemory),
+    }
+}
+
+// Returns the fault of a class that the descriptor names at this place.
+fn unknown_class<T>(
+    alloc: Global,
+    texts: &ContextTexts,
+    name: Text,
+    place: ComponentPlace,
+) -> Result<T, CommandFault>
+    ensures { Gives command_fault result (Err (spec.unknown_class texts.now name place)) }
+{
+    let file = texts.context.descriptor.as_str();
+    let place = FilePlace::of(alloc, file, descriptor_text(texts), place.steps(alloc)?)?;
+    Err(CommandFault::Class {
+        name,
+        place,
+        known: Text::copy_of(alloc, CLASSES)?,
+    })
+}
+
+// Returns the text of the descriptor, or none if its file is not available.
+fn descriptor_text(texts: &ContextTexts) -> &str
+    ensures { result.now ≡ spec.descriptor_text texts.now.descriptor }
+{
+    match &texts.descriptor {
+        Ok(text) => text.as_str(),
+        Err(_) => "",
     }
 }
 

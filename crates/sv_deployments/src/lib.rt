@@ -4,7 +4,9 @@
 
 mod bad;
 mod bye;
+mod check;
 mod class_fault;
+mod component_place;
 mod configuration;
 mod declaration;
 mod deployments;
@@ -33,7 +35,12 @@ mod who;
 
 pub use bad::Bad;
 pub use bye::Bye;
+pub use check::{
+    CheckedContext, CheckedServer, ContextCounts, check_contexts, checks_find_what_a_start_finds,
+    read_checked,
+};
 pub use class_fault::{CLASSES, ClassFault};
+pub use component_place::ComponentPlace;
 pub use configuration::{Configuration, read_deployments};
 pub use deployments::{ProgramDeployment, both};
 pub use error::ErrorCode;

@@ -1,10 +1,12 @@
 -- The search for the line on which a value begins.
-use Rattle.std.proofs.Common.{◌≡◌, ◌∙◌, ℕ, ◌+◌, ◌-◌, ◌<◌, ◌≤◌, Bool, true, false, cond, List, [], ◌∷◌, ◌++◌, length, drop, get_or, drop-cons, add-one, append_assoc, ap, sym, suc, refl, ◌⊎◌, inl, inr, Some, None, arith}
+use Rattle.std.proofs.Common.{◌≡◌, ◌∙◌, ℕ, ◌+◌, ◌-◌, ◌<◌, ◌≤◌, Bool, true, false, cond, List, [], ◌∷◌, ◌++◌, length, drop, get_or, drop-cons, add-one, append_assoc, ap, sym, zero, suc, refl, ◌⊎◌, inl, inr, Some, None, arith}
+use Rattle.std.specs.List.{slice_index_or}
 use Rattle.std.specs.Str.{IsUtf8, is_utf8}
 use Rattle.std.proofs.lemmas.Bool.{cases_lt}
 use Rattle.std.proofs.lemmas.Str.{IsUtf8-from_is_utf8, is_utf8-from_IsUtf8}
-use Rattle.sv_program.specs.FileLine.{AreOpen, BeginsAfter, IsNarrowed, ends_from, text_of}
+use Rattle.sv_program.specs.FileLine.{AreOpen, BeginsBetween, IsNarrowed, ends_from, line_ends, text_of}
 use Rattle.sv_program.specs.Place.{ends_line}
+use Rattle.sv_program.specs.declared.file_line.Region.{Region}
 use Rattle.sv_program.specs.declared.file_line.Presence.{Presence}
 use Rattle.sv_program.specs.declared.file_line.Presence.TheVariants.{NotToml, Lacking, Present}
 
@@ -37,6 +39,29 @@ pub end_same : (text ends whole : List ℕ) (i byte : ℕ) → i < length text �
 end_same text ends whole i byte within is here known =
     let shown = rw (more_text text i byte within is) at known in
     rw here at shown
+
+-- the ends of the lines are within the text
+ends_within : (at : ℕ) (text : List ℕ) (i : ℕ) → slice_index_or (ends_from at text) i 0 ≤ at + length text
+ends_within at [] zero = omega arith
+ends_within at [] (suc i) = omega arith
+ends_within at (byte ∷ rest) i = by (ends_line byte) i (λ k. ends_within (at + 1) rest k)
+  where
+    by : (ends : Bool) (i : ℕ) → ((k : ℕ) → slice_index_or (ends_from (at + 1) rest) k 0 ≤ (at + 1) + length rest)
+        → slice_index_or (cond ends ((at + 1) ∷ ends_from (at + 1) rest) (ends_from (at + 1) rest)) i 0 ≤ at + length (byte ∷ rest)
+    by true zero below = omega arith
+    by true (suc i) below = let here = below i in omega (arith, here)
+    by false i below = let here = below i in omega (arith, here)
+
+pub line_ends_within : (text : List ℕ) (i : ℕ) → slice_index_or (line_ends text) i 0 ≤ length text
+line_ends_within text zero = omega arith
+line_ends_within text (suc i) = let here = ends_within 0 text i in omega (arith, here)
+
+abbrev pub region_at : List ℕ → ℕ → ℕ → Region
+region_at ends low high = record { line = low + 1; start = slice_index_or ends low 0; end = slice_index_or ends high 0 }
+
+-- the lines between two of the ends
+pub same_region : (ends found : List ℕ) (low high : ℕ) → ends ≡ found → region_at ends low high ≡ region_at found low high
+same_region ends found low high same = ap (λ it. region_at it low high) same
 
 -- ---- the search
 module _ (state : ℕ → Presence) where
@@ -94,10 +119,9 @@ module _ (state : ℕ → Presence) where
   }
 
   -- nothing is left between both
-  pub begins_after : (low bound high last : ℕ) → IsNarrowed state low bound high → high ≤ bound + 1 → high ≤ last → BeginsAfter state last low
-  begins_after low bound high last narrowed next within = record {
+  pub begins_between : (low bound high last : ℕ) → IsNarrowed state low bound high → high ≤ bound + 1 → high ≤ last → BeginsBetween state last low high
+  begins_between low bound high last narrowed next within = record {
     lacking = narrowed.lacking;
-    has = high;
     after = omega (arith, narrowed.rising, narrowed.apart);
     within = within;
     present = narrowed.present;

@@ -4,6 +4,9 @@ mod Arguments
 pub mod Faults
 mod FileLines
 mod FirstRead
+mod KeyLaws
+mod Samples
+mod TableKeys
 mod Lines
 pub mod PrintedRun
 mod Readings

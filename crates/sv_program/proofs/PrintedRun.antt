@@ -4,7 +4,7 @@ use Rattle.sv_program.specs.CommandFault.{command_fault}
 use Rattle.sv_program.specs.Configuration.{Step}
 use Rattle.sv_program.specs.Printed.{EndsBy, FindsText, Printing, Prints}
 use Rattle.sv_program.specs.declared.command_fault.CommandFault.{CommandFault}
-use Rattle.sv_program.specs.declared.command_fault.CommandFault.TheVariants.{Input, Output, File, Server, Descriptor, Users, Class, Files, Start, Socket, Script, User, Method, NoMemory, Findings}
+use Rattle.sv_program.specs.declared.command_fault.CommandFault.TheVariants.{Input, Output, File, Server, Descriptor, Users, Class, Files, Start, Socket, Script, User, Method, NoMemory, Findings, Faults}
 use Rattle.sv_program.proofs.Faults.{FaultsAreAsked}
 
 -- a fault of the text ends the run
@@ -16,7 +16,7 @@ ends (File name why) text old asked h = h
 ends (Server faulty) text old asked h = h
 ends (Descriptor context faulty) text old asked h = h
 ends (Users context faulty) text old asked h = h
-ends (Class name known) text old asked h = h
+ends (Class name place known) text old asked h = h
 ends (Files context found) text old asked h = h
 ends (Start code context) text old asked h = h
 ends (Socket found) text old asked h = h
@@ -25,6 +25,7 @@ ends (User shown) text old asked h = h
 ends (Method shown) text old asked h = h
 ends NoMemory text old asked h = tt
 ends (Findings count) text old asked h = h
+ends (Faults count) text old asked h = h
 
 module _ {S : Type 0} (Is : Printing S) (are_asked : (text : Step (List ℕ)) (before after : S) → Is text before after → FaultsAreAsked text) where
   -- if the text has a fault, the run ends with that fault

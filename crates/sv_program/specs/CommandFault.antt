@@ -7,12 +7,13 @@ use Rattle.sv_descriptor.specs.Fault.{number}
 use Rattle.sv_descriptor.specs.declared.fault.DescriptorFault.{DescriptorFault}
 use Rattle.sv_files.specs.Fault.{fault_number as files_number}
 use Rattle.sv_uri.specs.ContextPath.{shown_context}
+use Rattle.sv_program.specs.Shown.{printed_key}
 use Rattle.sv_program.specs.declared.command_fault.CommandFault.{CommandFault}
-use Rattle.sv_program.specs.declared.command_fault.CommandFault.TheVariants.{Input, Output, File, Server, Descriptor, Users, Class, Files, Start, Socket, Script, User, Method, NoMemory, Findings}
+use Rattle.sv_program.specs.declared.command_fault.CommandFault.TheVariants.{Input, Output, File, Server, Descriptor, Users, Class, Files, Start, Socket, Script, User, Method, NoMemory, Findings, Faults}
 
--- the key of the fault in a configuration file, or `-` if the fault concerns the whole text
+-- the key of the fault in a configuration file, or `-` if the fault concerns the whole text or the key is empty
 abbrev pub key_text : List ℕ → List ℕ
-key_text key = if bytes_eq key [] then codes "-" else key
+key_text key = if bytes_eq key [] then codes "-" else printed_key key
 
 -- `CODE KEY`
 abbrev pub fault_text : DescriptorFault → List ℕ
@@ -26,7 +27,7 @@ fault_line (File name why) = codes "sv: file " ++ name
 fault_line (Server faulty) = codes "sv: server " ++ fault_text faulty.found.fault
 fault_line (Descriptor context faulty) = codes "sv: descriptor " ++ shown_context context ++ codes " " ++ fault_text faulty.found.fault
 fault_line (Users context faulty) = codes "sv: users " ++ shown_context context ++ codes " " ++ fault_text faulty.found.fault
-fault_line (Class name known) = codes "sv: class " ++ name
+fault_line (Class name place known) = codes "sv: class " ++ name
 fault_line (Files context found) = codes "sv: files " ++ shown_context context ++ codes " " ++ decimal (files_number found)
 fault_line (Start code context) = codes "sv: start " ++ decimal (new_code_number code) ++ codes " " ++ shown_context context
 fault_line (Socket found) = codes "sv: socket"
@@ -35,6 +36,7 @@ fault_line (User shown) = codes "sv: user"
 fault_line (Method shown) = codes "sv: method"
 fault_line NoMemory = codes "sv: no memory"
 fault_line (Findings count) = codes "sv: findings " ++ decimal count
+fault_line (Faults count) = codes "sv: faults " ++ decimal count
 
 -- the exit status: 1 for the configuration and the system, 2 for arguments and scripts, 3 if memory ran out, 4 for findings
 abbrev pub status_of : CommandFault → ℕ
@@ -44,7 +46,7 @@ status_of (File name why) = 1
 status_of (Server faulty) = 1
 status_of (Descriptor context faulty) = 1
 status_of (Users context faulty) = 1
-status_of (Class name known) = 1
+status_of (Class name place known) = 1
 status_of (Files context found) = 1
 status_of (Start code context) = 1
 status_of (Socket found) = 1
@@ -53,6 +55,7 @@ status_of (User shown) = 2
 status_of (Method shown) = 2
 status_of NoMemory = 3
 status_of (Findings count) = 4
+status_of (Faults count) = 1
 
 -- the fault, unless memory ran out
 abbrev pub command_fault : CommandFault → Option CommandFault

@@ -6,30 +6,27 @@ use Rattle.std.specs.Option.{option_and_then}
 use Rattle.toml.specs.Parse.{parse_document}
 use Rattle.sv_journal.specs.declared.calls.Place.{Place}
 use Rattle.sv_journal.specs.declared.calls.Place.TheVariants.{Filter, Servlet}
-use Rattle.sv_descriptor.specs.declared.fault.DescriptorFault.{DescriptorFault}
 use Rattle.sv_descriptor.specs.declared.fault.FaultCode.{FaultCode}
 use Rattle.sv_descriptor.specs.declared.fault.FaultCode.TheVariants.{NotToml}
 use Rattle.sv_descriptor.specs.declared.fault.LocatedFault.{LocatedFault}
-use Rattle.sv_program.specs.FileLine.{IsFileLine}
+use Rattle.sv_program.specs.FilePlace.{spot_text}
 use Rattle.sv_program.specs.Offending.{offending}
 use Rattle.sv_program.specs.Place.{line_behind, column_behind}
 use Rattle.sv_program.specs.Sentence.{sentence}
 use Rattle.sv_program.specs.Unavailable.{reason_text}
+use Rattle.sv_program.specs.ValuePlace.{IsSpot}
 use Rattle.sv_program.specs.declared.detail.Detail.{Detail}
 use Rattle.sv_program.specs.declared.detail.Detail.TheVariants as detail
-
--- the line number after the name of the file, if the line is known
-abbrev pub line_text : Option ℕ → List ℕ
-line_text None = codes ""
-line_text (Some line) = codes ":" ++ decimal line
+use Rattle.sv_program.specs.declared.value_place.Spot.{Spot}
 
 -- the offending value, if it is shown
 abbrev pub value_text : Option (List ℕ) → List ℕ
 value_text None = codes ""
 value_text (Some value) = codes ": " ++ value
 
-abbrev pub problem_line : List ℕ → Option ℕ → DescriptorFault → Option (List ℕ) → List ℕ
-problem_line name line fault value = codes "  " ++ name ++ line_text line ++ codes ": " ++ sentence fault ++ value_text value
+-- the line with the problem, after a place
+abbrev pub problem_line : List ℕ → List ℕ → LocatedFault → Option (List ℕ) → List ℕ
+problem_line name place found value = codes "  " ++ name ++ place ++ codes ": " ++ sentence found ++ value_text value
 
 -- the line with the place after these bytes of the text
 abbrev pub line_with_place : List ℕ → List ℕ → List ℕ → List ℕ
@@ -41,17 +38,17 @@ abbrev pub IsPlaced : List ℕ → List ℕ → List ℕ → Type 0
 IsPlaced name text line = (at : ℕ) × (message : List ℕ) × (at ≤ length text) × (line ≡ line_with_place name (take at text) message)
 
 -- the line has a place if the text is not valid TOML
-abbrev pub IsTextLine : List ℕ → List ℕ → DescriptorFault → List ℕ → Type 0
-IsTextLine name text found line = MatchOption (parse_document text) (IsPlaced name text line) (λ _. line ≡ problem_line name None found None)
+abbrev pub IsTextLine : List ℕ → List ℕ → LocatedFault → List ℕ → Type 0
+IsTextLine name text found line = MatchOption (parse_document text) (IsPlaced name text line) (λ _. line ≡ problem_line name (codes "") found None)
 
--- the line says on which line of the file the offending value begins
+-- the line says where in the file the offending value begins
 abbrev pub IsProblemLine : List ℕ → List ℕ → LocatedFault → List ℕ → Type 0
 IsProblemLine name text found line =
-    (place : Option ℕ) × IsFileLine text found.steps place
-    × (line ≡ problem_line name place found.fault (option_and_then (offending found) (parse_document text)))
+    (spot : Spot) × IsSpot text found.steps spot
+    × (line ≡ problem_line name (spot_text text spot) found (option_and_then (offending found) (parse_document text)))
 
 abbrev pub IsLineOf : FaultCode → List ℕ → List ℕ → LocatedFault → List ℕ → Type 0
-IsLineOf NotToml name text found line = IsTextLine name text found.fault line
+IsLineOf NotToml name text found line = IsTextLine name text found line
 IsLineOf other name text found line = IsProblemLine name text found line
 
 -- the line for a fault of a file of this name and text
@@ -86,7 +83,7 @@ detail_text (detail.Line line) = line.now
 detail_text (detail.Named name why) = codes "  " ++ name.now ++ codes ": " ++ reason_text why
 detail_text (detail.Address address why) = codes "  " ++ socket_text address ++ codes ": " ++ reason_text why
 detail_text (detail.Component place) = codes "  " ++ place_text place ++ codes " of its descriptor: init failed"
-detail_text (detail.Classes classes) = codes "  the program has " ++ classes.now
+detail_text (detail.Classes place classes) = codes "  " ++ (place.now ++ (codes ": the program has " ++ classes.now))
 detail_text (detail.User shown) = codes "  the context has no user " ++ shown.now
 detail_text (detail.Method shown) = codes "  the method is not a token: " ++ shown.now
 detail_text (detail.Sentence sentence) = codes "  " ++ sentence.now

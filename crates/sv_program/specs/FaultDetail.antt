@@ -7,6 +7,7 @@ use Rattle.sv_journal.specs.declared.start_code.NewCode.{NewCode}
 use Rattle.sv_journal.specs.declared.start_code.NewCode.TheVariants as new
 use Rattle.sv_journal.specs.declared.start_code.StartCode.TheVariants as start
 use Rattle.sv_program.specs.Detail.{FaultInFile, IsDetail, detail_text, place_text}
+use Rattle.sv_program.specs.FilePlace.{IsPlaceText, ValueInFile}
 use Rattle.sv_program.specs.Unavailable.{reason_text}
 use Rattle.sv_program.specs.declared.command_fault.CommandFault.{CommandFault}
 use Rattle.sv_program.specs.declared.command_fault.CommandFault.TheVariants as fault
@@ -48,13 +49,18 @@ abbrev pub HasLine : FaultInFile → Option Detail → Type 0
 HasLine faulty (Some (detail.Line line)) = IsDetail faulty line.now
 HasLine faulty other = ⊥
 
--- the second line of a fault; standard streams, memory and findings have none
+-- there is a second line, with the place of a class and the classes of the program
+abbrev pub SaysClasses : ValueInFile → List ℕ → Option Detail → Type 0
+SaysClasses place known given =
+    (shown : List ℕ) × IsPlaceText place.file place.text place.steps shown × Says (shown ++ (codes ": the program has " ++ known)) given
+
+-- the second line of a fault; standard streams, memory, findings and counted faults have none
 abbrev pub IsFaultDetail : CommandFault → Option Detail → Type 0
 IsFaultDetail (fault.File name why) given = Says (name ++ codes ": " ++ reason_text why) given
 IsFaultDetail (fault.Server faulty) given = HasLine faulty given
 IsFaultDetail (fault.Descriptor context faulty) given = HasLine faulty given
 IsFaultDetail (fault.Users context faulty) given = HasLine faulty given
-IsFaultDetail (fault.Class name known) given = Says (codes "the program has " ++ known) given
+IsFaultDetail (fault.Class name place known) given = SaysClasses place known given
 IsFaultDetail (fault.Files context found) given = Says (files_reason found) given
 IsFaultDetail (fault.Start code context) given = Says (start_reason code) given
 IsFaultDetail (fault.Socket found) given = Says (socket_reason found) given
@@ -65,3 +71,4 @@ IsFaultDetail fault.Input given = given ≡ None
 IsFaultDetail fault.Output given = given ≡ None
 IsFaultDetail fault.NoMemory given = given ≡ None
 IsFaultDetail (fault.Findings count) given = given ≡ None
+IsFaultDetail (fault.Faults count) given = given ≡ None

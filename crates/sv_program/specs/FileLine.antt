@@ -1,6 +1,6 @@
--- The line of a file on which a value begins: the line after first lines that are TOML by themselves and lack the value,
--- if the next first lines that are TOML have it.
-use Rattle.std.specs.Prelude.{◌≡◌, ℕ, ◌+◌, ◌<◌, ◌≤◌, List, [], ◌∷◌, length, take, slice_index_or, Option, Some, None, is_some, if◌then◌else◌}
+-- The lines of a file on which a value begins: those after first lines that are TOML by themselves and lack the value, up
+-- to the next first lines that are TOML, if these have it.
+use Rattle.std.specs.Prelude.{◌≡◌, ℕ, ◌+◌, ◌<◌, ◌≤◌, List, [], ◌∷◌, length, take, slice_index_or, Option, Some, None, IfSome, is_some, if◌then◌else◌}
 use Rattle.std.specs.Option.{option_and_then}
 use Rattle.std.specs.Str.{is_utf8}
 use Rattle.toml.specs.Data.{Members}
@@ -12,6 +12,7 @@ use Rattle.sv_program.specs.declared.file_line.Found.{Found}
 use Rattle.sv_program.specs.declared.file_line.Found.TheVariants.{Nothing, Lack, Has}
 use Rattle.sv_program.specs.declared.file_line.Presence.{Presence}
 use Rattle.sv_program.specs.declared.file_line.Presence.TheVariants.{NotToml, Lacking, Present}
+use Rattle.sv_program.specs.declared.file_line.Region.{Region}
 use Rattle.sv_program.specs.declared.limits.TheConstants.{MAX_LOCATED_BYTES}
 
 -- the bytes as a text, if they are UTF-8
@@ -43,10 +44,9 @@ line_ends text = 0 ∷ ends_from 0 text
 abbrev pub presence_to : List ValueStep → List ℕ → List ℕ → ℕ → Presence
 presence_to steps text ends number = presence steps (take (slice_index_or ends number 0) text)
 
--- the first `number` lines lack the value, and the next first lines that are TOML have it
-pub record BeginsAfter (state : ℕ → Presence) (last : ℕ) (number : ℕ) : Type 0 where
+-- the first `number` lines lack the value, and the next first lines that are TOML have it: the first `has` lines
+pub record BeginsBetween (state : ℕ → Presence) (last : ℕ) (number : ℕ) (has : ℕ) : Type 0 where
   pub lacking : state number ≡ Lacking
-  pub has : ℕ
   pub after : number < has
   pub within : has ≤ last
   pub present : state has ≡ Present
@@ -56,13 +56,22 @@ pub record BeginsAfter (state : ℕ → Presence) (last : ℕ) (number : ℕ) : 
 abbrev pub line_count : List ℕ → ℕ
 line_count text = length (ends_from 0 text)
 
--- the value begins on this line, from 1; there is none for a long text, or if the text does not have the value
-abbrev pub IsFileLine : List ℕ → List ValueStep → Option ℕ → Type 0
-IsFileLine text steps None =
+-- the lines between which the value begins, by the number of the first of them, from 1, and by the places of their ends
+abbrev pub IsRegionBetween : List ℕ → List ValueStep → Region → ℕ → ℕ → Type 0
+IsRegionBetween text steps region number has =
+    BeginsBetween (presence_to steps text (line_ends text)) (line_count text) number has
+    × (region ≡ record { line = number + 1; start = slice_index_or (line_ends text) number 0; end = slice_index_or (line_ends text) has 0 })
+
+-- the lines on which the value begins; there are none for a long text, or if the text does not have the value
+abbrev pub IsRegion : List ℕ → List ValueStep → Option Region → Type 0
+IsRegion text steps None =
     let state = presence_to steps text (line_ends text) in
     length text ≤ MAX_LOCATED_BYTES → state 0 ≡ Lacking → state (line_count text) ≡ Present → ⊥
-IsFileLine text steps (Some line) =
-    (number : ℕ) × (line ≡ number + 1) × BeginsAfter (presence_to steps text (line_ends text)) (line_count text) number
+IsRegion text steps (Some region) = (number : ℕ) × (has : ℕ) × IsRegionBetween text steps region number has
+
+-- the lines end within the text
+abbrev pub EndsWithin : List ℕ → Option Region → Type 0
+EndsWithin text region = IfSome region (λ lines. lines.end ≤ length text)
 
 -- ---- the search for it
 

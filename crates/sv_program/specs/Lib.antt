@@ -1,10 +1,14 @@
 pub mod Detail
 pub mod FaultDetail
 pub mod FileLine
+pub mod FilePlace
+pub mod KeyLaw
+pub mod Keys
 pub mod Place
 pub mod Sentence
 pub mod Shown
 pub mod Unavailable
+pub mod ValuePlace
 pub mod Offending
 pub mod Arguments
 pub mod CommandFault

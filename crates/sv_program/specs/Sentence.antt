@@ -1,8 +1,10 @@
 -- The sentence about the key of a fault in a configuration file.
 use Rattle.std.specs.Prelude.{ℕ, List, ◌++◌, codes}
-use Rattle.sv_descriptor.specs.declared.fault.DescriptorFault.{DescriptorFault}
 use Rattle.sv_descriptor.specs.declared.fault.FaultCode.{FaultCode}
 use Rattle.sv_descriptor.specs.declared.fault.FaultCode.TheVariants.{NotToml, UnknownKey, MissingKey, WrongType, BadPattern, DuplicatePattern, UnknownServlet, UnknownFilter, BothMethodLists, ReservedRole, BadTimeout, BadValue, DuplicateName, TooMany}
+use Rattle.sv_descriptor.specs.declared.fault.LocatedFault.{LocatedFault}
+use Rattle.sv_program.specs.Keys.{taken}
+use Rattle.sv_program.specs.Shown.{printed_key}
 
 -- the words before the key
 abbrev pub front : FaultCode → List ℕ
@@ -16,27 +18,28 @@ front UnknownServlet = codes "no servlet is declared by the name at `"
 front UnknownFilter = codes "no filter is declared by the name at `"
 front BothMethodLists = codes "methods are listed beside `"
 front ReservedRole = codes "a role at `"
-front BadTimeout = codes "the time at `"
+front BadTimeout = codes "the value of `"
 front BadValue = codes "the value of `"
 front DuplicateName = codes "the name at `"
-front TooMany = codes "the list at `"
+front TooMany = codes "the value of `"
 
 -- the words after the key
 abbrev pub back : FaultCode → List ℕ
 back NotToml = codes ""
 back UnknownKey = codes "` is not known here"
 back MissingKey = codes "` is missing"
-back WrongType = codes "` is of a wrong type"
+back WrongType = codes "` is not "
 back BadPattern = codes "`"
 back DuplicatePattern = codes "` was mapped before"
 back UnknownServlet = codes "`"
 back UnknownFilter = codes "`"
 back BothMethodLists = codes "`"
 back ReservedRole = codes "` is `*` or `**`, which have a meaning of their own"
-back BadTimeout = codes "` is longer than a year"
-back BadValue = codes "` is out of its range, or not one of those that are known"
+back BadTimeout = codes "` is not "
+back BadValue = codes "` is not "
 back DuplicateName = codes "` was given before"
-back TooMany = codes "` is longer than its limit"
+back TooMany = codes "` is not "
 
-abbrev pub sentence : DescriptorFault → List ℕ
-sentence fault = front fault.code ++ fault.key ++ back fault.code
+-- the sentence, which ends with what the key takes if its value is none of that
+abbrev pub sentence : LocatedFault → List ℕ
+sentence found = front found.fault.code ++ printed_key found.fault.key ++ back found.fault.code ++ taken found

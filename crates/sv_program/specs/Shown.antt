@@ -32,6 +32,14 @@ is_escaped c = is_control c || (c == byte "\"" || c == byte "\\")
 abbrev pub character_text : ℕ → List ℕ
 character_text c = if is_escaped c then escape_text c else encode_utf8 c
 
+-- the character itself, or its escape if it is a control character
+abbrev pub line_character : ℕ → List ℕ
+line_character c = if is_control c then escape_text c else encode_utf8 c
+
+-- a key as it is printed: control characters are escaped
+abbrev pub printed_key : List ℕ → List ℕ
+printed_key key = flat_map line_character (chars key)
+
 -- the mark after a text that is cut
 abbrev pub cut_mark : List ℕ → List ℕ
 cut_mark characters = if nat_lt MAX_SHOWN_CHARACTERS (length characters) then codes ".." else codes ""

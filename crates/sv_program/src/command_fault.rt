@@ -7,19 +7,19 @@ ghost use Rattle.sv_program.specs.FaultLine.{line_text, shown_text};
 
 use crate::detail::{Detail, files_detail, socket_detail, start_detail};
 use crate::file_fault::FileFault;
+use crate::file_place::FilePlace;
 use crate::socket_fault::SocketFault;
 use crate::unavailable::Unavailable;
 use std::alloc::{AllocError, AllocFailed};
 use std::error::Error;
 use std::fmt;
-use sv_descriptor::DescriptorFault;
 use sv_files::FilesFault;
 use sv_journal::NewCode;
 use sv_text::{NoMemory, Text};
 use sv_uri::shown_context;
 
 /// A fault that ends a command early. Its text is the line that the program writes on standard error. Standard output
-/// may have been written before `Output`, `Start`, `Socket`, `Script`, `Findings` and `NoMemory`. Before any other fault
+/// may have been written before `Output`, `Start`, `Socket`, `Script`, `Findings`, `Faults` and `NoMemory`. Before any other fault
 /// it is unwritten.
 #[derive(Drop)]
 pub enum CommandFault {
@@ -51,6 +51,8 @@ pub enum CommandFault {
     Class {
         /// The class.
         name: Text,
+        /// Where the descriptor names the class.
+        place: FilePlace,
         /// The classes that the program has.
         known: Text,
     },
@@ -83,6 +85,8 @@ pub enum CommandFault {
     NoMemory,
     /// A report was written, and has this number of findings that must not be there: `sv: findings NUMBER`, status 4.
     Findings(u64),
+    /// A report was written, and has this number of faults of configuration files: `sv: faults NUMBER`, status 1.
+    Faults(u64),
 }
 
 impl CommandFault {
@@ -100,7 +104,8 @@ impl CommandFault {
             | CommandFault::Class { .. }
             | CommandFault::Files { .. }
             | CommandFault::Start { .. }
-            | CommandFault::Socket(_) => 1,
+            | CommandFault::Socket(_)
+            | CommandFault::Faults(_) => 1,
             CommandFault::Script { .. } | CommandFault::User(_) | CommandFault::Method(_) => 2,
             CommandFault::NoMemory => 3,
             CommandFault::Findings(_) => 4,
@@ -110,7 +115,7 @@ impl CommandFault {
 
 impl CommandFault {
     /// Returns the second line on standard error, which says why the first one is printed. Faults of standard streams
-    /// and of memory have none, nor have findings: the report shows them.
+    /// and of memory have none, nor have findings and counted faults: the report shows them.
     pub fn detail(&self) -> Option<Detail<'_>>
         ensures { IsFaultDetail self.now result }
     {
@@ -119,7 +124,9 @@ impl CommandFault {
             CommandFault::Server(fault) => Some(Detail::Line(fault.detail())),
             CommandFault::Descriptor { fault, .. } => Some(Detail::Line(fault.detail())),
             CommandFault::Users { fault, .. } => Some(Detail::Line(fault.detail())),
-            CommandFault::Class { known, .. } => Some(Detail::Classes(known.as_str())),
+            CommandFault::Class { place, known, .. } => {
+                Some(Detail::Classes(place.text(), known.as_str()))
+            }
             CommandFault::Files { fault, .. } => Some(files_detail(*fault)),
             CommandFault::Start { code, .. } => Some(start_detail(*code)),
             CommandFault::Socket(fault) => Some(socket_detail(*fault)),
@@ -130,6 +137,7 @@ impl CommandFault {
             CommandFault::Output => None,
             CommandFault::NoMemory => None,
             CommandFault::Findings(_) => None,
+            CommandFault::Faults(_) => None,
         }
     }
 }
@@ -157,17 +165,17 @@ impl CommandFault {
             CommandFault::Server(fault) => Line {
                 front: "sv: server",
                 place: "",
-                end: LineEnd::Shown(numbered(fault.fault())),
+                end: LineEnd::Shown(numbered(fault)),
             },
             CommandFault::Descriptor { context, fault } => Line {
                 front: "sv: descriptor ",
                 place: shown_context(context.as_str()),
-                end: LineEnd::Shown(numbered(fault.fault())),
+                end: LineEnd::Shown(numbered(fault)),
             },
             CommandFault::Users { context, fault } => Line {
                 front: "sv: users ",
                 place: shown_context(context.as_str()),
-                end: LineEnd::Shown(numbered(fault.fault())),
+                end: LineEnd::Shown(numbered(fault)),
             },
             CommandFault::Class { name, .. } => named("sv: class ", name.as_str()),
             CommandFault::Files { context, fault } => Line {
@@ -194,6 +202,11 @@ impl CommandFault {
             CommandFault::NoMemory => plain("sv: no memory"),
             CommandFault::Findings(number) => Line {
                 front: "sv: findings",
+                place: "",
+                end: LineEnd::Number(*number),
+            },
+            CommandFault::Faults(number) => Line {
+                front: "sv: faults",
                 place: "",
                 end: LineEnd::Number(*number),
             },
@@ -267,20 +280,24 @@ impl fmt::Display for Shown<'_> {
 }
 
 /// Returns the number and the key of a fault.
-fn numbered(fault: &DescriptorFault) -> Shown<'_>
-    ensures { shown_text result ≡ fault_text fault.now }
+fn numbered(fault: &FileFault) -> Shown<'_>
+    ensures { shown_text result ≡ fault_text fault.now.found.fault }
 {
     Shown {
-        code: fault.code.number(),
-        key: shown_key(fault.key.as_str()),
+        code: fault.fault().code.number(),
+        key: shown_key(fault),
     }
 }
 
-/// Returns the key, or `-` if it is empty.
-fn shown_key(key: &str) -> &str
-    ensures { result.now ≡ key_text key.now }
+/// Returns the key of a fault, or `-` if it is empty.
+fn shown_key(fault: &FileFault) -> &str
+    ensures { result.now ≡ key_text fault.now.found.fault.key }
 {
-    if key.is_empty() { "-" } else { key }
+    if fault.fault().key.as_str().is_empty() {
+        "-"
+    } else {
+        fault.key()
+    }
 }
 
 impl fmt::Debug for CommandFault {

@@ -1,8 +1,10 @@
 //! The contexts of a server, from the texts of its files.
 
-ghost use Rattle.std.specs.Prelude.{Err, IfOk};
+ghost use Rattle.std.specs.Prelude.{◌≤◌, Err, IfOk, length};
 ghost use Rattle.sv_text.specs.Gives.{Gives};
 ghost use Rattle.sv_descriptor.specs.Server.{IsWellFormedServer};
+ghost use Rattle.sv_descriptor.specs.Users.{seen};
+ghost use Rattle.sv_descriptor.specs.declared.limits.TheConstants.{MAX_LIST_ITEMS};
 ghost use Rattle.sv_program.specs.CommandFault.{command_fault};
 ghost use Rattle.sv_program.specs.Configuration as spec;
 ghost use Rattle.sv_program.specs.declared.command_fault.CommandFault.TheVariants.{File};
@@ -16,7 +18,7 @@ use sv_descriptor::{
     ContextEntry, Descriptor, LocatedReadFault, Server, read_located_descriptor,
     read_located_server, read_located_users,
 };
-use sv_realm::Realm;
+use sv_realm::{Realm, User};
 use sv_text::Text;
 
 /// A context of a server file, with the texts of the files that it names.
@@ -80,24 +82,36 @@ pub fn descriptor_in(alloc: Global, texts: &ContextTexts) -> Result<Descriptor, 
 ///
 /// # Errors
 /// [`CommandFault::File`] if the file is not available, [`CommandFault::Users`], or [`CommandFault::NoMemory`].
-pub fn realm_in(alloc: Global, texts: &ContextTexts) -> Result<Realm, CommandFault>
-    ensures { Gives command_fault result (spec.users_in texts.now) }
+pub fn users_in(alloc: Global, texts: &ContextTexts) -> Result<Vec<User>, CommandFault>
+    ensures gives { Gives command_fault (seen result) (spec.users_in texts.now) }
+    ensures few { IfOk result (λ users. length users.items ≤ MAX_LIST_ITEMS) }
 {
     let Some(name) = &texts.context.users else {
-        return Ok(Realm::from_users(alloc, Vec::new(alloc))?);
+        return Ok(Vec::new(alloc));
     };
     let text = match &texts.users {
         Ok(text) => text,
         Err(why) => return unavailable(alloc, name.as_str(), *why),
     };
     match read_located_users(alloc, text.as_str()) {
-        Ok(users) => Ok(Realm::from_users(alloc, users)?),
+        Ok(users) => Ok(users),
         Err(LocatedReadFault::Fault(found)) => Err(CommandFault::Users {
             fault: FileFault::of(alloc, name.as_str(), text.as_str(), found)?,
             context: Text::copy_of(alloc, texts.context.path.as_str())?,
         }),
         Err(LocatedReadFault::NoMemory) => Err(CommandFault::NoMemory),
     }
+}
+
+/// Reads the users of a context as a realm.
+///
+/// # Errors
+/// As [`users_in`].
+pub fn realm_in(alloc: Global, texts: &ContextTexts) -> Result<Realm, CommandFault>
+    ensures { Gives command_fault result (spec.users_in texts.now) }
+{
+    let users = users_in(alloc, texts)?;
+    Ok(Realm::from_users(alloc, users)?)
 }
 
 /// Returns the fault of a file that is not available.

@@ -24,8 +24,9 @@ pub enum Detail<'a> {
     /// The component whose `init` failed: `  servlet PLACE of its descriptor: init failed`. The place counts the
     /// servlets, or the filters, from 1.
     Component(Place),
-    /// The classes that the program has: `  the program has CLASSES`.
-    Classes(&'a str),
+    /// The place at which an unknown class is named, and the classes that the program has:
+    /// `  PLACE: the program has CLASSES`.
+    Classes(&'a str, &'a str),
     /// The context has no such user. The name is a TOML basic string.
     User(&'a str),
     /// The text is not a method. It is a TOML basic string.
@@ -48,7 +49,7 @@ impl fmt::Display for Detail<'_> {
                 kind_of(*place),
                 number_of(*place)
             ),
-            Detail::Classes(classes) => write!(f, "  the program has {classes}"),
+            Detail::Classes(place, classes) => write!(f, "  {place}: the program has {classes}"),
             Detail::User(shown) => write!(f, "  the context has no user {shown}"),
             Detail::Method(shown) => write!(f, "  the method is not a token: {shown}"),
             Detail::Sentence(sentence) => write!(f, "  {sentence}"),

@@ -1,8 +1,8 @@
-//! The line of a file on which a value begins.
+//! The lines of a file on which a value begins.
 //!
-//! The TOML reader gives no places. So the text is cut after whole lines, and fronts are read: the value begins on the
-//! line after a front that lacks it, if the next front that is TOML has it. Fronts that end inside a value are not TOML,
-//! and are skipped.
+//! The TOML reader gives no places. So the text is cut after whole lines, and fronts are read: the value begins after a
+//! front that lacks it, if the next front that is TOML has it. Fronts that end inside a value are not TOML, and are
+//! skipped.
 
 ghost use Rattle.std.specs.Prelude.{◌≡◌, IfOk, Some, option_copied, option_map, take};
 ghost use Rattle.sv_text.specs.Gives.{GivesAnswer};
@@ -18,14 +18,26 @@ use sv_descriptor::ValueStep;
 use sv_text::NoMemory;
 use toml::Table;
 
-/// Returns the line, from 1, on which the value after these steps begins. There is none if the text has no such value,
-/// or is longer than [`MAX_LOCATED_BYTES`].
-pub(crate) fn file_line(
+/// Lines of a text.
+#[derive(Clone, Copy)]
+pub(crate) struct Region {
+    /// The number of the first line, from 1.
+    pub(crate) line: usize,
+    /// The place at which it begins.
+    pub(crate) start: usize,
+    /// The place after the last line.
+    pub(crate) end: usize,
+}
+
+/// Returns the lines on which the value after these steps begins: those between a front that lacks it and the next one
+/// that has it. There are none if the text has no such value, or is longer than [`MAX_LOCATED_BYTES`].
+pub(crate) fn region_of(
     alloc: Global,
     text: &[u8],
     steps: &[ValueStep],
-) -> Result<Option<usize>, NoMemory>
-    ensures { IfOk result (λ line. spec.IsFileLine text.now steps.now line) }
+) -> Result<Option<Region>, NoMemory>
+    ensures region { IfOk result (λ region. spec.IsRegion text.now steps.now region) }
+    ensures within { IfOk result (λ region. spec.EndsWithin text.now region) }
 {
     if text.len() > MAX_LOCATED_BYTES {
         return Ok(None);
@@ -36,7 +48,7 @@ pub(crate) fn file_line(
         ends: ends.as_slice(),
         steps,
     };
-    fronts.line(alloc)
+    fronts.region(alloc)
 }
 
 /// Returns the lengths of the fronts of whole lines: 0, then up to each line feed, then the whole text.
@@ -78,6 +90,13 @@ pub(crate) enum Found {
     Has(usize),
 }
 
+/// Two numbers of lines.
+#[derive(Clone, Copy)]
+pub(crate) struct Bounds {
+    low: usize,
+    high: usize,
+}
+
 /// The fronts of a text up to these ends, and the steps to a value.
 #[derive(Clone, Copy)]
 struct Fronts<'a> {
@@ -91,10 +110,11 @@ impl Fronts<'_> {
     ghost use Rattle.sv_text.specs.Gives.{GivesAnswer};
     ghost use Rattle.sv_program.specs.FileLine as spec;
 
-    /// Returns the line on which the value begins.
-    fn line(&self, alloc: Global) -> Result<Option<usize>, NoMemory>
+    /// Returns the lines on which the value begins.
+    fn region(&self, alloc: Global) -> Result<Option<Region>, NoMemory>
         requires { self.now.ends.now ≡ spec.line_ends self.now.text.now }
-        ensures { IfOk result (λ line. length self.now.text.now ≤ MAX_LOCATED_BYTES → spec.IsFileLine self.now.text.now self.now.steps.now line) }
+        ensures region { IfOk result (λ region. length self.now.text.now ≤ MAX_LOCATED_BYTES → spec.IsRegion self.now.text.now self.now.steps.now region) }
+        ensures within { IfOk result (λ region. spec.EndsWithin self.now.text.now region) }
     {
         let last = self.ends.len() - 1;
         let Presence::Lacking = self.presence_at(alloc, 0)? else {
@@ -106,15 +126,20 @@ impl Fronts<'_> {
         if last == 0 {
             return Ok(None);
         }
-        Ok(Some(self.lines_before(alloc, last)? + 1))
+        let bounds = self.bounds(alloc, last)?;
+        Ok(Some(Region {
+            line: bounds.low + 1,
+            start: self.ends[bounds.low],
+            end: self.ends[bounds.high],
+        }))
     }
 
-    /// Returns the number of lines before the value, if the front of no lines lacks it and the front of `last` lines has
-    /// it.
-    fn lines_before(&self, alloc: Global, last: usize) -> Result<usize, NoMemory>
+    /// Returns the lines before the value, and those of the next front that has it, if the front of no lines lacks it and
+    /// the front of `last` lines has it.
+    fn bounds(&self, alloc: Global, last: usize) -> Result<Bounds, NoMemory>
         requires within { last < length self.now.ends.now }
         requires narrowed { spec.IsNarrowed (spec.presence_to self.now.steps.now self.now.text.now self.now.ends.now) 0 0 last }
-        ensures { IfOk result (λ number. spec.BeginsAfter (spec.presence_to self.now.steps.now self.now.text.now self.now.ends.now) last number) }
+        ensures { IfOk result (λ bounds. spec.BeginsBetween (spec.presence_to self.now.steps.now self.now.text.now self.now.ends.now) last bounds.low bounds.high) }
     {
         let mut low = 0;
         let mut bound = 0;
@@ -130,7 +155,7 @@ impl Fronts<'_> {
                 Found::Has(number) => high = number,
             }
         }
-        Ok(low)
+        Ok(Bounds { low, high })
     }
 
     /// Returns the longest front of more than `bound` and at most `middle` lines that is a TOML document.
@@ -160,7 +185,7 @@ impl Fronts<'_> {
 }
 
 /// Returns the first `count` bytes of a text, or all of them.
-fn front(text: &[u8], count: usize) -> &[u8]
+pub(crate) fn front(text: &[u8], count: usize) -> &[u8]
     ensures { result.now ≡ take count text.now }
 {
     if count < text.len() {
@@ -190,7 +215,7 @@ fn presence_in(table: &Table, steps: &[ValueStep]) -> Presence
 }
 
 /// Returns the table of these bytes, if they are a TOML document.
-fn table_of(alloc: Global, bytes: &[u8]) -> Result<Option<Table>, NoMemory>
+pub(crate) fn table_of(alloc: Global, bytes: &[u8]) -> Result<Option<Table>, NoMemory>
     ensures { IfOk result (λ table. option_map table_view table ≡ spec.table_of bytes.now) }
 {
     match text_of(bytes) {

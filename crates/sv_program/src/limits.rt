@@ -14,14 +14,19 @@ pub const MAX_SHOWN_CHARACTERS: usize = 80;
 /// Maximum number of bytes of a file in which the line of a fault is searched for.
 pub const MAX_LOCATED_BYTES: usize = 65_536;
 
+/// Maximum number of bytes of the places that are tried for the column of a fault, times the bytes of the file.
+pub const MAX_SAMPLED_BYTES: usize = 8_388_608;
+
 /// The limits of this crate as numbers.
 pub fn limits_are_as_stated()
     ensures input { MAX_INPUT_BYTES ≡ 65536 }
     ensures file { MAX_FILE_BYTES ≡ 134217728 }
 {}
 
-/// At most 80 characters of a text are shown. The line of a fault is searched for in files of at most 64 KiB.
+/// At most 80 characters of a text are shown. The line of a fault is searched for in files of at most 64 KiB, and its
+/// column in lines whose bytes times those of the file are at most 8 MiB.
 pub fn limits_of_the_second_line()
     ensures characters { MAX_SHOWN_CHARACTERS ≡ 80 }
     ensures bytes { MAX_LOCATED_BYTES ≡ 65536 }
+    ensures samples { MAX_SAMPLED_BYTES ≡ 8388608 }
 {}

@@ -6,18 +6,22 @@ ghost use Rattle.sv_text.specs.Gives.{GivesAnswer};
 ghost use Rattle.toml.specs.Parse.{parse_document};
 ghost use Rattle.sv_program.specs.Detail as spec;
 ghost use Rattle.sv_program.specs.Offending.{offending as offending_value};
+ghost use Rattle.sv_program.specs.Sentence.{sentence as spec_sentence};
 
-use crate::file_line::file_line;
+use crate::file_place::spot_text;
 use crate::offending_value::offending;
 use crate::place::{column_behind, line_behind};
 use crate::sentence::{back, front};
+use crate::taken::taken;
+use crate::toml_value::printed_key;
+use crate::value_place::spot_of;
 use std::alloc::Global;
-use sv_descriptor::{DescriptorFault, FaultCode, LocatedFault};
+use sv_descriptor::{FaultCode, LocatedFault};
 use sv_text::{NoMemory, Text};
 
 /// Returns the second line of a fault of the file of this name and text, without its line feed. If the text is not
 /// valid TOML, it has the line and column at which the parser stops, and the parser's message. Any other fault has the
-/// line on which the offending value begins, the problem, and the value.
+/// place at which the offending value begins, the problem, and the value.
 pub(crate) fn detail_line(
     alloc: Global,
     name: &str,
@@ -27,7 +31,7 @@ pub(crate) fn detail_line(
     ensures { IfOk result (spec.IsLine name.now text.now found.now) }
 {
     match found.fault.code {
-        FaultCode::NotToml => text_line(alloc, name, text, &found.fault),
+        FaultCode::NotToml => text_line(alloc, name, text, found),
         _ => value_line(alloc, name, text, found),
     }
 }
@@ -36,9 +40,10 @@ pub(crate) fn detail_line(
 fn value_line(alloc: Global, name: &str, text: &str, found: &LocatedFault) -> Result<Text, NoMemory>
     ensures { IfOk result (spec.IsProblemLine name.now text.now found.now) }
 {
-    let line = file_line(alloc, text.as_bytes(), found.steps.as_slice())?;
+    let spot = spot_of(alloc, text.as_bytes(), found.steps.as_slice())?;
+    let place = spot_text(alloc, text.as_bytes(), spot)?;
     let value = value_shown(alloc, text, found)?;
-    problem_line(alloc, name, line, &found.fault, value)
+    problem_line(alloc, name, place.as_str(), found, value)
 }
 
 /// Returns the offending value of a fault as it is shown, if the text is TOML.
@@ -53,16 +58,11 @@ fn value_shown(alloc: Global, text: &str, found: &LocatedFault) -> Result<Option
 }
 
 /// Returns the line of a text that was not valid TOML.
-fn text_line(
-    alloc: Global,
-    name: &str,
-    text: &str,
-    fault: &DescriptorFault,
-) -> Result<Text, NoMemory>
-    ensures { IfOk result (spec.IsTextLine name.now text.now fault.now) }
+fn text_line(alloc: Global, name: &str, text: &str, found: &LocatedFault) -> Result<Text, NoMemory>
+    ensures { IfOk result (spec.IsTextLine name.now text.now found.now) }
 {
     let Err(error) = toml::table_from_str(alloc, text) else {
-        return problem_line(alloc, name, None, fault, None);
+        return problem_line(alloc, name, "", found, None);
     };
     let Some(span) = error.span() else {
         return Err(NoMemory);
@@ -86,33 +86,32 @@ fn line_with_place(
     Ok(Text::from_string(text))
 }
 
-/// Returns the line with the problem: on this line of the file, if it is known, and with this value, if it is shown.
+/// Returns the line with the problem: at this place of the file, and with this value, if it is shown.
 fn problem_line(
     alloc: Global,
     name: &str,
-    line: Option<usize>,
-    fault: &DescriptorFault,
+    place: &str,
+    found: &LocatedFault,
     value: Option<Text>,
 ) -> Result<Text, NoMemory>
-    ensures { GivesAnswer result (spec.problem_line name.now line fault.now value) }
+    ensures { GivesAnswer result (spec.problem_line name.now place.now found.now value) }
 {
-    let place = line_text(alloc, line)?;
-    let front = front(fault.code);
-    let key = fault.key.as_str();
-    let back = back(fault.code);
+    let sentence = sentence(alloc, found)?;
     let value = value_text(alloc, value)?;
-    let text = format!(in alloc; "  {name}{place}: {front}{key}{back}{value}")?;
+    let text = format!(in alloc; "  {name}{place}: {sentence}{value}")?;
     Ok(Text::from_string(text))
 }
 
-/// Returns the number of a line, after a colon.
-fn line_text(alloc: Global, line: Option<usize>) -> Result<Text, NoMemory>
-    ensures { GivesAnswer result (spec.line_text line) }
+/// Returns the problem in words.
+fn sentence(alloc: Global, found: &LocatedFault) -> Result<Text, NoMemory>
+    ensures { GivesAnswer result (spec_sentence found.now) }
 {
-    match line {
-        Some(line) => Ok(Text::from_string(format!(in alloc; ":{line}")?)),
-        None => Text::copy_of(alloc, ""),
-    }
+    let front = front(found.fault.code);
+    let key = printed_key(alloc, found.fault.key.as_str())?;
+    let back = back(found.fault.code);
+    let taken = taken(found);
+    let text = format!(in alloc; "{front}{key}{back}{taken}")?;
+    Ok(Text::from_string(text))
 }
 
 /// Returns the offending value, after a colon and a space.

@@ -20,10 +20,10 @@ pub(crate) fn front(code: FaultCode) -> &'static str
         FaultCode::UnknownFilter => "no filter is declared by the name at `",
         FaultCode::BothMethodLists => "methods are listed beside `",
         FaultCode::ReservedRole => "a role at `",
-        FaultCode::BadTimeout => "the time at `",
+        FaultCode::BadTimeout => "the value of `",
         FaultCode::BadValue => "the value of `",
         FaultCode::DuplicateName => "the name at `",
-        FaultCode::TooMany => "the list at `",
+        FaultCode::TooMany => "the value of `",
     }
 }
 
@@ -35,16 +35,16 @@ pub(crate) fn back(code: FaultCode) -> &'static str
         FaultCode::NotToml => "",
         FaultCode::UnknownKey => "` is not known here",
         FaultCode::MissingKey => "` is missing",
-        FaultCode::WrongType => "` is of a wrong type",
+        FaultCode::WrongType => "` is not ",
         FaultCode::BadPattern => "`",
         FaultCode::DuplicatePattern => "` was mapped before",
         FaultCode::UnknownServlet => "`",
         FaultCode::UnknownFilter => "`",
         FaultCode::BothMethodLists => "`",
         FaultCode::ReservedRole => "` is `*` or `**`, which have a meaning of their own",
-        FaultCode::BadTimeout => "` is longer than a year",
-        FaultCode::BadValue => "` is out of its range, or not one of those that are known",
+        FaultCode::BadTimeout => "` is not ",
+        FaultCode::BadValue => "` is not ",
         FaultCode::DuplicateName => "` was given before",
-        FaultCode::TooMany => "` is longer than its limit",
+        FaultCode::TooMany => "` is not ",
     }
 }

@@ -93,6 +93,34 @@ fn push_character(text: &mut String, character: char) -> Result<(), NoMemory>
     }
 }
 
+/// Returns a key as it is printed: its control characters are escaped.
+pub(crate) fn printed_key(alloc: Global, key: &str) -> Result<Text, NoMemory>
+    ensures { GivesAnswer result (spec.printed_key key.now) }
+{
+    let characters = characters(alloc, key)?;
+    on_one_line(alloc, characters.as_slice())
+}
+
+fn on_one_line(alloc: Global, characters: &[char]) -> Result<Text, NoMemory>
+    ensures { GivesAnswer result (flat_map spec.line_character characters.now) }
+{
+    let mut text = String::new(alloc);
+    for character in characters {
+        push_on_line(&mut text, *character)?;
+    }
+    Ok(Text::from_string(text))
+}
+
+fn push_on_line(text: &mut String, character: char) -> Result<(), NoMemory>
+    ensures { OnOk result (string_bytes text.new ≡ string_bytes text.old ++ spec.line_character character) }
+{
+    if character.is_control() {
+        push_escape(text, character as u32)
+    } else {
+        Ok(text.push(character)?)
+    }
+}
+
 fn is_escaped(character: char) -> bool
     ensures { result ≡ spec.is_escaped character }
 {

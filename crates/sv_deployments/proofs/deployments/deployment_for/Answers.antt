@@ -15,7 +15,7 @@ returns-in_err-descriptor c =
     let texts = c.args.texts.now in
     let read = c.in_ok-read.read in
     let failed = fault_beside read c.parts_in-parts.result c.in_err-descriptor.field-0.0 c.in_err-descriptor.ensures in
-    ends deployment c.in_err-descriptor.field-0.0 c.from_residual-in_err-descriptor.result (components_in read.0.0) (deployment_for texts c.args.files)
+    ends deployment c.in_err-descriptor.field-0.0 c.from_residual-in_err-descriptor.result (components_in texts read.0.0) (deployment_for texts c.args.files)
     (λ found h. rw (as_read texts c.args.files, c.in_ok-read.ensures, h) refl) (rw failed at c.parts_in-parts.ensures) c.from_residual-in_err-descriptor.ensures.1
 
 pub returns : goal.returns

@@ -13,5 +13,5 @@ returns c =
     let within : place ≤ length text = search rules in
     let placed = line_with_place c.args.name.now (take place text) words in
     let exact : IfOk c.line_with_place.result (λ line. line ≡ placed) = search rules in
-    let told = IsTextLine c.args.name.now text c.args.fault.now in
+    let told = IsTextLine c.args.name.now text c.args.found.now in
     IfOk-weaker c.line_with_place.result (λ line. line ≡ placed) told (λ line same. rw refused (place, words, within, same)) exact
