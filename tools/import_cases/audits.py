@@ -36,9 +36,10 @@ files = ""
 SHOP = SERVER.replace('path = ""', 'path = "/shop"')
 LINES = f"{NAME}\n3\n7\nrole 12\n"
 USAGE = """sv audit WEB.XML [OPTION ..]
-    imports the web.xml, and shows who may enter where by it; sets --lines, and has two more options:
+    imports the web.xml, and shows who may enter where by it; sets --lines, and has three more options:
     --users FILE            the users: a tomcat-users.xml, or a users file
     --context PATH          the context path; the root without it
+    --files FOLDER          the folder of the application, which has its files and its login page
 help
 audit
 """
@@ -89,6 +90,13 @@ def audits_that_pass() -> Iterator[tuple[list[str], str]]:
     yield (
         [NAME, "--users", "our.toml"],
         shown(words, {**web, "FOLDER/web/server.toml": SERVER + 'users = "ROOM/our.toml"\n'}),
+    )
+    yield (
+        [NAME, "--files", "pages/../app"],
+        shown(
+            words,
+            {**web, "FOLDER/web/server.toml": SERVER.replace('files = ""', 'files = "ROOM/app"')},
+        ),
     )
     diff = ["--secure", "--diff", "FOLDER/other/server.toml", "--as", "ann"]
     yield (

@@ -213,13 +213,13 @@ def _check_length(key: str, length: int, told: Told) -> None:
         )
 
 
-def server_text(seed: str, context: str, users: str) -> str:
+def server_text(seed: str, context: str, users: str, files: str = "") -> str:
     """The server file for a descriptor `web.toml`, at a port that is free when it is served."""
     server: dict[str, Value] = {"port": 0, "seed": seed}
     table: dict[str, Value] = {
         "path": context,
         "descriptor": "web.toml",
-        "files": "",
+        "files": files,
         **({"users": users} if users else {}),
     }
     return (

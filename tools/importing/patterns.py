@@ -32,7 +32,17 @@ def is_pattern_told(pattern: Element, rank: Rank, told: Told) -> bool:
             pattern.line,
             f"url-pattern {shortened(pattern.text)} is compared as it is written; Tomcat decodes it first",
         )
+    if "*" in _without_wildcard(pattern.text):
+        told.tell(
+            rank,
+            pattern.line,
+            f'url-pattern {shortened(pattern.text)} matches only paths with this asterisk: wildcards are only those of "/x/*" and "*.x"',
+        )
     return True
+
+
+def _without_wildcard(pattern: str) -> str:
+    return pattern[1:] if pattern.startswith("*.") else pattern.removesuffix("/*")
 
 
 def can_match(pattern: str) -> bool:

@@ -7,6 +7,7 @@ pub mod Found
 pub mod Shapes
 pub mod Callers
 pub mod CellLemmas
+pub mod IndexLemmas
 pub mod Made
 pub mod FocusLemmas
 pub mod SecureLemmas

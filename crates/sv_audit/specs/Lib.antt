@@ -1,6 +1,7 @@
 pub mod Shapes
 pub mod Same
 pub mod Access
+pub mod MethodIndex
 pub mod Rows
 pub mod Focus
 pub mod Reading

@@ -2,20 +2,18 @@
 
 ghost use Rattle.std.specs.Prelude.{◌≡◌, ◌++◌, ◌∷◌, [], IfOk, OnOk, filter, if◌then◌else◌, map, not};
 ghost use Rattle.std.specs.List.{list_any};
-ghost use Rattle.sv_policy.specs.Covering.{named_methods};
-ghost use Rattle.sv_policy.specs.Uncovered.{rising};
 ghost use Rattle.sv_text.specs.Gives.{GivesAnswer};
+ghost use Rattle.sv_audit.specs.MethodIndex.{indexed_cell};
 ghost use Rattle.sv_audit.specs.Rows.{different_cells, group_with, groups_of, named_cell, row_at};
 ghost use Rattle.sv_audit.specs.Same.{same_cell};
 
 use crate::access::{Cell, same_cell};
 use crate::cells::{cell_at, copied_cell};
 use crate::coverage::covering;
-use crate::order::sorted;
+use crate::method_index::{MethodIndex, method_index};
 use crate::rows::{Group, NamedCell, Row};
 use std::alloc::Global;
 use sv_constraints::{Constraint, Methods, Rules};
-use sv_policy::named_methods;
 use sv_text::{Listed, NoMemory, Text};
 
 /// Returns the row of a pattern, by the constraints on it.
@@ -29,7 +27,8 @@ pub fn row_at(
 {
     let unnamed = covering(alloc, members, pattern, None)?;
     let others = cell_at(alloc, rules, unnamed.as_slice())?;
-    let named = exceptions(alloc, rules, pattern, members, &others)?;
+    let index = method_index(alloc, members, pattern, unnamed.len())?;
+    let named = exceptions(alloc, rules, pattern, &index, &others)?;
     Ok(Row {
         pattern: Some(Text::copy_of(alloc, pattern)?),
         groups: groups_of(alloc, named.as_slice(), others)?,
@@ -41,20 +40,47 @@ fn exceptions(
     alloc: Global,
     rules: &Rules,
     pattern: &str,
-    members: &[&Constraint],
+    index: &MethodIndex<'_>,
     others: &Cell,
 ) -> Result<Vec<NamedCell>, NoMemory>
     ensures { IfOk result (λ named. named.items ≡ filter (λ one. not (same_cell one.cell others.now))
-        (map (named_cell (map (λ member. member.now) members.now) rules.now pattern.now) (rising (named_methods (map (λ member. member.now) members.now) pattern.now)))) }
+        (map (indexed_cell index.now rules.now pattern.now) (map (λ name. name.now) index.now.names.items))) }
 {
-    let names = named_methods(alloc, members, pattern)?;
     let mut named = Vec::new(alloc);
-    for name in sorted(alloc, names.as_slice())?.as_slice() {
-        let covering = covering(alloc, members, pattern, Some(*name))?;
-        let cell = cell_at(alloc, rules, covering.as_slice())?;
+    for name in index.names.as_slice() {
+        let cell = indexed_cell(alloc, rules, pattern, index, *name)?;
         push_exception(&mut named, alloc, *name, cell, others)?;
     }
     Ok(named)
+}
+
+/// Returns the cell of the constraints that cover a method.
+fn indexed_cell(
+    alloc: Global,
+    rules: &Rules,
+    pattern: &str,
+    index: &MethodIndex<'_>,
+    name: &str,
+) -> Result<Cell, NoMemory>
+    ensures { GivesAnswer result (indexed_cell index.now rules.now pattern.now name.now).cell }
+{
+    match index.on(name) {
+        Some(members) => covering_cell(alloc, rules, pattern, members.as_slice(), name),
+        None => covering_cell(alloc, rules, pattern, &[], name),
+    }
+}
+
+fn covering_cell(
+    alloc: Global,
+    rules: &Rules,
+    pattern: &str,
+    members: &[&Constraint],
+    name: &str,
+) -> Result<Cell, NoMemory>
+    ensures { GivesAnswer result (named_cell (map (λ member. member.now) members.now) rules.now pattern.now name.now).cell }
+{
+    let covering = covering(alloc, members, pattern, Some(name))?;
+    cell_at(alloc, rules, covering.as_slice())
 }
 
 /// Appends a method with its cell, unless that is the cell of the others.

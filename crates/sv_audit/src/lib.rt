@@ -15,6 +15,7 @@ mod forms;
 mod groups;
 mod laws;
 mod meetings;
+mod method_index;
 mod method_sets;
 mod narrower_patterns;
 mod narrowing;

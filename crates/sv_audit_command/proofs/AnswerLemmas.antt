@@ -1,15 +1,16 @@
 -- What answers the paths of rows.
-use Rattle.std.proofs.Common.{◌≡◌, ◌∙◌, ◌≤◌, ℕ, zero, suc, ◌+◌, Bool, true, false, cond, ◌&&◌, ◌||◌, List, [], ◌∷◌, ◌++◌, length, length-append, map, refl, sym, ap, subst, arith, inl, inr, Option, Some, None, nat_lt}
-use Rattle.std.specs.Prelude.{filter, is_some, option_and_then, position, slice_get, IsTrue}
+use Rattle.std.proofs.Common.{◌≡◌, ◌∙◌, ◌≤◌, ℕ, zero, suc, ◌+◌, Bool, true, false, not, cond, ◌&&◌, ◌||◌, List, [], ◌∷◌, ◌++◌, length, length-append, map, refl, sym, ap, subst, arith, inl, inr, Option, Some, None, nat_lt}
+use Rattle.std.specs.Prelude.{filter, is_some, option_and_then, position, slice_get}
 use Rattle.std.specs.List.{list_any}
 use Rattle.std.specs.Option.{option_map}
 use Rattle.std.specs.Str.{bytes_eq}
-use Rattle.std.proofs.lemmas.Bool.{and_from, both_ways, cases_Bool, false≢true, or_cases, or_left, or_right}
+use Rattle.std.proofs.lemmas.Bool.{and_from, both_ways, false≢true, not-true, or_cases, or_left, or_right}
 use Rattle.std.proofs.lemmas.List.Folds.{list_any-append}
 use Rattle.std.proofs.lemmas.Slice.Eq.{bytes_eq-Decides}
 use Rattle.sv_mapping.proofs.Tried.{In, In-map, In-map_from}
-use Rattle.sv_mapping.specs.BestMatch.{BestStandsFirst, best, best_pattern}
+use Rattle.sv_mapping.specs.BestMatch.{BestIsAMatch, BestStandsFirst, best, best_pattern}
 use Rattle.sv_mapping.specs.Segments.{is_rooted, is_slashed}
+use Rattle.sv_uri.specs.Shape.{CanonicalHasShape}
 use Rattle.sv_constraints.specs.Covering.{all_patterns, lists}
 use Rattle.sv_constraints.specs.declared.constraint.Constraint.{Constraint}
 use Rattle.sv_descriptor.specs.declared.servlet.ServletMapping.{ServletMapping}
@@ -19,12 +20,13 @@ use Rattle.sv_policy.specs.Uncovered.{rising}
 use Rattle.sv_audit.proofs.DifferenceLemmas.{in_kept}
 use Rattle.sv_audit.proofs.MeetingLemmas.{same_decides, same_itself}
 use Rattle.sv_audit.proofs.Represented.{in_listed}
+use Rattle.sv_audit.proofs.Shapes.{IsShaped, nothing_matches, served_shaped}
 use Rattle.sv_audit.specs.Reading.{is_same}
 use Rattle.sv_audit.specs.Representatives.{EachPathIsRepresented, directories, endings, free_paths, named_paths, representatives}
 use Rattle.sv_report.specs.declared.report.Answers.{Answers}
 use Rattle.sv_audited_contexts.specs.ServletPatterns.{mapped_patterns}
 use Rattle.sv_audit_command.specs.ContextPatterns.{context_patterns, name_at, servlet_at}
-use Rattle.sv_audit_command.specs.RowAnswers.{AnswersAreComplete, AnswersAreListed, AnswersAreRight, answered_among, answered_path, answers_among, answers_in, answers_of, have_answer, includes, is_at, is_pathless, servlet_in}
+use Rattle.sv_audit_command.specs.RowAnswers.{AnswersAreComplete, AnswersAreListed, AnswersAreRight, answered_among, answered_path, answers_among, answers_in, answers_of, have_answer, includes, is_answered, is_at, is_pathless, servlet_in}
 use Rattle.sv_audit_command.specs.declared.context_patterns.ContextPatterns.{ContextPatterns}
 use Rattle.sv_audit_command.specs.declared.context_patterns.TheConstants.{MAX_ANSWERED_PATTERNS}
 use Rattle.sv_audit_command.specs.declared.row_answers.AnsweredPath.{AnsweredPath}
@@ -122,12 +124,15 @@ module _ (constraints : List Constraint) (mappings : List ServletMapping) where
   all = all_patterns constraints ++ mapped_patterns mappings
 
   -- The tried paths are the representatives, unless there are too many patterns.
+  abbrev tried_paths : List (List ℕ)
+  tried_paths = filter (is_answered patterns) (representatives all)
+
   listed_from : (pattern : Option (List ℕ)) (answers : Answers) → answers_in constraints mappings pattern ≡ Some answers
-      → answers ≡ answers_of (rising patterns.names) (filter (is_at pattern) (map (answered_path patterns) (representatives all)))
+      → answers ≡ answers_of (rising patterns.names) (filter (is_at pattern) (map (answered_path patterns) tried_paths))
   listed_from pattern answers is = go (is_pathless pattern) (nat_lt MAX_ANSWERED_PATTERNS (length all)) is
     where
       go : (pathless many : Bool) → cond pathless None (option_map (answers_among pattern) (option_map (answered_among patterns) (cond many None (Some (representatives all))))) ≡ Some answers
-          → answers ≡ answers_of (rising patterns.names) (filter (is_at pattern) (map (answered_path patterns) (representatives all)))
+          → answers ≡ answers_of (rising patterns.names) (filter (is_at pattern) (map (answered_path patterns) tried_paths))
       go true many none = absurd cc
       go false true none = absurd cc
       go false false some = sym (some_same _ _ some)
@@ -146,12 +151,19 @@ module _ (constraints : List Constraint) (mappings : List ServletMapping) where
   within_right : (text : List ℕ) → lists (mapped_patterns mappings) text ≡ true → lists all text ≡ true
   within_right text there = list_any-append (λ one. bytes_eq one text) (all_patterns constraints) (mapped_patterns mappings) ∙ or_right _ _ there
 
-  complete_at : BestStandsFirst → EachPathIsRepresented → (answers : Answers) (path : List ℕ) → is_rooted path ≡ true
+  -- The pattern of the servlet of a shaped path matches a canonical path.
+  live_at : BestIsAMatch → (path : List ℕ) → IsShaped path → (found : Option (List ℕ)) → best_pattern (mapped_patterns mappings) path ≡ found → is_pathless found ≡ false
+  live_at matched path shaped None is = refl
+  live_at matched path shaped (Some pattern) is = nothing_matches pattern path shaped (matched (mapped_patterns mappings) path pattern is).1
+
+  complete_at : BestStandsFirst → BestIsAMatch → EachPathIsRepresented → (answers : Answers) (path : List ℕ) → IsShaped path
       → answers_in constraints mappings (best_pattern (all_patterns constraints) path) ≡ Some answers → includes answers (servlet_in constraints mappings path) ≡ true
-  complete_at first represented answers path rooted is =
-      let it = represented all path rooted in
-      let has = tried patterns (representatives all) it.0 (best_pattern (all_patterns constraints) path) (servlet_at patterns path)
-      (in_listed (representatives all) it.0 it.1) (it.2 (all_patterns constraints) within_left)
+  complete_at first matched represented answers path shaped is =
+      let it = represented all path shaped.rooted in
+      let answered : is_answered patterns it.0 ≡ true =
+      ap (λ found. not (is_pathless found)) (it.2 (mapped_patterns mappings) within_right) ∙ ap not (live_at matched path shaped (best_pattern (mapped_patterns mappings) path) refl) in
+      let has = tried patterns tried_paths it.0 (best_pattern (all_patterns constraints) path) (servlet_at patterns path)
+      (in_kept (is_answered patterns) it.0 (representatives all) (in_listed (representatives all) it.0 it.1) answered) (it.2 (all_patterns constraints) within_left)
       (servlet_same first it.0 path (it.2 (mapped_patterns mappings) within_right)) in
       ap (λ found. includes found (servlet_at patterns path)) (listed_from (best_pattern (all_patterns constraints) path) answers is)
       ∙ included_by patterns _ (servlet_at patterns path) (λ name its. named_at patterns (best (mapped_patterns mappings) path) name its) has
@@ -159,13 +171,19 @@ module _ (constraints : List Constraint) (mappings : List ServletMapping) where
   slashed_at : (path : List ℕ) → In path (representatives all) → is_rooted path ≡ true
   slashed_at path there = or_right _ _ (kept_in is_slashed path (free_paths (named_paths all) (endings all) (directories all) ++ named_paths all) there).1
 
+  not_pathless : (pattern : Option (List ℕ)) (answers : Answers) (pathless : Bool) (found : Option Answers) → cond pathless None found ≡ Some answers → pathless ≡ false
+  not_pathless pattern answers true found is = absurd cc
+  not_pathless pattern answers false found is = refl
+
   right_at : (pattern : Option (List ℕ)) (answers : Answers) (servlet : Option (List ℕ)) → answers_in constraints mappings pattern ≡ Some answers → includes answers servlet ≡ true
       → (path : List ℕ) × (is_rooted path ≡ true) × (best_pattern (all_patterns constraints) path ≡ pattern) × (servlet_in constraints mappings path ≡ servlet)
+      × (is_pathless pattern ≡ false) × (is_pathless (best_pattern (mapped_patterns mappings) path) ≡ false)
   right_at pattern answers servlet is included =
       let made = listed_from pattern answers is in
       let has = has_included patterns (rising patterns.names) _ servlet (sym (ap (λ found. includes found servlet) made) ∙ included) in
-      let from = tried_from patterns (representatives all) pattern servlet has in
-      (from.0, slashed_at from.0 from.1, from.2, from.3)
+      let from = tried_from patterns tried_paths pattern servlet has in
+      let kept = kept_in (is_answered patterns) from.0 (representatives all) from.1 in
+      (from.0, slashed_at from.0 kept.0, from.2, from.3, not_pathless pattern answers (is_pathless pattern) _ is, not-true _ kept.1)
 
   listed_at : (pattern : Option (List ℕ)) → length (all_patterns constraints) + length (mapped_patterns mappings) ≤ MAX_ANSWERED_PATTERNS → is_pathless pattern ≡ false
       → is_some (answers_in constraints mappings pattern) ≡ true
@@ -183,8 +201,8 @@ module _ (constraints : List Constraint) (mappings : List ServletMapping) where
       go false true has many = absurd (not_many many)
       go false false has few = refl
 
-pub answers_complete : BestStandsFirst → EachPathIsRepresented → AnswersAreComplete
-answers_complete first represented constraints mappings answers path rooted is = complete_at constraints mappings first represented answers path rooted is
+pub answers_complete : BestStandsFirst → BestIsAMatch → CanonicalHasShape → EachPathIsRepresented → AnswersAreComplete
+answers_complete first matched shapes represented constraints mappings answers path served is = complete_at constraints mappings first matched represented answers path (served_shaped shapes path served) is
 
 pub answers_right : AnswersAreRight
 answers_right constraints mappings pattern answers servlet is included = right_at constraints mappings pattern answers servlet is included

@@ -10,7 +10,7 @@ use Rattle.sv_program.specs.Configuration.{Step, server_in}
 use Rattle.sv_program.specs.ConfigurationFiles.{ReadsContexts, ReadsServer}
 use Rattle.sv_program.specs.FileStore.{AreRead, FileText, Giving, Reading}
 use Rattle.sv_program.specs.declared.command_fault.CommandFault.{CommandFault}
-use Rattle.sv_program.specs.declared.command_fault.CommandFault.TheVariants.{Input, Output, File, Server as ServerFault, Descriptor, Users, Class, Files, Start, Socket, Script, User, Method, NoMemory, Findings}
+use Rattle.sv_program.specs.declared.command_fault.CommandFault.TheVariants.{Input, Output, File, Server as ServerFault, Descriptor, Users, Class, Files, Start, Socket, Script, User, Method, NoMemory, Findings, Faults}
 use Rattle.sv_program.specs.declared.configuration.ContextTexts.{ContextTexts}
 use Rattle.sv_program.specs.declared.unavailable.Unavailable.TheVariants.{Missing}
 use Rattle.sv_text.specs.Gives.{Gives}
@@ -103,7 +103,7 @@ ends (File name why) report old new are h = rw h refl
 ends (ServerFault faulty) report old new are h = rw h refl
 ends (Descriptor context faulty) report old new are h = rw h refl
 ends (Users context faulty) report old new are h = rw h refl
-ends (Class name known) report old new are h = rw h refl
+ends (Class name place known) report old new are h = rw h refl
 ends (Files context found) report old new are h = rw h refl
 ends (Start code context) report old new are h = rw h refl
 ends (Socket found) report old new are h = rw h refl
@@ -112,6 +112,7 @@ ends (User shown) report old new are h = rw h refl
 ends (Method shown) report old new are h = rw h refl
 ends NoMemory report old new are h = tt
 ends (Findings count) report old new are h = absurd (are (Findings count) h)
+ends (Faults count) report old new are h = rw h refl
 
 module _ {S : Type 0} (gives : Giving S) (walks : FolderGiving S) (options : AccessOptions) (config : List ℕ) where
   pub fault_ends : (fault : CommandFault) (result : Result (Unit {0}) CommandFault) (before after : S) (old new : Option (List ℕ))
@@ -144,7 +145,7 @@ late Unwritten report (Err (File name why)) old new is = absurd is
 late Unwritten report (Err (ServerFault faulty)) old new is = absurd is
 late Unwritten report (Err (Descriptor context faulty)) old new is = absurd is
 late Unwritten report (Err (Users context faulty)) old new is = absurd is
-late Unwritten report (Err (Class name known)) old new is = absurd is
+late Unwritten report (Err (Class name place known)) old new is = absurd is
 late Unwritten report (Err (Files context found)) old new is = absurd is
 late Unwritten report (Err (Start code context)) old new is = absurd is
 late Unwritten report (Err (Socket found)) old new is = absurd is
@@ -153,3 +154,4 @@ late Unwritten report (Err (User shown)) old new is = absurd is
 late Unwritten report (Err (Method shown)) old new is = absurd is
 late Unwritten report (Err NoMemory) old new is = absurd is
 late Unwritten report (Err (Findings count)) old new is = λ before. absurd before
+late Unwritten report (Err (Faults count)) old new is = absurd is

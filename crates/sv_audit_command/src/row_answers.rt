@@ -1,6 +1,6 @@
 //! What answers the paths of rows: servlets, or files (Jakarta Servlet 6.0, sections 12.1 and 12.2).
 
-ghost use Rattle.std.specs.Prelude.{◌≡◌, ◌++◌, IfOk, OnOk, filter, map, option_copied};
+ghost use Rattle.std.specs.Prelude.{◌≡◌, ◌++◌, ◌∷◌, [], IfOk, OnOk, filter, if◌then◌else◌, map, option_copied};
 ghost use Rattle.std.specs.List.{list_any};
 ghost use Rattle.sv_audit.specs.Reading as reading;
 ghost use Rattle.sv_mapping.specs.BestMatch.{best_pattern};
@@ -13,9 +13,10 @@ use std::alloc::Global;
 use sv_audit::{
     best_text, copied_texts, each_path_is_represented, is_same, matches_nothing, sorted,
 };
-use sv_mapping::laws::best_stands_first;
+use sv_mapping::laws::{best_is_a_match, best_stands_first};
 use sv_report::Answers;
 use sv_text::{Listed, NoMemory, Text};
+use sv_uri::laws::canonical_has_shape;
 
 /// A path, by the pattern of its row and the servlet that answers it. Without one files answer it.
 #[derive(Drop)]
@@ -83,13 +84,39 @@ fn all_answered(
     patterns: &ContextPatterns,
     paths: &[Text],
 ) -> Result<Listed<AnsweredPath>, NoMemory>
-    ensures { GivesAnswer result (map (spec.answered_path patterns.now) paths.now) }
+    ensures { GivesAnswer result (map (spec.answered_path patterns.now) (filter (spec.is_answered patterns.now) paths.now)) }
 {
-    let mut answered = Vec::with_capacity(alloc, paths.len())?;
+    let mut answered = Vec::new(alloc);
     for path in paths {
-        answered.push(answered_path(alloc, patterns, path.as_str())?)?;
+        push_answered(&mut answered, alloc, patterns, path.as_str())?;
     }
     Ok(Listed::from_vec(answered))
+}
+
+/// Appends a path with what answers it, unless that is a servlet whose pattern matches no canonical path.
+fn push_answered(
+    answered: &mut Vec<AnsweredPath>,
+    alloc: Global,
+    patterns: &ContextPatterns,
+    path: &str,
+) -> Result<(), NoMemory>
+    ensures { OnOk result (answered.new.items ≡ answered.old.items ++ (if spec.is_answered patterns.now path.now then spec.answered_path patterns.now path.now ∷ [] else [])) }
+{
+    if !is_answered(patterns, path) {
+        return Ok(());
+    }
+    answered.push(answered_path(alloc, patterns, path)?)?;
+    Ok(())
+}
+
+/// Returns whether files answer the path, or a servlet whose pattern matches a canonical path.
+fn is_answered(patterns: &ContextPatterns, path: &str) -> bool
+    ensures { result ≡ spec.is_answered patterns.now path.now }
+{
+    match best_text(&patterns.servlets, path) {
+        Some(pattern) => !matches_nothing(pattern),
+        None => true,
+    }
 }
 
 fn answered_path(
@@ -224,14 +251,17 @@ fn is_answered_by(path: &AnsweredPath, servlet: Option<&str>) -> bool
     }
 }
 
-/// What answers a path is among the answers of its row: the servlet whose pattern is the best match for it, or files.
-/// Each of these answers one of the paths of the row. They are listed for a row with a canonical path,
-/// in a context with at most [`MAX_ANSWERED_PATTERNS`](crate::context_patterns::MAX_ANSWERED_PATTERNS) patterns.
+/// What answers a path that a context serves is among the answers of its row: the servlet whose pattern is the best match
+/// for it, or files. Each of these answers one of the paths of the row, and its pattern matches a canonical path. They are
+/// listed for a row with a canonical path, in a context with at most
+/// [`MAX_ANSWERED_PATTERNS`](crate::context_patterns::MAX_ANSWERED_PATTERNS) patterns.
 pub fn answers_are_exact()
     ensures complete { spec.AnswersAreComplete }
     ensures right { spec.AnswersAreRight }
     ensures listed { spec.AnswersAreListed }
 {
+    best_is_a_match();
     best_stands_first();
+    canonical_has_shape();
     each_path_is_represented();
 }

@@ -1,12 +1,9 @@
 -- No opened pattern, nothing uncovered, no difference of HEAD and no dead pattern is missed.
 use Rattle.std.proofs.lemmas.List.Folds.{list_all_at, list_any-append, list_any_at}
-use Rattle.std.proofs.lemmas.List.Sums.{AllPass-from_list_all}
-use Rattle.std.proofs.lemmas.Slice.Eq.{bytes_eq-Decides}
 use Rattle.std.proofs.lemmas.Bool.{false≢true}
 use Rattle.std.proofs.Common.{arith, ◌≡◌, ℕ, Bool, true, false, not, ◌||◌, ◌&&◌, ◌==◌, List, [], ◌∷◌, ◌++◌, length, map, codes, refl, ap, sym, ◌∙◌, cond, Option, None, Some}
 use Rattle.std.specs.Prelude.{◌≢◌, Contains, filter, find, is_some, slice_index_or}
 use Rattle.std.specs.Option.{option_and_then, option_map_or, option_to_list}
-use Rattle.std.specs.Cmp.{both_ways}
 use Rattle.std.specs.List.{flat_map, list_all, list_any}
 use Rattle.std.specs.Str.{bytes_eq}
 use Rattle.sv_mapping.specs.BestMatch.{BestIsAMatch, best_pattern}
@@ -14,14 +11,14 @@ use Rattle.sv_realm.specs.declared.caller.Caller.{Caller}
 use Rattle.sv_constraints.specs.Covering.{all_patterns, covering, covers_method, lists, patterns_in}
 use Rattle.sv_constraints.specs.Verdict.{verdict, verdict_at}
 use Rattle.sv_constraints.specs.declared.cause.Cause.{Cause}
-use Rattle.sv_constraints.specs.declared.cause.Cause.TheVariants as cause
 use Rattle.sv_constraints.specs.declared.constraint.Constraint.{Constraint}
 use Rattle.sv_constraints.specs.declared.constraint.Rules.{Rules}
-use Rattle.sv_policy.proofs.Best.{any_in, any_listed, or_right}
+use Rattle.sv_policy.proofs.Best.{any_in, or_right}
 use Rattle.sv_policy.proofs.Listed.{any_seen, length_seen, some_filtered}
 use Rattle.sv_policy.proofs.Rising.{same_text}
 use Rattle.sv_policy.proofs.Steps.{any_of_joined, any_same}
 use Rattle.sv_policy.specs.Uncovered.{is_uncovered as is_uncovered_at}
+use Rattle.sv_audit.proofs.Alikes.{differ_at}
 use Rattle.sv_audit.proofs.Equal.{and_left, and_right, both}
 use Rattle.sv_findings.proofs.FindingLemmas.{dead, heads, in_row, late, not_reached, not_served, opened, partly_dead, readings, says, the_rows, uncovered}
 use Rattle.sv_audit.proofs.Witness.{found}
@@ -31,7 +28,7 @@ use Rattle.sv_audit.specs.Access.{cell_at}
 use Rattle.sv_findings.proofs.OpenedLemmas.{contained, kept_any, method_found, opened_exact, some_pair}
 use Rattle.sv_findings.specs.Dead.{dead_patterns_in, decides_nothing, escaped, is_dead}
 use Rattle.sv_findings.specs.FindingLaws.{DeadIsFound, HeadIsFound, IsReached, OpenedIsFound, ReadingIsFound, UncoveredIsFound, UnreachedIsFound, says_dead, says_head, says_opened, says_read, says_uncovered, says_unreached}
-use Rattle.sv_audit.specs.Callers.{has_method, is_closed, is_open, same_callers, same_logins}
+use Rattle.sv_audit.specs.Callers.{has_method, same_callers}
 use Rattle.sv_findings.specs.Findings.{findings_of, pattern_findings}
 use Rattle.sv_findings.specs.LoginNeeds.{login_needs}
 use Rattle.sv_findings.specs.RoleFindings.{role_findings}
@@ -47,10 +44,10 @@ use Rattle.sv_constraints.specs.declared.constraint.Methods.{Methods}
 use Rattle.sv_constraints.specs.declared.constraint.Methods.TheVariants.{All as AllMethods, Only, Except}
 use Rattle.sv_findings.specs.Heads.{head_at, head_on, straying, strays}
 use Rattle.sv_findings.specs.Opened.{is_opened, opened_at, opened_methods, opened_pair}
-use Rattle.sv_audit.specs.Reading.{Kind, IsDenied, Passes, kind_and_cause, said_to}
+use Rattle.sv_audit.specs.Reading.{Kind, kind_and_cause}
 use Rattle.sv_audit.specs.Rows.{in_row_order, match_every_path, other_paths, row_at, table_of}
 use Rattle.sv_audit.specs.declared.access.Access.{Access}
-use Rattle.sv_audit.specs.declared.access.Access.TheVariants.{Unconstrained, Uncovered, UncoveredDenied, Precluded, NeedsTls, Everyone, AnyLogin, Roles}
+use Rattle.sv_audit.specs.declared.access.Access.TheVariants.{Uncovered, UncoveredDenied, Precluded, NeedsTls, Everyone, AnyLogin, Roles}
 use Rattle.sv_audit.specs.declared.access.Cell.{Cell}
 use Rattle.sv_findings.specs.declared.finding.Finding.{Finding}
 use Rattle.sv_findings.specs.declared.finding.Finding.TheVariants as finding
@@ -255,86 +252,6 @@ pub dead_found : DeadIsFound
 dead_found constraints rules surroundings c pattern there listed nothing = dead_found_at constraints rules surroundings c pattern there listed nothing (is_dead (lists (all_patterns constraints) (codes "/*")) c) refl
 
 -- ---- The same callers fare alike.
-module _ (caller : Option Caller) where
-  abbrev kind : Access → Kind
-  kind access = (said_to caller access).0
-
-  opened_kind : (access : Access) → is_open access ≡ true → kind access ≡ Passes
-  opened_kind Unconstrained is = refl
-  opened_kind Uncovered is = refl
-  opened_kind UncoveredDenied is = absurd (false≢true is)
-  opened_kind Precluded is = absurd (false≢true is)
-  opened_kind NeedsTls is = absurd (false≢true is)
-  opened_kind Everyone is = refl
-  opened_kind AnyLogin is = absurd (false≢true is)
-  opened_kind (Roles names) is = absurd (false≢true is)
-
-  closed : (access : Access) → is_closed access ≡ true → kind access ≡ IsDenied
-  closed Unconstrained is = absurd (false≢true is)
-  closed Uncovered is = absurd (false≢true is)
-  closed UncoveredDenied is = refl
-  closed Precluded is = refl
-  closed NeedsTls is = refl
-  closed Everyone is = absurd (false≢true is)
-  closed AnyLogin is = absurd (false≢true is)
-  closed (Roles names) is = absurd (false≢true is)
-
-within_others : (names others : List (List ℕ)) (text : List ℕ) → list_all (lists others) names ≡ true → lists names text ≡ true → lists others text ≡ true
-within_others names others text all there =
-    found (lists others text ≡ true) (λ listed. bytes_eq listed text) names there
-    (λ k d within same. ap (lists others) (sym ((bytes_eq-Decides (slice_index_or names k d) text).0 same)) ∙ AllPass-from_list_all (lists others) names all k d within)
-
-same_texts : (names others : List (List ℕ)) → (list_all (lists others) names && list_all (lists names) others) ≡ true → (text : List ℕ) → lists names text ≡ lists others text
-same_texts names others same text =
-    both_ways (lists names text) (lists others text) (within_others names others text (and_left (list_all (lists others) names) (list_all (lists names) others) same))
-    (within_others others names text (and_right (list_all (lists others) names) (list_all (lists names) others) same))
-
-roles_alike : (caller : Option Caller) (names others : List (List ℕ)) → (list_all (lists others) names && list_all (lists names) others) ≡ true → kind caller (Roles names) ≡ kind caller (Roles others)
-roles_alike None names others same = refl
-roles_alike (Some caller) names others same = ap (λ b. (cond {A = Kind × Cause} b (Passes, cause.Role) (IsDenied, cause.NoRole)).0) (any_listed (lists caller.roles) names others (same_texts names others same))
-
-any_alike : (caller : Option Caller) (other : Access) → same_logins AnyLogin other ≡ true → kind caller AnyLogin ≡ kind caller other
-any_alike caller Unconstrained same = absurd (false≢true same)
-any_alike caller Uncovered same = absurd (false≢true same)
-any_alike caller UncoveredDenied same = absurd (false≢true same)
-any_alike caller Precluded same = absurd (false≢true same)
-any_alike caller NeedsTls same = absurd (false≢true same)
-any_alike caller Everyone same = absurd (false≢true same)
-any_alike caller AnyLogin same = refl
-any_alike caller (Roles names) same = absurd (false≢true same)
-
-named_alike : (caller : Option Caller) (names : List (List ℕ)) (other : Access) → same_logins (Roles names) other ≡ true → kind caller (Roles names) ≡ kind caller other
-named_alike caller names Unconstrained same = absurd (false≢true same)
-named_alike caller names Uncovered same = absurd (false≢true same)
-named_alike caller names UncoveredDenied same = absurd (false≢true same)
-named_alike caller names Precluded same = absurd (false≢true same)
-named_alike caller names NeedsTls same = absurd (false≢true same)
-named_alike caller names Everyone same = absurd (false≢true same)
-named_alike caller names AnyLogin same = absurd (false≢true same)
-named_alike caller names (Roles others) same = roles_alike caller names others same
-
-logins_alike : (caller : Option Caller) (access other : Access) → same_logins access other ≡ true → kind caller access ≡ kind caller other
-logins_alike caller Unconstrained other same = absurd (false≢true same)
-logins_alike caller Uncovered other same = absurd (false≢true same)
-logins_alike caller UncoveredDenied other same = absurd (false≢true same)
-logins_alike caller Precluded other same = absurd (false≢true same)
-logins_alike caller NeedsTls other same = absurd (false≢true same)
-logins_alike caller Everyone other same = absurd (false≢true same)
-logins_alike caller AnyLogin other same = any_alike caller other same
-logins_alike caller (Roles names) other same = named_alike caller names other same
-
-alike_at : (caller : Option Caller) (access other : Access) (open_both closed_both : Bool) → (is_open access && is_open other) ≡ open_both → (is_closed access && is_closed other) ≡ closed_both
-    → (open_both || closed_both || same_logins access other) ≡ true → kind caller access ≡ kind caller other
-alike_at caller access other true closed_both is was same =
-    opened_kind caller access (and_left (is_open access) (is_open other) is) ∙ sym (opened_kind caller other (and_right (is_open access) (is_open other) is))
-alike_at caller access other false true is was same =
-    closed caller access (and_left (is_closed access) (is_closed other) was) ∙ sym (closed caller other (and_right (is_closed access) (is_closed other) was))
-alike_at caller access other false false is was same = logins_alike caller access other same
-
-differ_at : (caller : Option Caller) (access other : Access) (same : Bool) → same_callers access other ≡ same → kind caller access ≢ kind caller other → not same ≡ true
-differ_at caller access other true is apart = absurd (apart (alike_at caller access other (is_open access && is_open other) (is_closed access && is_closed other) refl refl is))
-differ_at caller access other false is apart = refl
-
 module _ (constraints : List Constraint) (rules : Rules) (pattern path : List ℕ) (caller : Option Caller) (best : best_pattern (all_patterns constraints) path ≡ Some pattern) (apart : (kind_and_cause (verdict constraints rules (codes "GET") path caller)).0 ≢ (kind_and_cause (verdict constraints rules (codes "HEAD") path caller)).0) where
   abbrev the_groups : List Group
   the_groups = (row_at constraints rules pattern).groups

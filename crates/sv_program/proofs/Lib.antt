@@ -6,7 +6,6 @@ mod FileLines
 mod FirstRead
 mod KeyLaws
 mod Samples
-mod TableKeys
 mod Lines
 pub mod PrintedRun
 mod Readings

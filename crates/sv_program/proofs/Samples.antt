@@ -1,10 +1,10 @@
 -- The search for the place at which a value begins.
-use Rattle.std.proofs.Common.{◌≡◌, ◌∙◌, ℕ, ◌+◌, ◌-◌, ◌<◌, ◌≤◌, Bool, true, false, List, [], ◌∷◌, ◌++◌, length, take, get_or, ap, sym, refl, append_assoc, append-nil, ◌⊎◌, inl, inr, arith}
+use Rattle.std.proofs.Common.{◌≡◌, ◌∙◌, ℕ, ◌+◌, ◌-◌, ◌<◌, ◌≤◌, Bool, true, false, List, [], ◌∷◌, ◌++◌, length, take, get_or, ap, sym, append_assoc, append-nil, ◌⊎◌, inl, inr, arith}
 use Rattle.std.specs.Bool.{Decides}
 use Rattle.std.proofs.lemmas.Bool.{cases_lt}
 use Rattle.std.proofs.lemmas.List.{take_more}
 use Rattle.sv_descriptor.specs.declared.fault.ValueStep.{ValueStep}
-use Rattle.sv_program.specs.ValuePlace.{AreTaken, BeginsNowhere, CanBegin, are_both_taken, closer, closers, closers_of}
+use Rattle.sv_program.specs.ValuePlace.{BeginsNowhere, CanBegin, are_both_taken, closer, closers, closers_of}
 
 closers_join : (front back : List ValueStep) → closers_of (front ++ back) ≡ closers_of back ++ closers_of front
 closers_join [] back = sym (append-nil (closers_of back))
@@ -36,20 +36,6 @@ one_bracket_more steps before brackets count taken same fewer is not at below = 
     by (inr more) =
         let here : at ≡ count = omega (arith, more, below) in
         rw (here, ← same) (sym is ∙ not)
-
-pub are_taken_with : (steps : List ValueStep) (before brackets : List ℕ) (count : ℕ) (taken : Bool) → brackets ≡ closers steps → count ≤ length brackets
-    → taken ≡ are_both_taken steps before (take count brackets) → taken ≡ true → Decides true (AreTaken steps before)
-are_taken_with steps before brackets count taken same within is held =
-    let here : AreTaken steps before = (count, rw (← same) within, rw (← same) (sym is ∙ held)) in
-    (λ h. here, λ h. refl)
-
-pub are_not_taken : (steps : List ValueStep) (before brackets : List ℕ) (count : ℕ) → brackets ≡ closers steps → NoFewer steps before count → length brackets < count
-    → Decides false (AreTaken steps before)
-are_not_taken steps before brackets count same fewer through =
-    (λ h. absurd (differs h), λ taken. absurd (differs (sym (fewer taken.0 (reach taken.0 taken.1)) ∙ taken.2)))
-  where
-    reach : (at : ℕ) → at ≤ length (closers steps) → at < count
-    reach at within = let same_length = ap length same in omega (arith, within, through, same_length)
 
 -- ---- the place
 pub one_place_less : (text : List ℕ) (steps : List ValueStep) (at last : ℕ) (can : Bool) → Decides can (CanBegin text steps at) → can ≡ false

@@ -1,5 +1,5 @@
 -- The keys that the readers of configuration files accept.
-use Rattle.std.specs.Prelude.{◌≡◌, ℕ, true, Bool, ◌||◌, List, [], Ok}
+use Rattle.std.specs.Prelude.{◌≡◌, ℕ, true, Bool, ◌||◌, List, [], ◌++◌, codes, map, Ok}
 use Rattle.std.specs.List.{list_all, list_any}
 use Rattle.toml.specs.Data.{Members}
 use Rattle.sv_descriptor.specs.Fault.{Located}
@@ -26,3 +26,7 @@ AllAreDescribed = AreKnown []
 -- of a descriptor
 abbrev pub AllAreKnown : {A : Type 0} → List ℕ → (Members → Located A) → Type 0
 AllAreKnown = AreKnown ignored_keys
+
+-- the described keys, each after its table
+abbrev pub places : List (List ℕ)
+places = map (λ row. row.table ++ codes "." ++ row.key) descriptions

@@ -1,6 +1,6 @@
 //! A law on the descriptions of keys.
 
-ghost use Rattle.std.specs.Prelude.{ℕ, codes};
+ghost use Rattle.std.specs.Prelude.{◌≡◌, ℕ, codes, false};
 ghost use Rattle.sv_descriptor.specs.Collection.{collection};
 ghost use Rattle.sv_descriptor.specs.Constraint.{auth_constraint, constraint, user_data_constraint};
 ghost use Rattle.sv_descriptor.specs.CookieConfig.{cookie_config};
@@ -8,6 +8,7 @@ ghost use Rattle.sv_descriptor.specs.ErrorPage.{error_page};
 ghost use Rattle.sv_descriptor.specs.Filter.{filter_entry, filter_mapping};
 ghost use Rattle.sv_descriptor.specs.Listener.{listener};
 ghost use Rattle.sv_descriptor.specs.Login.{form_login_config, login_config};
+ghost use Rattle.sv_descriptor.specs.Names.{repeats};
 ghost use Rattle.sv_descriptor.specs.Role.{security_role};
 ghost use Rattle.sv_descriptor.specs.Server.{context, server};
 ghost use Rattle.sv_descriptor.specs.Servlet.{servlet, servlet_mapping};
@@ -16,7 +17,7 @@ ghost use Rattle.sv_descriptor.specs.Users.{user, users};
 ghost use Rattle.sv_descriptor.specs.WebApp.{web_app};
 ghost use Rattle.sv_descriptor.specs.WelcomeFile.{welcome_file_list};
 ghost use Rattle.sv_descriptor.specs.declared.version.Version.TheVariants.{One, Two};
-ghost use Rattle.sv_program.specs.KeyLaw.{AllAreDescribed, AllAreKnown};
+ghost use Rattle.sv_program.specs.KeyLaw.{AllAreDescribed, AllAreKnown, places};
 
 /// Each key that a reader of a configuration file accepts has a description, unless it is ignored.
 pub fn each_key_is_described()
@@ -42,4 +43,9 @@ pub fn each_key_is_described()
     ensures role { AllAreKnown (codes "security-role") security_role }
     ensures login { AllAreKnown (codes "login-config") login_config }
     ensures form_login { AllAreKnown (codes "form-login-config") form_login_config }
+{}
+
+/// No key of a table is described twice.
+pub fn no_key_is_described_twice()
+    ensures { repeats places ≡ false }
 {}

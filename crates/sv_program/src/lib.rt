@@ -36,7 +36,7 @@ pub use disk::{Disk, FileStore, FileText};
 pub use file_fault::FileFault;
 pub use file_place::{FilePlace, item_steps, place_text};
 pub use first_command::{denies_uncovered, first, first_line};
-pub use key_law::each_key_is_described;
+pub use key_law::{each_key_is_described, no_key_is_described_twice};
 pub use keys::{Format, KEYS, KeyDescription, KeyRow};
 pub use limits::{
     MAX_FILE_BYTES, MAX_INPUT_BYTES, MAX_LOCATED_BYTES, MAX_SAMPLED_BYTES, MAX_SHOWN_CHARACTERS,

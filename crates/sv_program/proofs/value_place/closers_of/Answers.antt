@@ -1,5 +1,4 @@
-use Rattle.std.proofs.Common.{rules, ◌≡◌, ◌∷◌}
-use Rattle.sv_program.specs.ValuePlace.{closer}
+use Rattle.std.proofs.Common.{rules}
 use Rattle.sv_program.proofs.Samples.{closers_more}
 use Rattle.sv_program.proofs.value_place.closers_of.Goals as goal
 

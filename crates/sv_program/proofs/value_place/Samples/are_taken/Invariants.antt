@@ -1,4 +1,4 @@
-use Rattle.std.proofs.Common.{◌≡◌, ◌+◌, ◌-◌, ◌≤◌, length}
+use Rattle.std.proofs.Common.{◌+◌, ◌-◌, ◌≤◌, length}
 use Rattle.sv_program.proofs.Samples.{NoFewer}
 use Rattle.sv_program.proofs.value_place.Samples.are_taken.Given as goal
 
