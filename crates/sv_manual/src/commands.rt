@@ -58,7 +58,7 @@ pub const COMMANDS: [CommandRow; 11] = [
     (
         "help",
         "[COMMAND]",
-        "lists the commands, or shows the usage of one",
+        "lists the commands, or shows the usage of one, or with config the keys of the files",
     ),
     (
         "version",
@@ -68,7 +68,7 @@ pub const COMMANDS: [CommandRow; 11] = [
 ];
 
 /// The options, by their commands.
-pub const OPTIONS: [OptionRow; 17] = [
+pub const OPTIONS: [OptionRow; 18] = [
     (
         "audit",
         "--secure",
@@ -162,5 +162,11 @@ unserved, escaped, login-needs, unknown-role, unheld-role, unused-role",
         "--held-mebibytes",
         "N",
         "MiB that all connections hold, 1 to 1048576; 64 without it",
+    ),
+    (
+        "help",
+        "--format",
+        "FORMAT",
+        "man, md or bash, for all commands; man or md after config",
     ),
 ];

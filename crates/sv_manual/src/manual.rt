@@ -170,8 +170,12 @@ fn roff_command(alloc: Global, name: &str, arguments: &str, does: &str) -> Resul
     ensures { GivesAnswer result (spec.roff_command name.now arguments.now does.now) }
 {
     let head = roff_head(alloc, name, arguments)?;
-    let head = head.as_str();
-    Ok(Text::from_string(format!(in alloc; "{head}\n\\&{does}\n.RS\n")?))
+    let mut text = String::new(alloc);
+    text.push_str(head.as_str())?;
+    text.push_str("\n\\&")?;
+    text.push_str(does)?;
+    text.push_str("\n.RS\n")?;
+    Ok(Text::from_string(text))
 }
 
 fn roff_head(alloc: Global, name: &str, arguments: &str) -> Result<Text, NoMemory>
@@ -180,8 +184,11 @@ fn roff_head(alloc: Global, name: &str, arguments: &str) -> Result<Text, NoMemor
     let name = escaped(alloc, Form::Roff, name)?;
     let arguments = spaced_text(alloc, arguments)?;
     let arguments = escaped(alloc, Form::Roff, arguments.as_str())?;
-    let (front, name, arguments) = (ROFF_COMMAND, name.as_str(), arguments.as_str());
-    Ok(Text::from_string(format!(in alloc; "{front}{name}{arguments}")?))
+    let mut text = String::new(alloc);
+    text.push_str(ROFF_COMMAND)?;
+    text.push_str(name.as_str())?;
+    text.push_str(arguments.as_str())?;
+    Ok(Text::from_string(text))
 }
 
 fn usage(alloc: Global, name: &str, arguments: &str) -> Result<Text, NoMemory>
