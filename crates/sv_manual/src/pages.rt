@@ -72,6 +72,7 @@ pub const COMPLETION_CASES: &str = "\"
     1:*) names=$commands;;
     2:help:*) names=$commands;;
     *:audit:--format:*) names=\"text json html keys\";;
+    *:help:--format:*) names=\"man md bash\";;
 ";
 
 /// The case of a word that begins like an option, between the name of the command and the options.
