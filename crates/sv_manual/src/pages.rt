@@ -70,7 +70,7 @@ pub const COMPLETION_CASES: &str = "\"
     COMPREPLY=()
     case $COMP_CWORD:${COMP_WORDS[1]}:$before:$word in
     1:*) names=$commands;;
-    2:help:*) names=$commands;;
+    2:help:*) names=\"$commands config\";;
     *:audit:--format:*) names=\"text json html keys\";;
     *:help:--format:*) names=\"man md bash\";;
 ";
