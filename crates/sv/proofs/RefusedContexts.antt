@@ -16,7 +16,7 @@ named (Some context) path h = let is : context.path ≡ path = cc in rw is refl
 
 few : (contexts : List CheckedContext) → length (paths_of contexts) ≤ MAX_CONTEXTS → refused contexts ≡ []
 few contexts within =
-    ap refused_context (slice_get_past contexts MAX_CONTEXTS (omega (arith, within, length-map (λ (context : CheckedContext). context.path) contexts)))
+    ap refused_context (slice_get_past contexts MAX_CONTEXTS (omega (arith, within, length-map contexts (λ context. context.path))))
 
 pub as_container : RefusesAsContainer
 as_container contexts = (
