@@ -5,7 +5,7 @@ use Rattle.std.specs.Str.{bytes_eq}
 use Rattle.sv.proofs.Decoding.{same_heads}
 use Rattle.sv.specs.Command.{AreWordsOf, AskForHelp, IsNamed}
 use Rattle.sv.specs.declared.command.Command.{Command}
-use Rattle.sv.specs.declared.command.Command.TheVariants.{First, Policy, Uncovered, Audit, Check, Replay, Serve, Run, SelfTest, Help, Version}
+use Rattle.sv.specs.declared.command.Command.TheVariants.{First, Policy, Uncovered, Audit, Check, Replay, Serve, Run, SelfTest, Help, Manual, Version}
 use Rattle.sv.specs.declared.topic.Topic.{Topic}
 use Rattle.sv.specs.declared.topic.Topic.TheVariants as topic
 use Rattle.sv.specs.AuditOptions.{IsAudit}
@@ -29,6 +29,7 @@ module _ (words : List (List ℕ)) where
       none options (subst (λ w. IsAsked w options) (sym (ap (drop 1) same)) asked)
   only_run none (SelfTest config) is = cc
   only_run none (Help about) is = is
+  only_run none (Manual manual) is = cc
   only_run none Version (word, same, inl is) = cc
   only_run none Version (word, same, inr is) = cc
 
@@ -49,6 +50,7 @@ module _ (words : List (List ℕ)) where
   only_audit none (Run options) (rest, same, asked) = other_name (codes "run") rest same refl
   only_audit none (SelfTest config) is = other_name (codes "selftest") _ is refl
   only_audit none (Help about) is = is
+  only_audit none (Manual manual) is = other_name (codes "help") _ is refl
   only_audit none Version (word, same, inl is) = other_name word _ same (ap (λ (name : List ℕ). bytes_eq name (codes "audit")) is)
   only_audit none Version (word, same, inr is) = other_name word _ same (ap (λ (name : List ℕ). bytes_eq name (codes "audit")) is)
 
@@ -68,6 +70,7 @@ module _ (word : List ℕ) (rest words : List (List ℕ)) (same : words ≡ word
   not_called (Run options) is = none topic.Run (begins (topic_name topic.Run) is.0 is.1)
   not_called (SelfTest config) is = none topic.SelfTest (begins (topic_name topic.SelfTest) _ is)
   not_called (Help about) is = is
+  not_called (Manual manual) is = none topic.Help (inl (begins (codes "help") _ is))
   not_called Version (only, is, calls) =
       let Calls : List ℕ → Type 0 = λ name. IsCalled name topic.Version in none topic.Version (subst Calls (sym (begins only _ is)) calls)
 

@@ -1,5 +1,5 @@
 -- Words and arguments have only one meaning.
-use Rattle.std.proofs.Common.{◌≡◌, ℕ, List, [], ◌∷◌, Option, Some, None, inl, inr, if◌then◌else◌, refl, sym, ap, subst, ◌∙◌}
+use Rattle.std.proofs.Common.{◌≡◌, ℕ, List, [], ◌∷◌, Option, Some, None, inl, inr, if◌then◌else◌, refl, sym, ap, drop, subst, ◌∙◌}
 use Rattle.std.proofs.lemmas.Bool.{false≢true}
 use Rattle.std.specs.Prelude.{codes}
 use Rattle.std.specs.Str.{bytes_eq}
@@ -7,6 +7,9 @@ use Rattle.sv.proofs.Called.{by_name}
 use Rattle.sv.proofs.Decoding.{same_heads}
 use Rattle.sv.specs.Command.{AreWordsOf, AskAbout, AskForHelp}
 use Rattle.sv.specs.Laws.{NameOne, topic_of}
+use Rattle.sv.specs.Manual.{manual_words}
+use Rattle.sv.specs.declared.manual.Manual.{Manual}
+use Rattle.sv.specs.declared.manual.Manual.TheVariants as manual
 use Rattle.sv.specs.Topics.{IsCalled, IsHelpOption, topic_name}
 use Rattle.sv.specs.Values.{Finds}
 use Rattle.sv.specs.declared.command.Command.{Command}
@@ -101,6 +104,7 @@ begins arguments (command.Serve service) is = (_, _, is, refl)
 begins arguments (command.Run options) (rest, is, asked) = (_, rest, is, refl)
 begins arguments (command.SelfTest config) is = (_, _, is, refl)
 begins arguments (command.Help about) is = absurd is
+begins arguments (command.Manual manual) is = (_, _, is, inl refl)
 begins arguments command.Version (word, is, calls) = (word, [], is, calls)
 
 one_topic : (arguments : List (List ℕ)) (a b : Topic) → Begins arguments a → Begins arguments b → a ≡ b
@@ -109,9 +113,29 @@ one_topic arguments a b (word, rest, is, calls) (first, more, same, others) =
     let Calls : List ℕ → Type 0 = λ text. IsCalled text b in
     called_one word a b calls (subst Calls (sym (same_heads word first rest more (sym is ∙ same)).0) others)
 
+-- the manual of some words
+manual_at : List (List ℕ) → Manual
+manual_at (first ∷ format ∷ []) =
+    if bytes_eq format (codes "man") then manual.Commands else if bytes_eq format (codes "md") then manual.CommandsMarkdown else manual.Completion
+manual_at (first ∷ second ∷ format ∷ rest) = if bytes_eq format (codes "man") then manual.KeysPage else manual.KeysMarkdown
+manual_at words = manual.Keys
+
+manual_at-words : (given : Manual) → manual_at (manual_words given) ≡ given
+unfolding manual_at
+manual_at-words manual.Commands = refl
+manual_at-words manual.CommandsMarkdown = refl
+manual_at-words manual.Completion = refl
+manual_at-words manual.Keys = refl
+manual_at-words manual.KeysPage = refl
+manual_at-words manual.KeysMarkdown = refl
+
+one_manual : (a b : Manual) → manual_words a ≡ manual_words b → a ≡ b
+one_manual a b same = sym (manual_at-words a) ∙ ap manual_at same ∙ manual_at-words b
+
 pub one_command : NameOne
 one_command arguments (command.Help a) (command.Help b) one other = one_help arguments a b one other
 one_command arguments (command.Help a) b one other = absurd (other.1 a one)
 one_command arguments a (command.Help b) one other = absurd (one.1 b other)
+one_command arguments (command.Manual a) (command.Manual b) one other = one_manual a b (ap (drop 1) (sym one.0 ∙ other.0))
 one_command arguments a b one other =
     one_topic arguments (topic_of a) (topic_of b) (begins arguments a one.0) (begins arguments b other.0)

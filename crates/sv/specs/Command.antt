@@ -2,11 +2,12 @@
 use Rattle.std.specs.Prelude.{◌≡◌, ℕ, ◌⊎◌, List, [], ◌∷◌, codes, Option, Some, None}
 use Rattle.sv.specs.AuditOptions.{IsAudit}
 use Rattle.sv.specs.RunOptions.{IsAsked}
+use Rattle.sv.specs.Manual.{manual_words}
 use Rattle.sv.specs.Question.{question_words}
 use Rattle.sv.specs.Service.{service_words}
 use Rattle.sv.specs.Topics.{IsCalled, IsHelpOption, topic_name}
 use Rattle.sv.specs.declared.command.Command.{Command}
-use Rattle.sv.specs.declared.command.Command.TheVariants.{First, Policy, Uncovered, Audit, Check, Replay, Serve, Run, SelfTest, Help, Version}
+use Rattle.sv.specs.declared.command.Command.TheVariants.{First, Policy, Uncovered, Audit, Check, Replay, Serve, Run, SelfTest, Help, Manual, Version}
 use Rattle.sv.specs.declared.topic.Topic.{Topic}
 use Rattle.sv.specs.declared.topic.Topic.TheVariants as topic
 use Rattle.sv_program.specs.Arguments.{name_words}
@@ -41,7 +42,13 @@ AreWordsOf arguments (Serve service) = arguments ≡ codes "serve" ∷ service_w
 AreWordsOf arguments (Run options) = IsBehind (codes "run") IsAsked arguments options
 AreWordsOf arguments (SelfTest config) = arguments ≡ codes "selftest" ∷ name_words config
 AreWordsOf arguments (Help about) = ⊥
+AreWordsOf arguments (Manual manual) = arguments ≡ codes "help" ∷ manual_words manual
 AreWordsOf arguments Version = IsAlone arguments topic.Version
+
+-- the arguments are `help` and the words of a manual
+abbrev pub IsManualAfter : List (List ℕ) → Command → Type 0
+IsManualAfter arguments (Manual manual) = arguments ≡ codes "help" ∷ manual_words manual
+IsManualAfter arguments command = ⊥
 
 -- the arguments name the command: if they ask for help, they name no other
 abbrev pub IsNamed : List (List ℕ) → Command → Type 0

@@ -16,11 +16,12 @@ use Rattle.sv_deployments.specs.Folders.{FolderGiving}
 use Rattle.sv_deployments.specs.declared.configuration.Configuration.{Configuration}
 use Rattle.sv_audit_command.specs.AuditCommand.{Audits, IsAudited, IsBeforeOutput}
 use Rattle.sv.specs.CheckCommand.{Checks, IsBeforeReport}
+use Rattle.sv.specs.Manual.{manual_text}
 use Rattle.sv.specs.Policy.{RunsPolicy}
 use Rattle.sv.specs.Printed.{Shows}
 use Rattle.sv.specs.Topics.{help_text}
 use Rattle.sv.specs.declared.command.Command.{Command}
-use Rattle.sv.specs.declared.command.Command.TheVariants.{First, Policy, Uncovered, Audit, Check, Replay, Serve, Run, SelfTest, Help, Version}
+use Rattle.sv.specs.declared.command.Command.TheVariants.{First, Policy, Uncovered, Audit, Check, Replay, Serve, Run, SelfTest, Help, Manual, Version}
 use Rattle.sv.specs.declared.texts.TheConstants.{VERSION}
 
 -- a fault in reading a server's files and folders is the command's fault
@@ -61,4 +62,5 @@ module _ (moving : ComponentSteps ProgramServlet ProgramFilter ProgramListener) 
   RunsCommand gives files (Run options) result before after stream old new = ReadsFiles gives files options.config.now result before after
   RunsCommand gives files (SelfTest config) result before after stream old new = ReadsFiles gives files config.now result before after
   RunsCommand gives files (Help topic) result before after stream old new = (after ≡ before) × UnlessNoMemory result (Shows (help_text topic) result old new)
+  RunsCommand gives files (Manual manual) result before after stream old new = (after ≡ before) × UnlessNoMemory result (Shows (manual_text manual) result old new)
   RunsCommand gives files Version result before after stream old new = (after ≡ before) × Shows VERSION.now result old new

@@ -7,7 +7,7 @@ use Rattle.sv.specs.AuditOptions.{IsAudit}
 use Rattle.sv.specs.RunOptions.{IsAsked}
 use Rattle.sv.specs.Usage.{IsUsageLine}
 use Rattle.sv.specs.declared.command.Command.{Command}
-use Rattle.sv.specs.declared.command.Command.TheVariants.{First, Policy, Uncovered, Audit, Check, Replay, Serve, Run, SelfTest, Help, Version}
+use Rattle.sv.specs.declared.command.Command.TheVariants.{First, Policy, Uncovered, Audit, Check, Replay, Serve, Run, SelfTest, Help, Manual, Version}
 use Rattle.sv.specs.declared.topic.Topic.{Topic}
 use Rattle.sv.specs.declared.topic.Topic.TheVariants as topic
 use Rattle.sv.specs.declared.audit_options.AuditOptions.{AuditOptions}
@@ -57,11 +57,13 @@ topic_of (Serve service) = topic.Serve
 topic_of (Run options) = topic.Run
 topic_of (SelfTest config) = topic.SelfTest
 topic_of (Help about) = topic.Help
+topic_of (Manual manual) = topic.Help
 topic_of Version = topic.Version
 
 -- two commands of the same name, or the same help
 abbrev pub AreAlike : Command → Command → Type 0
 AreAlike (Help about) (Help other) = about ≡ other
+AreAlike (Manual manual) (Manual other) = manual ≡ other
 AreAlike one other = topic_of one ≡ topic_of other
 
 abbrev pub NameOne : Type 0

@@ -6,6 +6,7 @@ pub mod Given
 pub mod CheckCommand
 pub mod Command
 pub mod Laws
+pub mod Manual
 pub mod Question
 pub mod Service
 pub mod Settings

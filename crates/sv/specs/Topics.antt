@@ -3,7 +3,10 @@ use Rattle.std.specs.Prelude.{◌≡◌, ℕ, ◌⊎◌, List, [], ◌∷◌, �
 use Rattle.std.specs.List.{flat_map}
 use Rattle.sv.specs.declared.topic.Topic.{Topic}
 use Rattle.sv.specs.declared.topic.Topic.TheVariants.{First, Policy, Uncovered, Audit, Check, Replay, Serve, Run, SelfTest, Help, Version}
-use Rattle.sv.specs.declared.texts.TheConstants as text
+use Rattle.sv_manual.specs.Manual.{named_text, page_text}
+use Rattle.sv_manual.specs.Rows.{CommandFields, OptionFields, command_fields, option_fields}
+use Rattle.sv_manual.specs.declared.commands.TheConstants.{COMMANDS, OPTIONS}
+use Rattle.sv_manual.specs.declared.form.Form.TheVariants as Form
 
 -- all commands, in the order of the help
 abbrev pub topics : List Topic
@@ -40,32 +43,16 @@ topic_usage SelfTest = codes "sv selftest CONFIG"
 topic_usage Help = codes "sv help [COMMAND]"
 topic_usage Version = codes "sv version"
 
--- what the command does, in whole lines
-abbrev pub topic_description : Topic → List ℕ
-topic_description First = text.FIRST.now
-topic_description Policy = text.POLICY.now
-topic_description Uncovered = text.UNCOVERED.now
-topic_description Audit = text.AUDIT.now
-topic_description Check = text.CHECK.now
-topic_description Replay = text.REPLAY.now
-topic_description Serve = text.SERVE.now
-topic_description Run = text.RUN.now
-topic_description SelfTest = text.SELF_TEST.now
-topic_description Help = text.HELP.now
-topic_description Version = text.VERSION_TOPIC.now
+abbrev pub commands : List CommandFields
+commands = map (command_fields (λ text. text.now)) COMMANDS
 
--- the help on a command
-unfoldable pub topic_text : Topic → List ℕ
-topic_text topic = topic_usage topic ++ codes "\n" ++ topic_description topic
-
--- the help on each command in turn
-unfoldable pub topics_text : List ℕ
-topics_text = flat_map topic_text topics
+abbrev pub options : List OptionFields
+options = map (option_fields (λ text. text.now)) OPTIONS
 
 -- the help on all commands or on one
-abbrev pub help_text : Option Topic → List ℕ
-help_text None = codes "usage: sv COMMAND [ARGUMENTS]\n\n" ++ topics_text
-help_text (Some topic) = topic_text topic
+unfoldable pub help_text : Option Topic → List ℕ
+help_text None = page_text Form.Help commands options
+help_text (Some topic) = named_text Form.Help (topic_name topic) commands options
 
 -- an option that asks for help
 abbrev pub IsHelpOption : List ℕ → Type 0

@@ -1,13 +1,14 @@
 //! The command that the program's arguments name.
 
 ghost use Rattle.std.specs.Prelude.{◌≡◌, ◌↔◌, [], ◌∷◌, true, IfSome, IsSome, codes, map, string_bytes};
-ghost use Rattle.sv.specs.Command.{AreWordsOf, AskAbout, AskForHelp, IsNamed};
+ghost use Rattle.sv.specs.Command.{AreWordsOf, AskAbout, AskForHelp, IsManualAfter, IsNamed};
 ghost use Rattle.sv.specs.Laws.{NameOne};
 ghost use Rattle.sv.specs.Topics.{IsCalled};
 ghost use Rattle.sv.specs.Values.{Finds};
 ghost use Rattle.sv_program.specs.Arguments.{Names, name_words};
 
 use crate::audit_options::AuditOptions;
+use crate::manual::Manual;
 use crate::question::Question;
 use crate::run_options::RunOptions;
 use crate::service::Service;
@@ -55,6 +56,8 @@ pub enum Command<'a> {
     },
     /// `help [COMMAND]`: prints the usage of each command, or of one.
     Help(Option<Topic>),
+    /// `help --format FORMAT`, `help config [--format FORMAT]`: prints the manual in a form.
+    Manual(Manual),
     /// `version`: prints the program's name and version.
     Version,
 }
@@ -108,7 +111,7 @@ fn command_in(arguments: &[String]) -> Option<Command<'_>>
             let config = config_in(rest)?;
             Some(Command::SelfTest { config })
         }
-        Topic::Help => None,
+        Topic::Help => manual_in(word.as_str(), rest),
         Topic::Version => alone(rest, Command::Version),
     }
 }
@@ -182,6 +185,19 @@ fn audit_in(arguments: &[String]) -> Option<Command<'_>>
     match AuditOptions::parse(arguments) {
         Ok(options) => Some(Command::Audit(options)),
         Err(_) => None,
+    }
+}
+
+/// Returns the manual that the arguments after a word ask for. Only `help` has arguments.
+fn manual_in<'a>(word: &str, arguments: &[String]) -> Option<Command<'a>>
+    ensures { Finds (IsManualAfter (word.now ∷ map string_bytes arguments.now)) result }
+{
+    if word != "help" {
+        return None;
+    }
+    match Manual::named(arguments) {
+        Some(manual) => Some(Command::Manual(manual)),
+        None => None,
     }
 }
 

@@ -6,7 +6,7 @@ ghost use Rattle.sv.specs.Execution.{IsBefore, ReadsFiles, RunsCommand, ServesNo
 
 use crate::check_command::check;
 use crate::command::Command;
-use crate::help_command::help;
+use crate::help_command::{help, print_manual};
 use crate::policy_command::policy;
 use crate::replay_command::replay;
 use crate::run_command::run;
@@ -59,6 +59,7 @@ pub fn carry_out<
         Command::Run(options) => run(alloc, store, host, writer, &options),
         Command::SelfTest { config } => self_test(alloc, store, host, writer, config),
         Command::Help(topic) => help(alloc, writer, topic),
+        Command::Manual(manual) => print_manual(alloc, writer, manual),
         Command::Version => print_text(writer, VERSION),
     }
 }

@@ -1,14 +1,17 @@
-//! The command `help`: prints the usage of each command, or of one.
+//! The command `help`: prints the usage of each command, or of one, and the manual in other forms.
 
-ghost use Rattle.std.specs.Prelude.{◌≡◌, ◌≢◌, ◌++◌, IfErr, OnOk, flat_map, string_bytes};
+ghost use Rattle.std.specs.Prelude.{◌≡◌, ◌≢◌, IfErr};
+ghost use Rattle.sv.specs.Manual.{manual_text};
 ghost use Rattle.sv.specs.Printed.{Shows};
-ghost use Rattle.sv.specs.Topics.{help_text, topic_text};
+ghost use Rattle.sv.specs.Topics.{help_text};
 ghost use Rattle.sv_program.specs.CommandFault.{UnlessNoMemory};
 ghost use Rattle.sv_text.specs.Gives.{GivesAnswer};
 
-use crate::topic::{TOPICS, Topic};
+use crate::manual::Manual;
+use crate::topic::Topic;
 use std::alloc::Global;
 use std::io::Write;
+use sv_manual::{Form, command_page, commands_page, completion_page, config_page};
 use sv_program::{CommandFault, print_text};
 use sv_text::{NoMemory, Text};
 
@@ -28,39 +31,42 @@ pub fn help<W: Write>(
     print_text(writer, text.as_str())
 }
 
+#[tactic(auto, unfolding(crate::specs::Topics::help_text))]
 fn help_on(alloc: Global, topic: Option<Topic>) -> Result<Text, NoMemory>
     ensures { GivesAnswer result (help_text topic) }
 {
-    let mut text = String::new(alloc);
     match topic {
-        Some(topic) => push_topic(&mut text, topic)?,
-        None => push_all(&mut text)?,
+        Some(topic) => command_page(alloc, Form::Help, topic.name()),
+        None => commands_page(alloc, Form::Help),
     }
-    Ok(Text::from_string(text))
 }
 
-fn push_all(text: &mut String) -> Result<(), NoMemory>
-    ensures { OnOk result (string_bytes text.new ≡ string_bytes text.old ++ help_text None) }
+/// Writes this manual.
+///
+/// # Errors
+/// [`CommandFault::NoMemory`], with nothing written; [`CommandFault::Output`], after which a part may have been written.
+pub fn print_manual<W: Write>(
+    alloc: Global,
+    writer: &mut W,
+    manual: Manual,
+) -> Result<(), CommandFault>
+    ensures run { UnlessNoMemory result (Shows (manual_text manual) result (W.contents writer.old) (W.contents writer.new)) }
+    ensures untouched { IfErr result (λ fault. fault ≢ CommandFault.Output → writer.new ≡ writer.old) }
 {
-    text.push_str("usage: sv COMMAND [ARGUMENTS]\n\n")?;
-    push_topics(text, &TOPICS)?;
-    Ok(())
+    let text = manual_page(alloc, manual)?;
+    print_text(writer, text.as_str())
 }
 
-fn push_topics(text: &mut String, topics: &[Topic]) -> Result<(), NoMemory>
-    ensures { OnOk result (string_bytes text.new ≡ string_bytes text.old ++ flat_map topic_text topics.now) }
+#[tactic(auto, unfolding(crate::specs::Manual::manual_text))]
+fn manual_page(alloc: Global, manual: Manual) -> Result<Text, NoMemory>
+    ensures { GivesAnswer result (manual_text manual) }
 {
-    for topic in topics {
-        push_topic(text, *topic)?;
+    match manual {
+        Manual::Commands => commands_page(alloc, Form::Roff),
+        Manual::CommandsMarkdown => commands_page(alloc, Form::Markdown),
+        Manual::Completion => completion_page(alloc),
+        Manual::Keys => config_page(alloc, Form::Help),
+        Manual::KeysPage => config_page(alloc, Form::Roff),
+        Manual::KeysMarkdown => config_page(alloc, Form::Markdown),
     }
-    Ok(())
-}
-
-#[tactic(auto, unfolding(crate::specs::Topics::topic_text))]
-fn push_topic(text: &mut String, topic: Topic) -> Result<(), NoMemory>
-    ensures { OnOk result (string_bytes text.new ≡ string_bytes text.old ++ topic_text topic) }
-{
-    text.push_str(topic.usage())?;
-    text.push('\n')?;
-    Ok(text.push_str(topic.description())?)
 }

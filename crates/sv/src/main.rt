@@ -11,6 +11,7 @@ mod gaps;
 mod given;
 mod help_command;
 mod key;
+mod manual;
 mod near;
 mod option_fault;
 mod option_set;

@@ -1,12 +1,8 @@
 //! The commands of the program, as topics of help.
 
 ghost use Rattle.std.specs.Prelude.{◌≡◌, ◌↔◌, true};
-ghost use Rattle.sv.specs.Topics.{IsCalled, IsHelpOption, topic_description, topic_name, topic_usage};
+ghost use Rattle.sv.specs.Topics.{IsCalled, IsHelpOption, topic_name, topic_usage};
 ghost use Rattle.sv.specs.Values.{Finds};
-
-use crate::texts::{
-    AUDIT, CHECK, FIRST, HELP, POLICY, REPLAY, RUN, SELF_TEST, SERVE, UNCOVERED, VERSION_TOPIC,
-};
 
 /// A command of the program, as a topic of help.
 #[derive(Clone, Copy)]
@@ -112,25 +108,6 @@ impl Topic {
             Topic::SelfTest => "sv selftest CONFIG",
             Topic::Help => "sv help [COMMAND]",
             Topic::Version => "sv version",
-        }
-    }
-
-    /// Returns what the command does: indented lines, each with its line feed.
-    pub fn description(self) -> &'static str
-        ensures { result.now ≡ topic_description self }
-    {
-        match self {
-            Topic::First => FIRST,
-            Topic::Policy => POLICY,
-            Topic::Uncovered => UNCOVERED,
-            Topic::Audit => AUDIT,
-            Topic::Check => CHECK,
-            Topic::Replay => REPLAY,
-            Topic::Serve => SERVE,
-            Topic::Run => RUN,
-            Topic::SelfTest => SELF_TEST,
-            Topic::Help => HELP,
-            Topic::Version => VERSION_TOPIC,
         }
     }
 }
