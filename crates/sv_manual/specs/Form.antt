@@ -1,5 +1,5 @@
 -- Characters of the help, of manual pages and of Markdown.
-use Rattle.std.specs.Prelude.{ℕ, ◌==◌, List, [], ◌∷◌, ◌++◌, chars, codes, flat_map, encode_utf8_all, if◌then◌else◌}
+use Rattle.std.specs.Prelude.{ℕ, ◌==◌, List, [], ◌∷◌, chars, codes, flat_map, encode_utf8_all, if◌then◌else◌}
 use Rattle.std.specs.Str.{byte}
 use Rattle.sv_manual.specs.declared.form.Form.{Form}
 use Rattle.sv_manual.specs.declared.form.Form.TheVariants.{Help, Roff, Markdown}
