@@ -1,10 +1,12 @@
 -- What answers the paths of rows.
-use Rattle.std.proofs.Common.{◌≡◌, ◌∙◌, ◌≤◌, ℕ, zero, suc, ◌+◌, Bool, true, false, not, cond, ◌&&◌, ◌||◌, List, [], ◌∷◌, ◌++◌, length, length-append, map, refl, sym, ap, subst, arith, inl, inr, Option, Some, None, nat_lt}
+use Rattle.std.proofs.Common.{◌≡◌, ◌∙◌, ◌≤◌, ℕ, zero, suc, ◌+◌, ◌<◌, Bool, true, false, not, cond, ◌&&◌, ◌||◌, List, [], ◌∷◌, ◌++◌, length, length-append, take, get_or, map, refl, sym, ap, subst, arith, inl, inr, Option, Some, None, nat_lt}
 use Rattle.std.specs.Prelude.{filter, is_some, option_and_then, position, slice_get}
 use Rattle.std.specs.List.{list_any}
 use Rattle.std.specs.Option.{option_map}
 use Rattle.std.specs.Str.{bytes_eq}
 use Rattle.std.proofs.lemmas.Bool.{and_from, both_ways, false≢true, not-true, or_cases, or_left, or_right}
+use Rattle.std.proofs.lemmas.List.{map-append}
+use Rattle.std.proofs.lemmas.List.Elements.{filter_more}
 use Rattle.std.proofs.lemmas.List.Folds.{list_any-append}
 use Rattle.std.proofs.lemmas.Slice.Eq.{bytes_eq-Decides}
 use Rattle.sv_mapping.proofs.Tried.{In, In-map, In-map_from}
@@ -114,6 +116,23 @@ module _ (patterns : ContextPatterns) where
         same_decides _ _ (ap (is_at pattern) (sym from.2) ∙ kept.1),
         same_decides _ _ (ap (λ path. is_same path.servlet servlet) (sym from.2) ∙ found.2),
       )
+
+-- ---- The paths that are answered, one at a time.
+shown_map : {X Y : Type 0} (f : X → Y) (x : X) (b : Bool) → map f (cond b (x ∷ []) []) ≡ cond b (f x ∷ []) []
+shown_map f x true = refl
+shown_map f x false = refl
+
+pub next_answered : (patterns : ContextPatterns) (paths : List (List ℕ)) (i : ℕ) (path text : List ℕ) (before after : List AnsweredPath) → i < length paths → path ≡ get_or paths i path → text ≡ path
+    → before ≡ map (answered_path patterns) (filter (is_answered patterns) (take i paths))
+    → after ≡ before ++ cond (is_answered patterns text) (answered_path patterns text ∷ []) []
+    → after ≡ map (answered_path patterns) (filter (is_answered patterns) (take (i + 1) paths))
+next_answered patterns paths i path text before after within at same was pushed =
+    let f = answered_path patterns in
+    let test = is_answered patterns in
+    pushed ∙ ap (λ t. before ++ cond (test t) (f t ∷ []) []) (same ∙ at) ∙ ap (λ done. done ++ cond (test (get_or paths i path)) (f (get_or paths i path) ∷ []) []) was
+    ∙ ap (λ more. map f (filter test (take i paths)) ++ more) (sym (shown_map f (get_or paths i path) (test (get_or paths i path))))
+    ∙ sym (map-append f (filter test (take i paths)) (cond (test (get_or paths i path)) (get_or paths i path ∷ []) []))
+    ∙ ap (map f) (sym (filter_more test paths i path within))
 
 -- ---- Constraints and servlets.
 module _ (constraints : List Constraint) (mappings : List ServletMapping) where
