@@ -1,5 +1,5 @@
 -- The lines of faults, one after another.
-use Rattle.std.proofs.Common.{◌≡◌, ◌∙◌, ℕ, ◌+◌, ◌<◌, ◌≤◌, List, [], ◌∷◌, ◌++◌, length, take, get_or, ltb, is_some, slice_get, Bool, true, false, Option, Some, None, IfSome, option_copied, refl, rules, subst, sym, ap, append-nil, append_assoc}
+use Rattle.std.proofs.Common.{◌≡◌, ◌∙◌, ℕ, ◌+◌, ◌<◌, ◌≤◌, List, [], ◌∷◌, ◌++◌, length, take, get_or, ltb, is_some, slice_get, true, false, Option, Some, None, IfSome, option_copied, refl, rules, subst, sym, ap, append-nil, append_assoc}
 use denote.Ref.{Bor}
 use Rattle.std.proofs.lemmas.List.{take_more}
 use Rattle.std.proofs.lemmas.Option.{slice_get-get_or, slice_get_past}

@@ -18,3 +18,4 @@ pub mod Setting
 pub mod Walking
 pub mod Words
 pub mod Wrong
+mod ManualWords

@@ -1,8 +1,7 @@
 -- The contexts that a container refuses.
-use Rattle.std.proofs.Common.{◌≡◌, ◌∙◌, ℕ, ◌≤◌, List, [], ◌∷◌, length, map, Option, Some, None, option_map, slice_get, refl, sym, ap, arith}
+use Rattle.std.proofs.Common.{◌≡◌, ◌∙◌, ℕ, ◌≤◌, List, [], ◌∷◌, length, Option, Some, None, option_map, slice_get, refl, sym, ap, arith}
 use Rattle.std.proofs.lemmas.List.{length-map}
 use Rattle.std.proofs.lemmas.Option.{slice_get-map, slice_get_past}
-use Rattle.sv_container.specs.Paths.{ArePermitted, Forbids}
 use Rattle.sv_container.specs.declared.container.TheConstants.{MAX_CONTEXTS}
 use Rattle.sv_deployments.specs.declared.check.CheckedContext.{CheckedContext}
 use Rattle.sv_journal.specs.declared.start_code.NewCode.TheVariants.{TooManyContexts}

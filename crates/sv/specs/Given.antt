@@ -1,11 +1,8 @@
 -- The options of a command, as the words that give them.
-use Rattle.std.specs.Prelude.{◌≡◌, ℕ, List, [], ◌∷◌, ◌++◌, All, Option, Some, None, map}
+use Rattle.std.specs.Prelude.{◌≡◌, ℕ, List, [], ◌∷◌, ◌++◌, Option, Some, None, map}
 use denote.Ref.{Bor}
-use Rattle.sv.specs.Options.{AreProper, IsProper}
-use Rattle.sv.specs.OptionFault.{IsWrong}
-use Rattle.sv.specs.Settings.{Setting, Keyed, setting_words, words_of}
-use Rattle.sv.specs.declared.key.Key.{Key}
-use Rattle.sv.specs.declared.option_fault.OptionFault.{OptionFault}
+use Rattle.sv.specs.Options.{AreProper}
+use Rattle.sv.specs.Settings.{Setting, setting_words, words_of}
 use Rattle.sv.specs.declared.option_set.OptionSet.{OptionSet}
 
 -- the first of the words, if there is one

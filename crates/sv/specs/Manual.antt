@@ -1,5 +1,5 @@
 -- The manual in its forms.
-use Rattle.std.specs.Prelude.{ℕ, List, [], ◌∷◌, codes, map}
+use Rattle.std.specs.Prelude.{ℕ, List, [], ◌∷◌, codes}
 use Rattle.sv_manual.specs.Completion.{completion_text}
 use Rattle.sv_manual.specs.Keys.{config_text}
 use Rattle.sv_manual.specs.Manual.{page_text}

@@ -1,5 +1,5 @@
 -- What is wrong with the arguments of a command that has options.
-use Rattle.std.specs.Prelude.{◌≡◌, ◌≢◌, ℕ, List, [], ◌∷◌, ◌++◌, true, Option, Some}
+use Rattle.std.specs.Prelude.{◌≡◌, ◌≢◌, ℕ, List, [], ◌∷◌, ◌++◌, true, Some}
 use Rattle.sv.specs.Options.{AreProper, IsValue}
 use Rattle.sv.specs.Settings.{Setting, IsKey, key_word, rival, set_of, takes_word, values, words_of}
 use Rattle.sv.specs.declared.key.Key.{Key}

@@ -1,5 +1,5 @@
 -- Which options the arguments of a command may have.
-use Rattle.std.specs.Prelude.{◌≡◌, ◌⊎◌, ℕ, ◌≤◌, List, [], length, All, Option, Some}
+use Rattle.std.specs.Prelude.{◌≡◌, ◌⊎◌, ℕ, ◌≤◌, List, [], length, All, Some}
 use Rattle.sv_audit_command.specs.Kinds.{AreKinds}
 use Rattle.sv_audit_command.specs.declared.access_options.Format as report
 use Rattle.sv.specs.Settings.{Setting, Keyed, rival, set_of, values}

@@ -1,6 +1,5 @@
 -- The commands as topics of help.
-use Rattle.std.specs.Prelude.{◌≡◌, ℕ, ◌⊎◌, List, [], ◌∷◌, ◌++◌, codes, map, Option, Some, None}
-use Rattle.std.specs.List.{flat_map}
+use Rattle.std.specs.Prelude.{◌≡◌, ℕ, ◌⊎◌, List, [], ◌∷◌, codes, map, Option, Some, None}
 use Rattle.sv.specs.declared.topic.Topic.{Topic}
 use Rattle.sv.specs.declared.topic.Topic.TheVariants.{First, Policy, Uncovered, Audit, Check, Replay, Serve, Run, SelfTest, Help, Version}
 use Rattle.sv_manual.specs.Manual.{named_text, page_text}

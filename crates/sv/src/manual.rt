@@ -28,11 +28,7 @@ impl Manual {
     {
         let (first, rest) = words.split_first()?;
         let Some((second, rest)) = rest.split_first() else {
-            return if first.as_str() == "config" {
-                Some(Manual::Keys)
-            } else {
-                None
-            };
+            return keys_alone(first.as_str());
         };
         let Some((third, rest)) = rest.split_first() else {
             return commands_in(first.as_str(), second.as_str());
@@ -42,6 +38,16 @@ impl Manual {
         } else {
             None
         }
+    }
+}
+
+fn keys_alone(word: &str) -> Option<Manual>
+    ensures { Finds (λ manual. word.now ∷ [] ≡ manual_words manual) result }
+{
+    if word == "config" {
+        Some(Manual::Keys)
+    } else {
+        None
     }
 }
 
