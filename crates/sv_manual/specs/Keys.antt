@@ -21,13 +21,13 @@ abbrev pub roff_key : List ℕ → List ℕ → List ℕ → List ℕ
 roff_key path takes means =
     codes ".TP\n\\fB" ++ escaped Roff path ++ codes "\\fR\nTakes " ++ escaped Roff takes ++ codes ".\n\\&" ++ escaped Roff means ++ codes "\n"
 
-abbrev pub item_key : List ℕ → List ℕ → List ℕ → List ℕ
-item_key path takes means = codes "\n- `" ++ path ++ codes "`: takes " ++ takes ++ codes ". " ++ means ++ codes "\n"
+abbrev pub table_row : List ℕ → List ℕ → List ℕ → List ℕ
+table_row path takes means = codes "| `" ++ path ++ codes "` | " ++ takes ++ codes " | " ++ means ++ codes " |\n"
 
 abbrev pub shown_key : Form → KeyFields → List ℕ
 shown_key Help row = help_key (key_path row.table row.key) row.takes row.means
 shown_key Roff row = roff_key (key_path row.table row.key) row.takes row.means
-shown_key Markdown row = item_key (key_path row.table row.key) row.takes row.means
+shown_key Markdown row = table_row (key_path row.table row.key) row.takes row.means
 
 -- the name of a format
 abbrev pub format_name : Format → List ℕ
@@ -38,7 +38,7 @@ format_name Users = codes "Users file"
 abbrev pub format_head : Form → Format → List ℕ
 format_head Help format = format_name format ++ codes ":\n"
 format_head Roff format = codes ".SH " ++ format_name format ++ codes "\n"
-format_head Markdown format = codes "\n## " ++ format_name format ++ codes "\n"
+format_head Markdown format = codes "\n## " ++ format_name format ++ page.KEY_TABLE_HEAD.now
 
 abbrev pub are_same : Format → Format → Bool
 are_same Server Server = true

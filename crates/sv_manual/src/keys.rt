@@ -6,7 +6,9 @@ ghost use Rattle.sv_program.specs.Keys.{fields, row_fields};
 ghost use Rattle.sv_text.specs.Gives.{GivesAnswer};
 
 use crate::form::{Form, escaped};
-use crate::pages::{CONFIG_MAN_END, CONFIG_MAN_HEAD, CONFIG_MARKDOWN_HEAD, KEY_MEANS, KEY_TAKES};
+use crate::pages::{
+    CONFIG_MAN_END, CONFIG_MAN_HEAD, CONFIG_MARKDOWN_HEAD, KEY_MEANS, KEY_TABLE_HEAD, KEY_TAKES,
+};
 use std::alloc::Global;
 use sv_program::{Format, KEYS, KeyDescription, KeyRow};
 use sv_text::{NoMemory, Text};
@@ -86,7 +88,7 @@ fn push_format_head(text: &mut String, form: Form, format: Format) -> Result<(),
     match form {
         Form::Help => push_around(text, "", name, ":\n"),
         Form::Roff => push_around(text, ".SH ", name, "\n"),
-        Form::Markdown => push_around(text, "\n## ", name, "\n"),
+        Form::Markdown => push_around(text, "\n## ", name, KEY_TABLE_HEAD),
     }
 }
 
@@ -172,7 +174,7 @@ fn shown_key(alloc: Global, form: Form, key: KeyDescription) -> Result<Text, NoM
     match form {
         Form::Help => help_key(alloc, path.as_str(), key.takes, key.means),
         Form::Roff => roff_key(alloc, path.as_str(), key.takes, key.means),
-        Form::Markdown => item_key(alloc, path.as_str(), key.takes, key.means),
+        Form::Markdown => table_row(alloc, path.as_str(), key.takes, key.means),
     }
 }
 
@@ -203,8 +205,8 @@ fn roff_key(alloc: Global, path: &str, takes: &str, means: &str) -> Result<Text,
     Ok(Text::from_string(format!(in alloc; ".TP\n\\fB{path}\\fR\nTakes {takes}.\n\\&{means}\n")?))
 }
 
-fn item_key(alloc: Global, path: &str, takes: &str, means: &str) -> Result<Text, NoMemory>
-    ensures { GivesAnswer result (spec.item_key path.now takes.now means.now) }
+fn table_row(alloc: Global, path: &str, takes: &str, means: &str) -> Result<Text, NoMemory>
+    ensures { GivesAnswer result (spec.table_row path.now takes.now means.now) }
 {
-    Ok(Text::from_string(format!(in alloc; "\n- `{path}`: takes {takes}. {means}\n")?))
+    Ok(Text::from_string(format!(in alloc; "| `{path}` | {takes} | {means} |\n")?))
 }

@@ -121,3 +121,6 @@ pub const CONFIG_MARKDOWN_HEAD: &str = "\
 its contexts, relative to its own folder. Each table of a deployment descriptor except `init-param`
 may also have the keys `description` and `display-name`, which are ignored.
 ";
+
+/// The head of a table of keys in Markdown, after the name of a format.
+pub(crate) const KEY_TABLE_HEAD: &str = "\n\n| Key | Takes | Meaning |\n|---|---|---|\n";
