@@ -14,3 +14,4 @@ pub mod Content
 pub mod Cookies
 pub mod Messages
 pub mod Phrases
+pub mod Segments

@@ -5,8 +5,8 @@ ghost use Rattle.sv_message.specs.Chunking.{flushed_content, last_chunk};
 ghost use Rattle.sv_message.specs.Content.{ends_connection, has_own_end};
 
 use crate::pieces::Pieces;
+use crate::segments::Segments;
 use std::alloc::{AllocError, Global};
-use sv_text::Bytes;
 
 const LAST_CHUNK: &[u8] = b"0\r\n\r\n";
 
@@ -14,7 +14,7 @@ const LAST_CHUNK: &[u8] = b"0\r\n\r\n";
 #[derive(Drop)]
 pub enum Body {
     /// The whole body, with a stated length.
-    Whole(Bytes),
+    Whole(Segments),
     /// A body that is sent in pieces, without a stated length.
     Flushed {
         /// The bytes written up to each flush, and after the last one.

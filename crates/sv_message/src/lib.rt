@@ -19,6 +19,7 @@ mod persistence;
 mod pieces;
 mod rare;
 mod response;
+mod segments;
 mod target;
 
 pub use apart::Apart;
@@ -37,4 +38,5 @@ pub use persistence::keeps;
 pub use pieces::Pieces;
 pub use rare::Rare;
 pub use response::{Cookie, Response};
+pub use segments::{MIN_SHARED_BYTES, Segments};
 pub use target::{SCHEME_LEN, TargetForm, target_form};

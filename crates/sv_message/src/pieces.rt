@@ -3,6 +3,7 @@
 ghost use Rattle.std.specs.Prelude.{◌≡◌, ◌++◌, ℕ, List, OnOk};
 ghost use Rattle.sv_message.specs.Chunking.{chunk, chunks, joined, piece_of, size_line};
 
+use crate::segments::Segments;
 use std::alloc::{AllocError, Global};
 use std::marker::Model;
 use sv_text::Bytes;
@@ -11,7 +12,7 @@ use sv_text::Bytes;
 #[derive(Drop)]
 pub struct Pieces {
     flushed: Vec<Bytes>,
-    rest: Vec<u8>,
+    rest: Segments,
 }
 
 impl Model for Pieces {
@@ -20,14 +21,14 @@ impl Model for Pieces {
 
     ghost Value = { List (List ℕ) };
 
-    ghost view = { λ pieces. pieces.flushed.items ++ piece_of pieces.rest.items };
+    ghost view = { λ pieces. pieces.flushed.items ++ piece_of pieces.rest };
 }
 
 impl Pieces {
     /// Returns the flushed pieces, followed by the bytes written since the last flush, without taking memory. If
     /// nothing was written since, there is no last piece.
-    pub fn of(flushed: Vec<Bytes>, rest: Vec<u8>) -> Pieces
-        ensures { result ≡ flushed.items ++ piece_of rest.items }
+    pub fn of(flushed: Vec<Bytes>, rest: Segments) -> Pieces
+        ensures { result ≡ flushed.items ++ piece_of rest }
     {
         Pieces { flushed, rest }
     }
@@ -37,8 +38,7 @@ impl Pieces {
         ensures { OnOk result (text.new.items ≡ text.old.items ++ joined self.now) }
     {
         push_all(text, self.flushed.as_slice())?;
-        text.extend_from_slice(self.rest.as_slice())?;
-        Ok(())
+        self.rest.push_to(text)
     }
 
     /// Appends the pieces as chunks. On an error, some of them may have been appended.
@@ -46,7 +46,7 @@ impl Pieces {
         ensures { OnOk result (text.new.items ≡ text.old.items ++ chunks self.now) }
     {
         push_all_chunks(alloc, text, self.flushed.as_slice())?;
-        push_chunk(alloc, text, self.rest.as_slice())
+        push_rest(alloc, text, &self.rest)
     }
 }
 
@@ -79,6 +79,19 @@ fn push_chunk(alloc: Global, text: &mut Vec<u8>, piece: &[u8]) -> Result<(), All
     }
     push_size_line(alloc, text, piece.len())?;
     text.extend_from_slice(piece)?;
+    text.extend_from_slice(b"\r\n")?;
+    Ok(())
+}
+
+// Appends the bytes written since the last flush as a chunk.
+fn push_rest(alloc: Global, text: &mut Vec<u8>, rest: &Segments) -> Result<(), AllocError>
+    ensures { OnOk result (text.new.items ≡ text.old.items ++ chunk rest.now) }
+{
+    if rest.is_empty() {
+        return Ok(());
+    }
+    push_size_line(alloc, text, rest.len())?;
+    rest.push_to(text)?;
     text.extend_from_slice(b"\r\n")?;
     Ok(())
 }
