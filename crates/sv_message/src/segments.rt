@@ -162,6 +162,22 @@ impl Segments {
         Ok(())
     }
 
+    /// Returns these bytes behind a head. Shared bytes are shared again, and the others are copied behind the head.
+    pub fn with_head(&self, alloc: Global, head: Vec<u8>) -> Result<Segments, NoMemory>
+        ensures { IfOk result (λ text. text ≡ head.items ++ self.now) }
+    {
+        let mut first = head;
+        let Some(_) = first.len().checked_add(self.len()) else {
+            return Err(NoMemory);
+        };
+        first.extend_from_slice(&self.first)?;
+        let behind = match &self.behind {
+            Some(behind) => Some(behind.again(alloc)?),
+            None => None,
+        };
+        Ok(Segments { first, behind })
+    }
+
     /// Appends the bytes to a vector. After [`AllocError`] the bytes and the capacity of the vector are unchanged.
     pub fn push_to(&self, output: &mut Vec<u8>) -> Result<(), AllocError>
         ensures ok { OnOk result (output.new.items ≡ output.old.items ++ self.now) }
@@ -204,6 +220,17 @@ impl Segments {
             self.first.reserve(count)?;
         }
         Ok(())
+    }
+}
+
+impl Behind {
+    // Returns the same segments, with a further owner of the shared bytes.
+    fn again(&self, alloc: Global) -> Result<Box<Behind>, NoMemory>
+        ensures { IfOk result (λ copy. (copy.value.shared ≡ self.now.shared) × (copy.value.last.items ≡ self.now.last.items)) }
+    {
+        let mut copy = behind_of(alloc, &self.shared)?;
+        copy.last.extend_from_slice(&self.last)?;
+        Ok(copy)
     }
 }
 
