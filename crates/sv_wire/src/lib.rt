@@ -34,7 +34,7 @@ pub use laws::{
 };
 pub use limits::{MAX_BODY_LEN, MAX_FIELD_LINES, MAX_HEAD_LEN, MAX_SIZE_LINE_LEN, MAX_TRAILER_LEN};
 pub use owed_head::OwedHead;
-pub use response_text::{response_texts_are_unique, write_response};
+pub use response_text::{response_texts_are_unique, send_response, write_response};
 pub use round_trip::{
     broken_answers_are_no_bodies, flushed_answers_are_read_back, framing_lines_are_read_back,
     the_reader_reads_answers_back, whole_answers_are_read_back,

@@ -14,7 +14,7 @@ use crate::date_text::DateText;
 use http::StatusCode;
 use itoa::Buffer;
 use std::alloc::AllocError;
-use sv_message::{Body, Cookie, Field, Response, flushed_content};
+use sv_message::{Body, Cookie, Field, Response, Segments, flushed_content};
 use sv_text::NoMemory;
 
 /// The status of a response that has no content (RFC 9110, section 15.3.5).
@@ -34,8 +34,7 @@ const TEXT_ROOM: usize = 512;
 /// An empty line and the body follow. With `head_only`, as in the response to HEAD (RFC 9110, section 9.3.2), the lines
 /// are the same but the body is left out. With 204 there is no body either.
 ///
-/// After [`NoMemory`] the bytes and the capacity of the output are unchanged. The text is made in the memory of `room`,
-/// which an empty output then takes over.
+/// After [`NoMemory`] the bytes and the capacity of the output are unchanged. The text is made in the memory of `room`.
 pub fn write_response(
     response: &Response,
     head_only: bool,
@@ -50,8 +49,31 @@ pub fn write_response(
     ensures no_memory { OnErr result (output.new.items ≡ output.old.items) }
     ensures room { OnErr result (vec_capacity output.new ≡ vec_capacity output.old) }
 {
-    let head = head_of(room, response, keep, date.as_bytes())?;
-    append_text(output, head, response, head_only)?;
+    let text = text_of(room, response, head_only, keep, date.as_bytes())?;
+    text.push_to(output)?;
+    Ok(())
+}
+
+/// Appends the text of a response to the output, as [`write_response`] does, but without copying the shared bytes of
+/// its body if the output is empty.
+///
+/// After [`NoMemory`] the output is unchanged. The text is made in the memory of `room`, which an empty output then
+/// takes over.
+pub fn send_response(
+    response: &Response,
+    head_only: bool,
+    keep: bool,
+    date: &DateText,
+    room: Vec<u8>,
+    output: &mut Segments,
+) -> Result<(), NoMemory>
+    requires { IsStatusCode response.now.status }
+    ensures text { OnOk result ((shown : Date) × IsDateAt date.now shown
+        × (output.new ≡ output.old ++ response_text response.now head_only keep shown)) }
+    ensures no_memory { OnErr result (output.new ≡ output.old) }
+{
+    let text = text_of(room, response, head_only, keep, date.as_bytes())?;
+    output.append(text)?;
     Ok(())
 }
 
@@ -59,6 +81,21 @@ pub fn write_response(
 pub fn response_texts_are_unique()
     ensures { ResponseTextsAreUnique }
 {}
+
+// Returns the text of a response, made in the memory of `room`.
+fn text_of(
+    room: Vec<u8>,
+    response: &Response,
+    head_only: bool,
+    keep: bool,
+    date: &[u8],
+) -> Result<Segments, NoMemory>
+    requires { IsStatusCode response.now.status }
+    ensures { (shown : Date) → date.now ≡ date_text shown → IfOk result (λ text. text ≡ response_text response.now head_only keep shown) }
+{
+    let head = head_of(room, response, keep, date)?;
+    with_body(head, response, head_only)
+}
 
 #[tactic(auto, unfolding(crate::specs::ResponseText::response_head))]
 fn head_of(
@@ -83,69 +120,33 @@ fn head_of(
     Ok(head)
 }
 
-// Appends the head and the part of the body that is sent, or neither.
-fn append_text(
-    output: &mut Vec<u8>,
-    head: Vec<u8>,
-    response: &Response,
-    head_only: bool,
-) -> Result<(), AllocError>
-    ensures ok { OnOk result (output.new.items ≡ output.old.items ++ head.items ++ sent_body head_only response.now) }
-    ensures err { OnErr result (output.new.items ≡ output.old.items) }
-    ensures room { OnErr result (vec_capacity output.new ≡ vec_capacity output.old) }
+// Returns the part of the body that is sent, behind a head.
+fn with_body(head: Vec<u8>, response: &Response, head_only: bool) -> Result<Segments, NoMemory>
+    ensures { IfOk result (λ text. text ≡ head.items ++ sent_body head_only response.now) }
 {
     if head_only || !allows_content(response.status) {
-        return append_both(output, head, &[]);
+        return Ok(Segments::from_vec(head));
     }
-    append_content(output, head, &response.body)
+    with_content(head, &response.body)
 }
 
-// Appends the head and the body, or neither.
-fn append_content(output: &mut Vec<u8>, head: Vec<u8>, body: &Body) -> Result<(), AllocError>
-    ensures ok { OnOk result (output.new.items ≡ output.old.items ++ head.items ++ content body.now) }
-    ensures err { OnErr result (output.new.items ≡ output.old.items) }
-    ensures room { OnErr result (vec_capacity output.new ≡ vec_capacity output.old) }
+// Returns a body behind a head.
+fn with_content(head: Vec<u8>, body: &Body) -> Result<Segments, NoMemory>
+    ensures { IfOk result (λ text. text ≡ head.items ++ content body.now) }
 {
+    let alloc = *head.allocator();
     match body {
-        Body::Whole(bytes) => append_both(output, head, bytes.as_slice()),
+        Body::Whole(bytes) => bytes.with_head(alloc, head),
         Body::Flushed {
             pieces,
             chunked,
             broken,
         } => {
-            let text = flushed_content(*output.allocator(), pieces, *chunked, *broken)?;
-            append_both(output, head, &text)
+            let mut text = head;
+            text.extend_from_slice(&flushed_content(alloc, pieces, *chunked, *broken)?)?;
+            Ok(Segments::from_vec(text))
         }
     }
-}
-
-// Appends both texts, or neither.
-#[inline(always)]
-fn append_both(output: &mut Vec<u8>, first: Vec<u8>, second: &[u8]) -> Result<(), AllocError>
-    ensures ok { OnOk result (output.new.items ≡ output.old.items ++ first.items ++ second.now) }
-    ensures err { OnErr result (output.new.items ≡ output.old.items) }
-    ensures room { OnErr result (vec_capacity output.new ≡ vec_capacity output.old) }
-{
-    if output.is_empty() {
-        return set_both(output, first, second);
-    }
-    output.reserve(first.len() + second.len())?;
-    output.extend_from_slice(&first).unwrap();
-    output.extend_from_slice(second).unwrap();
-    Ok(())
-}
-
-// Makes both texts the output, which must be empty, or leaves it unchanged.
-#[inline(always)]
-fn set_both(output: &mut Vec<u8>, first: Vec<u8>, second: &[u8]) -> Result<(), AllocError>
-    requires { output.old.items ≡ [] }
-    ensures ok { OnOk result (output.new.items ≡ first.items ++ second.now) }
-    ensures err { OnErr result (output.new ≡ output.old) }
-{
-    let mut text = first;
-    text.extend_from_slice(second)?;
-    *output = text;
-    Ok(())
 }
 
 fn push_status_line(head: &mut Vec<u8>, status: u16) -> Result<(), AllocError>
@@ -276,7 +277,7 @@ fn push_framing_line(head: &mut Vec<u8>, body: &Body) -> Result<(), AllocError>
     ensures { OnOk result (head.new.items ≡ head.old.items ++ framing_line body.now) }
 {
     match body {
-        Body::Whole(bytes) => push_length_line(head, bytes.as_slice().len()),
+        Body::Whole(bytes) => push_length_line(head, bytes.len()),
         Body::Flushed { chunked: true, .. } => {
             push_field_line(head, b"transfer-encoding", b"chunked")
         }
