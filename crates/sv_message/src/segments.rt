@@ -5,6 +5,7 @@ ghost use Rattle.std.specs.Prelude.{◌≡◌, ◌==◌, ◌++◌, ◌^◌, ◌-
 use bytes::Bytes;
 use std::alloc::{AllocError, Global};
 use std::marker::Model;
+use std::mem;
 use sv_text::NoMemory;
 
 /// The least number of bytes that are shared instead of copied.
@@ -199,6 +200,22 @@ impl Segments {
         let mut bytes = Vec::new(alloc);
         self.push_to(&mut bytes)?;
         Ok(bytes)
+    }
+
+    /// Takes all bytes out. An only segment is not copied. After [`NoMemory`] nothing has changed.
+    pub fn take(&mut self, alloc: Global) -> Result<Vec<u8>, NoMemory>
+        ensures taken { IfOk result (λ bytes. bytes.items ≡ self.old) }
+        ensures emptied { OnOk result (self.new ≡ []) }
+        ensures err { OnErr result (self.new ≡ self.old) }
+    {
+        match &self.behind {
+            Some(_) => {
+                let bytes = self.copied(alloc)?;
+                self.clear();
+                Ok(bytes)
+            }
+            None => Ok(mem::replace(&mut self.first, Vec::new(alloc))),
+        }
     }
 
     /// Returns the memory of the first segment, emptied.
