@@ -10,7 +10,7 @@ use crate::fields::{add_field, is_reserved_field, set_field};
 use crate::limits::{
     FIRST_ROOM, LEAST_STATUS, MAX_RESPONSE_BODY_LEN, MAX_STATUS, NOT_MODIFIED, RESET_CONTENT,
 };
-use sv_text::NoMemory;
+use bytes::Bytes;
 
 impl Exchange {
     ghost use Rattle.sv_exchange.specs.Dispatches.{is_within_include};
@@ -53,6 +53,16 @@ impl Exchange {
         ensures reached { Reaches self.old self.new }
     {
         self.do_write(bytes)
+    }
+
+    /// Appends bytes to the body as [`write`](Exchange::write) does, but shares them with their other owners instead of
+    /// copying them, if they are at least [`MIN_SHARED_BYTES`](sv_message::MIN_SHARED_BYTES) and the body has no shared
+    /// bytes yet.
+    pub fn write_shared(&mut self, bytes: &Bytes) -> Result<bool, ExchangeFault>
+        ensures does { Does (Write bytes.now) result self.old self.new }
+        ensures reached { Reaches self.old self.new }
+    {
+        self.do_write_shared(bytes)
     }
 
     /// Sets the value of the attribute with the name, which is case-sensitive, or adds one (Jakarta Servlet 6.0,
@@ -153,9 +163,19 @@ impl Exchange {
             return Err(ExchangeFault::TooLarge);
         }
         if !self.committed {
-            make_room(&mut self.buffer, bytes.len())?;
+            self.buffer.reserve_first(bytes.len().max(FIRST_ROOM))?;
         }
         self.buffer.extend_from_slice(bytes)?;
+        Ok(true)
+    }
+
+    fn do_write_shared(&mut self, bytes: &Bytes) -> Result<bool, ExchangeFault>
+        ensures { Does (Write bytes.now) result self.old self.new }
+    {
+        if !self.has_room(bytes.len()) {
+            return Err(ExchangeFault::TooLarge);
+        }
+        self.buffer.push_shared(self.alloc, bytes)?;
         Ok(true)
     }
 
@@ -172,21 +192,10 @@ impl Exchange {
     fn do_flush(&mut self) -> Result<bool, ExchangeFault>
         ensures { Does Flush result self.old self.new }
     {
-        self.flushed.take_piece(&mut self.buffer)?;
+        self.flushed.take_piece(self.alloc, &mut self.buffer)?;
         self.committed = true;
         Ok(true)
     }
-}
-
-// Gives a buffer without capacity room for `count` bytes, and for at least `FIRST_ROOM`, so that later small writes do
-// not grow it.
-fn make_room(buffer: &mut Vec<u8>, count: usize) -> Result<(), NoMemory>
-    ensures { buffer.new.items ≡ buffer.old.items }
-{
-    if buffer.capacity() == 0 {
-        buffer.reserve(count.max(FIRST_ROOM))?;
-    }
-    Ok(())
 }
 
 // Returns whether a component may set the status.

@@ -19,7 +19,7 @@ use std::alloc::Global;
 use std::collections::VecDeque;
 use std::marker::Model;
 use std::mem;
-use sv_message::{Body, Cookie, CookieSettings, Field, Message, Rare, Response};
+use sv_message::{Body, Cookie, CookieSettings, Field, Message, Rare, Response, Segments};
 use sv_realm::Caller;
 use sv_session::{Event, Sessions};
 use sv_text::{Bytes, Listed, NoMemory, Text};
@@ -43,7 +43,7 @@ pub struct Exchange {
     pub(crate) status: u16,
     pub(crate) fields: Vec<Field>,
     pub(crate) flushed: Flushed,
-    pub(crate) buffer: Vec<u8>,
+    pub(crate) buffer: Segments,
     pub(crate) committed: bool,
     pub(crate) broken: bool,
     pub(crate) calls: u32,
@@ -75,7 +75,7 @@ impl Model for Exchange {
       status = e.status;
       fields = e.fields.items;
       flushed = e.flushed;
-      buffer = e.buffer.items;
+      buffer = e.buffer;
       committed = e.committed;
       broken = e.broken;
       calls = e.calls;
@@ -111,7 +111,7 @@ impl Exchange {
             status: OK,
             fields: Vec::new(alloc),
             flushed: Flushed::new(alloc),
-            buffer: Vec::new(alloc),
+            buffer: Segments::new(alloc),
             committed: false,
             broken: false,
             calls: 0,
@@ -233,7 +233,7 @@ impl Exchange {
         self.status = OK;
         clear(&mut self.fields);
         self.flushed = Flushed::new(self.alloc);
-        clear(&mut self.buffer);
+        self.buffer.clear();
         self.committed = false;
         self.broken = false;
         self.calls = 0;
@@ -255,7 +255,7 @@ impl Exchange {
         let body = body_of(
             self.committed,
             mem::replace(&mut self.flushed, Flushed::new(self.alloc)),
-            mem::replace(&mut self.buffer, Vec::new(self.alloc)),
+            mem::replace(&mut self.buffer, Segments::new(self.alloc)),
             self.reads_chunks,
             self.broken,
         );
@@ -282,18 +282,18 @@ impl Exchange {
     {
         let Response { fields, body, .. } = response;
         self.fields = emptied(self.alloc, fields.into_vec(), MAX_KEPT_FIELDS);
-        self.buffer = emptied(
+        self.buffer = Segments::from_vec(emptied(
             self.alloc,
-            bytes_of(self.alloc, body),
+            room_of(self.alloc, body),
             MAX_KEPT_BUFFER_BYTES,
-        );
+        ));
     }
 }
 
-// Returns the buffer of a whole body, and an empty one for a body in pieces.
-fn bytes_of(alloc: Global, body: Body) -> Vec<u8> {
+// Returns the memory of a whole body, and none for a body in pieces.
+fn room_of(alloc: Global, body: Body) -> Vec<u8> {
     match body {
-        Body::Whole(bytes) => bytes.into_vec(),
+        Body::Whole(bytes) => bytes.into_room(),
         Body::Flushed { .. } => Vec::new(alloc),
     }
 }

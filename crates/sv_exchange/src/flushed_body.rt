@@ -6,8 +6,7 @@ ghost use Rattle.sv_message.specs.Chunking.{joined, piece_of};
 
 use std::alloc::Global;
 use std::marker::Model;
-use std::mem;
-use sv_message::{Body, Pieces};
+use sv_message::{Body, Pieces, Segments};
 use sv_text::{Bytes, NoMemory};
 
 /// The flushed pieces of a body, and their total length. Contracts see the list of pieces.
@@ -48,19 +47,22 @@ impl Flushed {
     }
 
     /// Moves the written bytes, if any, into a new piece. After [`NoMemory`] nothing has changed.
-    pub(crate) fn take_piece(&mut self, written: &mut Vec<u8>) -> Result<(), NoMemory>
-        ensures taken { OnOk result (self.new ≡ self.old ++ piece_of written.old.items) }
-        ensures emptied { OnOk result (written.new.items ≡ []) }
+    pub(crate) fn take_piece(
+        &mut self,
+        alloc: Global,
+        written: &mut Segments,
+    ) -> Result<(), NoMemory>
+        ensures taken { OnOk result (self.new ≡ self.old ++ piece_of written.old) }
+        ensures emptied { OnOk result (written.new ≡ []) }
         ensures refused { OnErr result (self.new ≡ self.old) }
-        ensures stays { OnErr result (written.new.items ≡ written.old.items) }
+        ensures stays { OnErr result (written.new ≡ written.old) }
     {
         if written.is_empty() {
             return Ok(());
         }
         self.pieces.reserve(1)?;
-        let alloc = *written.allocator();
         let total = self.total.saturating_add(written.len());
-        let piece = mem::replace(written, Vec::new(alloc));
+        let piece = written.take(alloc)?;
         self.pieces.push(Bytes::from_vec(piece)).unwrap();
         self.total = total;
         Ok(())
@@ -72,14 +74,14 @@ impl Flushed {
 pub(crate) fn body_of(
     committed: bool,
     flushed: Flushed,
-    buffer: Vec<u8>,
+    buffer: Segments,
     chunked: bool,
     broken: bool,
 ) -> Body
-    ensures { result ≡ body_of committed flushed buffer.items chunked broken }
+    ensures { result ≡ body_of committed flushed buffer chunked broken }
 {
     if !committed {
-        return Body::Whole(Bytes::from_vec(buffer));
+        return Body::Whole(buffer);
     }
     let Flushed { pieces, .. } = flushed;
     let rest = unbroken(buffer, broken);
@@ -91,11 +93,12 @@ pub(crate) fn body_of(
 }
 
 // Returns the bytes written since the last flush, and none if the response is truncated.
-fn unbroken(buffer: Vec<u8>, broken: bool) -> Vec<u8>
-    ensures { piece_of result.items ≡ last_piece broken buffer.items }
+fn unbroken(buffer: Segments, broken: bool) -> Segments
+    ensures { piece_of result ≡ last_piece broken buffer }
 {
+    let mut rest = buffer;
     if broken {
-        return Vec::new(*buffer.allocator());
+        rest.clear();
     }
-    buffer
+    rest
 }
