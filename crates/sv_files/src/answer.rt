@@ -3,6 +3,7 @@
 ghost use Rattle.std.specs.Prelude.{◌≡◌};
 ghost use Rattle.sv_files.specs.Answer as spec;
 
+use bytes::Bytes;
 use sv_mapping::Kind;
 use sv_text::Text;
 
@@ -10,7 +11,7 @@ use sv_text::Text;
 #[derive(Drop)]
 pub enum FileAnswer<'a> {
     /// The bytes of the path's file.
-    File(&'a [u8]),
+    File(&'a Bytes),
     /// The path of a folder's welcome file or welcome servlet. The client is redirected to it.
     Welcome(Text),
     /// The path is a folder's. The client is redirected to it with `/` added.

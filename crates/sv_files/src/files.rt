@@ -12,10 +12,11 @@ use crate::fault::FilesFault;
 use crate::index::Index;
 use crate::list::{ends_in_slash, has_bad_path, has_large_file, index_of};
 use crate::welcome::{is_served, joined};
+use bytes::Bytes;
 use std::alloc::Global;
 use std::marker::Model;
 use sv_mapping::{Kind, Pattern};
-use sv_text::{Bytes, NoMemory, Text};
+use sv_text::{NoMemory, Text};
 
 /// The static files of a context. Contracts see a list of them.
 #[derive(Drop)]
@@ -163,11 +164,11 @@ impl Files {
         self.index.is_folder(path)
     }
 
-    fn bytes_at(&self, path: &str) -> Option<&[u8]>
+    fn bytes_at(&self, path: &str) -> Option<&Bytes>
         ensures { option_copied result ≡ file_at self.now path.now }
     {
         let file = self.list.get(self.index.place_of(path)?)?;
-        Some(file.bytes.as_slice())
+        Some(&file.bytes)
     }
 }
 
@@ -194,7 +195,7 @@ fn welcome_servlet(
 pub struct File {
     /// The path, which begins with `/` and is canonical.
     pub path: Text,
-    /// The contents of the file.
+    /// The contents of the file. Its owners share the bytes, so a response takes no copy of them.
     pub bytes: Bytes,
 }
 

@@ -75,5 +75,5 @@ pub(crate) fn has_large_file(files: &[File]) -> bool
 fn is_large(file: &File) -> bool
     ensures { result ≡ nat_lt MAX_FILE_BYTES (length file.now.bytes) }
 {
-    file.bytes.as_slice().len() > MAX_FILE_BYTES
+    file.bytes.len() > MAX_FILE_BYTES
 }

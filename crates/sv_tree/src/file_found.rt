@@ -7,6 +7,7 @@ ghost use Rattle.sv_tree.specs.Seen.{found_seen};
 ghost use Rattle.sv_text.specs.Gives.{GivesAnswer};
 
 use crate::redirect::sent_to;
+use bytes::Bytes;
 use std::alloc::Global;
 use sv_files::{FileAnswer, content_type_of};
 use sv_text::{NoMemory, Text};
@@ -20,7 +21,7 @@ pub enum FileFound<'a> {
         /// The content type, by the extension of the path.
         content_type: &'static str,
         /// The content of the file.
-        bytes: &'a [u8],
+        bytes: &'a Bytes,
     },
     /// The value of the Location field that redirects the client to a welcome file or to a folder.
     Redirect(Text),

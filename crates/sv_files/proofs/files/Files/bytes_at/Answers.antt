@@ -11,4 +11,4 @@ pub returns : goal.returns
 returns c =
     let files = c.self.inside.list.items in
     let lookup = rw c.deref.ensures.value at c.in_ok-file.ensures.lookup in
-    rw (c.as_slice.ensures, ← c.self.view_is) (sym (file_at-some files c.args.path.now c.in_ok-place_of.field-0 c.in_ok-file.file.now (c.in_ok-place_of.ensures files c.self.invariant.1) lookup.3.0 lookup.1))
+    rw (← c.self.view_is) (sym (file_at-some files c.args.path.now c.in_ok-place_of.field-0 c.in_ok-file.file.now (c.in_ok-place_of.ensures files c.self.invariant.1) lookup.3.0 lookup.1))
