@@ -5,7 +5,7 @@ use sv_journal::{Entry, Journal, RefusalCause};
 use sv_policy::{Edit, EditFault};
 use sv_rows::Draft;
 use sv_run::{EventHandler, Happening, Reaction, StepFault};
-use sv_text::Bytes;
+use sv_message::Segments;
 use sv_wire::Awaited;
 
 /// Sends the bytes of each piece and its time, in angle brackets, and notes each event except edits. A piece of full
@@ -38,7 +38,7 @@ impl Echo {
 
     fn plain(&self, closes: bool) -> Reaction {
         Reaction {
-            sends: Bytes::from_vec(Vec::new(self.alloc)),
+            sends: Segments::new(self.alloc),
             closes,
             journal: Journal::new(self.alloc),
             edited: None,
@@ -94,7 +94,7 @@ impl Echo {
         }
         match sends.finish() {
             Ok(sends) => Ok(Reaction {
-                sends: Bytes::from_vec(sends),
+                sends: Segments::from_vec(sends),
                 closes: bytes.last() == Some(&b'!'),
                 journal,
                 edited: None,

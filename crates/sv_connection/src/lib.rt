@@ -25,6 +25,7 @@ mod serial_loop;
 mod step;
 mod timeouts;
 mod turn;
+mod unsent_bytes;
 mod without_queries;
 
 pub use acceptor::{AcceptFailed, Acceptor};

@@ -10,13 +10,13 @@ use crate::close_reason::{CloseReason, Closing};
 use crate::limits::{FIRST_READ_BYTES, READ_BYTES};
 use crate::peer::{Peer, Tried};
 use crate::pending_bytes::{Pending, Sent};
+use crate::unsent_bytes::Unsent;
 use crate::phase::Phase;
 use crate::pieces::piece_len;
 use crate::step::Step;
 use crate::timeouts::Timeouts;
 use std::alloc::Global;
 use std::marker::Model;
-use std::mem;
 use sv_journal::Journal;
 use sv_run::{EventHandler, Happening, Reaction, StepFault};
 use sv_streams::Clock;
@@ -29,7 +29,7 @@ pub(crate) struct Connection<P> {
     stream: P,
     // Bytes read that wait to be passed to the handler, and bytes that wait to be written.
     ahead: Pending,
-    unsent: Pending,
+    unsent: Unsent,
     phase: Phase,
     // The number of bytes of the message under way that were passed to the handler.
     under_way: u64,
@@ -72,7 +72,7 @@ impl<P: Peer> Connection<P> {
         Connection {
             stream,
             ahead: Pending::new(alloc),
-            unsent: Pending::new(alloc),
+            unsent: Unsent::new(alloc),
             phase: Phase::Open(Awaited::Message),
             under_way: 0,
             rests: true,
@@ -319,7 +319,8 @@ impl<P: Peer> Connection<P> {
             return self.arm();
         }
         left.calls -= 1;
-        match self.stream.write(self.unsent.front(left.bytes)) {
+        let (first, shared, last) = self.unsent.front(left.bytes);
+        match self.stream.write_slices(first, shared, last) {
             Tried::Done(count) => {
                 self.unsent.skip(count);
                 left.bytes -= count;
@@ -386,12 +387,11 @@ impl<P: Peer> Connection<P> {
             self.phase,
             self.under_way,
             count as u64,
-            sends.as_slice(),
+            &sends,
         );
         self.phase = phase;
         self.rests = false;
-        let written = mem::replace(&mut self.unsent, Pending::of(sends));
-        (written.into_vec(), journal)
+        (self.unsent.replace(sends), journal)
     }
 
     // Arms the stream. If this fails, the connection is given up.

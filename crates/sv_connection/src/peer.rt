@@ -1,6 +1,6 @@
 //! Nonblocking streams.
 
-ghost use Rattle.std.specs.Prelude.{◌<◌, length};
+ghost use Rattle.std.specs.Prelude.{◌<◌, ◌++◌, length};
 ghost use Rattle.sv_connection.specs.Ways.{TellsWait, TriesRead, TriesWrite, Ways};
 
 /// The result of a nonblocking call.
@@ -28,10 +28,10 @@ pub trait Peer {
     fn would_block(&mut self) -> bool
         ensures { TellsWait ways self.old result self.new };
 
-    /// Writes bytes, at least one. The first of them are taken.
-    fn write(&mut self, bytes: &[u8]) -> Tried
-        requires { 0 < length bytes.now }
-        ensures { TriesWrite ways self.old result bytes.now self.new };
+    /// Writes the bytes of three slices in their order, at least one byte. The first of them are taken.
+    fn write_slices(&mut self, first: &[u8], second: &[u8], third: &[u8]) -> Tried
+        requires { 0 < length (first.now ++ second.now ++ third.now) }
+        ensures { TriesWrite ways self.old result (first.now ++ second.now ++ third.now) self.new };
 
     /// Asks for readiness to be reported again, also if the stream was ready before. Returns whether this succeeded.
     fn arm(&mut self) -> bool

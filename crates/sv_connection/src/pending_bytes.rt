@@ -7,7 +7,7 @@ use crate::limits::FIRST_READ_BYTES;
 use crate::peer::{Peer, Tried};
 use std::alloc::Global;
 use std::marker::Model;
-use sv_text::{Bytes, NoMemory};
+use sv_text::NoMemory;
 
 /// A buffer of bytes that wait to be passed to the handler or to be written. Contracts see their list. It keeps at most
 /// twice as many bytes as wait, or the size of a first read. After these bytes follows the rest of the read buffer,
@@ -44,11 +44,10 @@ impl Pending {
         }
     }
 
-    /// Creates a buffer of all bytes of a text.
-    pub fn of(bytes: Bytes) -> Pending
-        ensures { result ≡ bytes }
+    /// Creates a buffer of all bytes of a vector.
+    pub fn of(bytes: Vec<u8>) -> Pending
+        ensures { result ≡ bytes.items }
     {
-        let bytes = bytes.into_vec();
         let end = bytes.len();
         Pending { bytes, at: 0, end }
     }
@@ -80,19 +79,6 @@ impl Pending {
     {
         let bytes = self.bytes.as_slice().split_at(self.end).0;
         bytes.split_at(self.at).1
-    }
-
-    /// Returns the first of the bytes, at most `most` of them.
-    pub fn front(&self, most: usize) -> &[u8]
-        requires { 0 < most }
-        ensures first { result.now ≡ take most self.now }
-        ensures some { 0 < length self.now → 0 < length result.now }
-    {
-        let bytes = self.as_slice();
-        if bytes.len() <= most {
-            return bytes;
-        }
-        bytes.split_at(most).0
     }
 
     /// Skips `count` bytes. When more than half of the buffer is skipped, its memory is freed, except the size of a

@@ -5,6 +5,7 @@ ghost use Rattle.std.specs.Prelude.{◌≡◌};
 ghost use Rattle.sv_connection.specs.Phases as spec;
 
 use crate::limits::MAX_UNDER_WAY;
+use sv_message::Segments;
 use sv_journal::{Entry, RefusalCause};
 use sv_wire::Awaited;
 
@@ -84,7 +85,7 @@ impl Phase {
     /// `before` is the phase before this piece, `self` the phase after it, and `sends` the bytes of its reaction. The
     /// result is at most [`MAX_UNDER_WAY`].
     #[inline(always)]
-    pub fn under_way(self, before: Phase, under_way: u64, count: u64, sends: &[u8]) -> u64
+    pub fn under_way(self, before: Phase, under_way: u64, count: u64, sends: &Segments) -> u64
         ensures { result ≡ spec.under_way_after before under_way count sends.now self }
     {
         if !self.is_under_way() {

@@ -1,11 +1,13 @@
 //! One read of a connection, and its reaction.
 
 ghost use Rattle.std.specs.Prelude.{◌<◌, length};
+ghost use Rattle.sv_streams.specs.Calls.{WritesAll};
 ghost use Rattle.sv_connection.specs.TurnSteps.{Sends, TakesTurn};
 
 use crate::over::{Over, tell_over};
 use sv_run::{EventHandler, Happening, Reaction, StepFault};
-use sv_streams::{Clock, Sink, Source, write_all};
+use sv_message::Segments;
+use sv_streams::{Clock, Sink, Source, WriteFailed, write_all};
 
 /// Reads once, passes the piece to the handler with the time that the clock then gives, and writes the bytes of the
 /// reaction. Returns none if the connection continues.
@@ -47,7 +49,7 @@ fn send<R: EventHandler, S: Sink>(
 ) -> Option<Result<Over, StepFault>>
     ensures { Sends R.steps connection S.makes handler.old stream.old reaction.now result handler.new stream.new }
 {
-    match write_all(stream, reaction.sends.as_slice()) {
+    match write_segments(stream, &reaction.sends) {
         Ok(()) => {}
         Err(_) => return Some(tell_over(handler, connection, Over::Lost)),
     }
@@ -55,4 +57,14 @@ fn send<R: EventHandler, S: Sink>(
         return Some(tell_over(handler, connection, Over::Closed));
     }
     None
+}
+
+// Writes all segments in their order. If a write fails, no other write follows it.
+fn write_segments<S: Sink>(stream: &mut S, segments: &Segments) -> Result<(), WriteFailed>
+    ensures { WritesAll S.makes segments.now stream.old result stream.new }
+{
+    let (first, shared, last) = segments.slices();
+    write_all(stream, first)?;
+    write_all(stream, shared)?;
+    write_all(stream, last)
 }

@@ -6,6 +6,7 @@ use crate::outcome::{Law, Outcome};
 use std::alloc::Global;
 use sv_container::{Container, NewCode};
 use sv_journal::{Journal, StartCode};
+use sv_message::Segments;
 use sv_run::{CountedWords, Happening, Reaction, StepFault};
 use sv_text::NoMemory;
 
@@ -216,9 +217,15 @@ fn send(
     sent(container.step(piece), response)
 }
 
+// Returns whether the bytes are those of a text, none of them shared.
+fn is_text(bytes: &Segments, text: &str) -> bool {
+    let (first, shared, last) = bytes.slices();
+    first == text.as_bytes() && shared.is_empty() && last.is_empty()
+}
+
 fn sent(taken: Result<Reaction, StepFault>, text: &str) -> Result<(), Outcome> {
     match &taken {
-        Ok(reaction) if reaction.sends.as_slice() == text.as_bytes() => Ok(()),
+        Ok(reaction) if is_text(&reaction.sends, text) => Ok(()),
         Ok(_) => Err(Outcome::Broken(Law::Responses)),
         Err(StepFault::NoMemory) => Err(Outcome::Stopped),
         Err(_) => Err(Outcome::Broken(Law::Refusals)),

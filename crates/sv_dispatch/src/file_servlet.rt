@@ -8,6 +8,7 @@ ghost use Rattle.sv_tree.specs.SiteOfDescriptor.{site_of};
 
 use crate::endings::{fault, missing, not_allowed};
 use crate::machine::Machine;
+use bytes::Bytes;
 use std::alloc::Global;
 use sv_mapping::Kind;
 use sv_text::NoMemory;
@@ -40,7 +41,7 @@ fn send<M: Machine>(
     machine: &mut M,
     site: &Site,
     content_type: &str,
-    bytes: &[u8],
+    bytes: &Bytes,
 ) -> Result<Finished, NoMemory>
     ensures { Did M.state M.frame M.ran (Sends (site_of site.now) content_type.now bytes.now) machine.old machine.new (seen result) }
 {

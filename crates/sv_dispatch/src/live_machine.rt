@@ -6,6 +6,7 @@ use crate::parts::{
     step_of, unless_broken,
 };
 use crate::session_events::tell_events;
+use bytes::Bytes;
 use std::alloc::Global;
 use sv_component::{Exchange, Filter, Gate, Listener, Servlet, Standing, Step};
 use sv_journal::Journal;
@@ -102,8 +103,8 @@ impl<S: Servlet, F: Filter, L: Listener> Machine for Running<'_, S, F, L> {
         made(self.exchange.set_header(name, value))
     }
 
-    fn offer(&mut self, bytes: &[u8]) -> Result<bool, NoMemory> {
-        offer(self.exchange.write(bytes))
+    fn offer(&mut self, bytes: &Bytes) -> Result<bool, NoMemory> {
+        offer(self.exchange.write_shared(bytes))
     }
 
     fn empty(&mut self) {

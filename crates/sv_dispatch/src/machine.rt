@@ -1,6 +1,7 @@
 //! The elementary steps of a dispatch: one method for each step of the model.
 
 use crate::parts::ErrorField;
+use bytes::Bytes;
 use sv_component::{Gate, Standing, Step};
 use sv_mapping::Kind;
 use sv_text::NoMemory;
@@ -91,7 +92,7 @@ pub(crate) trait Machine: Sized {
         ensures { Did state frame ran (makes (SetHeader name.now value.now)) self.old self.new (seen result) };
 
     /// Writes the bytes if the body has room for them, and returns whether it has.
-    fn offer(&mut self, bytes: &[u8]) -> Result<bool, NoMemory>
+    fn offer(&mut self, bytes: &Bytes) -> Result<bool, NoMemory>
         ensures { Did state frame ran (offers bytes.now) self.old self.new (seen result) };
 
     /// Discards the body written so far, unless the response is committed.

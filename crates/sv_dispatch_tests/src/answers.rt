@@ -7,7 +7,7 @@ use std::alloc::Global;
 use sv_dispatch::{dispatch, serve, show_error};
 use sv_exchange::{Exchange, KeptError};
 use sv_journal::Journal;
-use sv_message::{Body, Response};
+use sv_message::{Body, Response, Segments};
 use sv_rows::Draft;
 use sv_session::Sessions;
 use sv_text::NoMemory;
@@ -289,7 +289,7 @@ fn add_response(alloc: Global, told: &mut Draft, response: &Response) {
     }
     told.add(" | ");
     match &response.body {
-        Body::Whole(body) => add_body(told, body.as_slice()),
+        Body::Whole(body) => add_body(told, body),
         Body::Flushed { .. } => add_sent(alloc, told, response),
     }
 }
@@ -310,9 +310,12 @@ fn add_sent(alloc: Global, told: &mut Draft, response: &Response) {
 }
 
 /// Adds a body, or its length if it has more than 200 bytes.
-fn add_body(told: &mut Draft, body: &[u8]) {
+fn add_body(told: &mut Draft, body: &Segments) {
     if body.len() <= 200 {
-        told.add_bytes(body);
+        let (first, shared, last) = body.slices();
+        told.add_bytes(first);
+        told.add_bytes(shared);
+        told.add_bytes(last);
     } else {
         told.add_shown(&body.len());
         told.add(" bytes");

@@ -216,7 +216,10 @@ fn tell_response(response: &Response, told: &mut Draft) {
     }
     told.add(" | ");
     if let Body::Whole(body) = &response.body {
-        told.add_bytes(body.as_slice());
+        let (first, shared, last) = body.slices();
+        told.add_bytes(first);
+        told.add_bytes(shared);
+        told.add_bytes(last);
     }
 }
 

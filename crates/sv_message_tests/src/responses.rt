@@ -2,7 +2,7 @@
 
 use http::{HeaderName, HeaderValue};
 use std::alloc::Global;
-use sv_message::{Body, Cookie, Pieces, Rare, Response};
+use sv_message::{Body, Cookie, Pieces, Rare, Response, Segments};
 use sv_rows::{Asks, cell, unescaped};
 use sv_text::{Bytes, Listed, NoMemory, Text};
 use sv_wire::{DateText, Field, write_response};
@@ -55,7 +55,7 @@ fn body_of(alloc: Global, cell: &str) -> Result<Body, NoMemory> {
     let (words, pieces) = cell.split_once(": ").unwrap_or(("", cell));
     let (ending, version) = words.split_once(' ').unwrap_or(("", ""));
     if !matches!(ending, "flushed" | "broken") {
-        return Ok(Body::Whole(Bytes::from_vec(unescaped(alloc, cell)?)));
+        return Ok(Body::Whole(Segments::from_vec(unescaped(alloc, cell)?)));
     }
     Ok(Body::Flushed {
         pieces: pieces_of(alloc, pieces)?,
@@ -71,7 +71,7 @@ fn pieces_of(alloc: Global, text: &str) -> Result<Pieces, NoMemory> {
     for piece in front.split('/') {
         flushed.push(Bytes::from_vec(unescaped(alloc, piece)?))?;
     }
-    Ok(Pieces::of(flushed, unescaped(alloc, rest)?))
+    Ok(Pieces::of(flushed, Segments::from_vec(unescaped(alloc, rest)?)))
 }
 
 /// Returns the fields of a cell, ignoring lines that are not fields.

@@ -1,9 +1,10 @@
 //! Nonblocking reads and writes.
 
-ghost use Rattle.std.specs.Prelude.{◌<◌, length};
+ghost use Rattle.std.specs.Prelude.{◌<◌, ◌++◌, length};
 ghost use Rattle.sv_readiness.specs.Calls.{ReadsSome, WritesSome};
 
-use std::io::{ErrorKind, Read, Write};
+use crate::gathering::GatheringWrite;
+use std::io::{ErrorKind, IoSlice, Read, Write};
 use sv_connection::Tried;
 
 /// Reads once. An interrupted read is retried.
@@ -30,6 +31,32 @@ pub(crate) fn try_write<W: Write>(writer: &mut W, bytes: &[u8]) -> Tried
 {
     for _ in 0..u64::MAX {
         match writer.write(bytes) {
+            Ok(0) => return Tried::Failed,
+            Ok(count) => return Tried::Done(count),
+            Err(error) if error.kind() == ErrorKind::Interrupted => {}
+            Err(error) if error.kind() == ErrorKind::WouldBlock => return Tried::WouldBlock,
+            Err(_) => return Tried::Failed,
+        }
+    }
+    Tried::Failed
+}
+
+/// Writes once, the bytes of three slices in their order, as [`try_write`] writes those of one.
+pub(crate) fn try_gathered<W: GatheringWrite>(
+    writer: &mut W,
+    first: &[u8],
+    second: &[u8],
+    third: &[u8],
+) -> Tried
+    ensures { WritesSome (W.contents writer.old) result (first.now ++ second.now ++ third.now) (W.contents writer.new) }
+{
+    let slices = [
+        IoSlice::new(first),
+        IoSlice::new(second),
+        IoSlice::new(third),
+    ];
+    for _ in 0..u64::MAX {
+        match writer.write_gathered(&slices) {
             Ok(0) => return Tried::Failed,
             Ok(count) => return Tried::Done(count),
             Err(error) if error.kind() == ErrorKind::Interrupted => {}

@@ -3,11 +3,12 @@
 ghost use Rattle.std.specs.Prelude.{◌≡◌, ◌&&◌, ◌⊎◌, false, nat_le, true};
 ghost use Rattle.sv_readiness.specs.declared.limits.TheConstants.{MAX_SENT_AT_ONCE};
 
-use crate::calls::{try_read, try_write};
+use crate::calls::{try_gathered, try_read, try_write};
+use crate::gathering::GatheringWrite;
 use crate::limits::MAX_SENT_AT_ONCE;
 use mio::event::Source;
 use mio::{Interest, Registry, Token};
-use std::io::{Read, Write};
+use std::io::Read;
 use sv_connection::{Peer, Tried};
 
 /// A stream whose readiness is reported under a token. It is registered with the system at the first call that would
@@ -119,7 +120,7 @@ impl<'a, T: Source> StreamPeer<'a, T> {
     }
 }
 
-impl<T: Read + Write + Source> Peer for StreamPeer<'_, T> {
+impl<T: Read + GatheringWrite + Source> Peer for StreamPeer<'_, T> {
     ghost use Rattle.std.specs.Prelude.{◌≡◌, ◌⊎◌};
     ghost use Rattle.sv_readiness.specs.Calls.{Blocks};
     ghost use Rattle.sv_streams.specs.Standard.{IsCallOf};
@@ -154,8 +155,12 @@ impl<T: Read + Write + Source> Peer for StreamPeer<'_, T> {
     }
 
     #[inline(always)]
-    fn write(&mut self, bytes: &[u8]) -> Tried {
-        let tried = try_write(&mut self.stream, bytes);
+    fn write_slices(&mut self, first: &[u8], second: &[u8], third: &[u8]) -> Tried {
+        let tried = if second.is_empty() && third.is_empty() {
+            try_write(&mut self.stream, first)
+        } else {
+            try_gathered(&mut self.stream, first, second, third)
+        };
         match tried {
             Tried::Done(count) => self.written = self.written.saturating_add(count),
             Tried::WouldBlock => self.wait_for_room(),

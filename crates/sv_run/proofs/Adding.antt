@@ -36,7 +36,7 @@ module _ (Context : Type 0) where
   pub adds_nothing : (output : Output) → Adds output (nothing {Context = Context}) output
   adds_nothing output =
       λ i. record {
-        sends = sym (append-nil output.sends.items) i;
+        sends = sym (append-nil output.sends) i;
         closes = sym (or-at_false output.closes) i;
         journal = record output.journal { entries = sym (append-nil output.journal.entries) i };
         edited = sym (first-at_none output.edited) i;
@@ -45,7 +45,7 @@ module _ (Context : Type 0) where
   pub adds_closing : (output : Output) → Adds output (closing {Context = Context}) (record output { closes = true })
   adds_closing output =
       λ i. record {
-        sends = sym (append-nil output.sends.items) i;
+        sends = sym (append-nil output.sends) i;
         closes = or-true output.closes i;
         journal = record output.journal { entries = sym (append-nil output.journal.entries) i };
         edited = sym (first-at_none output.edited) i;

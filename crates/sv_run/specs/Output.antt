@@ -6,7 +6,7 @@ use Rattle.sv_run.specs.Effect.{Effect, noting}
 use Rattle.sv_run.specs.declared.happening.Reaction.{Reaction}
 
 abbrev pub reaction_of : Output → Reaction
-reaction_of output = record { sends = output.sends.items; closes = output.closes; journal = output.journal; edited = output.edited }
+reaction_of output = record { sends = output.sends; closes = output.closes; journal = output.journal; edited = output.edited }
 
 -- a reaction followed by an effect
 abbrev pub then_brings : {Context : Type 0} → Reaction → Effect Context → Reaction

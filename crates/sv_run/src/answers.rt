@@ -19,10 +19,10 @@ use http::StatusCode;
 use std::alloc::Global;
 use std::mem;
 use sv_journal::{Entry, RefusalCause};
-use sv_message::{Body, Field, Message, Rare, Response};
-use sv_text::{Bytes, Listed, NoMemory};
+use sv_message::{Body, Field, Message, Rare, Response, Segments};
+use sv_text::{Listed, NoMemory};
 use sv_uri::fault::PathFault;
-use sv_wire::{DateText, WireFault, write_response};
+use sv_wire::{DateText, WireFault, send_response};
 
 const CONTINUE: &[u8] = b"HTTP/1.1 100 Continue\r\n\r\n";
 
@@ -34,7 +34,7 @@ fn empty_response(alloc: Global) -> Response
         status: 200,
         fields: Listed::from_vec(Vec::new(alloc)),
         cookie: Rare::none(),
-        body: Body::Whole(Bytes::from_vec(Vec::new(alloc))),
+        body: Body::Whole(Segments::new(alloc)),
     }
 }
 
@@ -49,7 +49,7 @@ fn plain_response(alloc: Global, status: u16) -> Result<Response, NoMemory>
         status,
         fields: Listed::from_vec(fields),
         cookie: Rare::none(),
-        body: Body::Whole(Bytes::from_vec(plain_text(alloc, status)?)),
+        body: Body::Whole(Segments::from_vec(plain_text(alloc, status)?)),
     })
 }
 
@@ -93,12 +93,12 @@ pub(crate) fn send(
     requires { IsStatusCode response.now.status }
     ensures { IfOk result (λ _. (text : List ℕ) × IsTextAt date.now response.now head_only keep text
         × (reaction_of output.new ≡ record (reaction_of output.old) {
-          sends = output.old.sends.items ++ text;
+          sends = output.old.sends ++ text;
           closes = output.old.closes || (not keep || ends_connection response.now.body);
         })) }
 {
     let room = taken(&mut output.room);
-    write_response(response, head_only, keep, date, room, &mut output.sends)?;
+    send_response(response, head_only, keep, date, room, &mut output.sends)?;
     output.closes |= closes_behind(keep, &response.body);
     Ok(())
 }
@@ -208,7 +208,7 @@ pub(crate) fn refuse<C>(
     note(Entry::Refused(RefusalCause::Wire(fault)), output)?;
     let response = plain_response(alloc, fault.status())?;
     let room = taken(&mut output.room);
-    write_response(&response, false, false, date, room, &mut output.sends)?;
+    send_response(&response, false, false, date, room, &mut output.sends)?;
     output.closes = true;
     Ok(())
 }

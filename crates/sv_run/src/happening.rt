@@ -1,8 +1,8 @@
 //! The events of a container.
 
 use sv_journal::Journal;
+use sv_message::Segments;
 use sv_policy::{Edit, EditFault};
-use sv_text::Bytes;
 
 /// An event of a container. Connections are identified by numbers, and times are in seconds since 1970. The container's
 /// time is the greatest time so far, at most [`LAST_MOMENT`](crate::LAST_MOMENT).
@@ -42,8 +42,8 @@ pub enum Happening<'a> {
 /// The reaction to an accepted event.
 #[derive(Drop)]
 pub struct Reaction {
-    /// The bytes to send on the event's connection.
-    pub sends: Bytes,
+    /// The bytes to send on the event's connection. The bytes of a large file are shared with the file.
+    pub sends: Segments,
     /// Whether the connection closes after these bytes.
     pub closes: bool,
     /// The journal of the event: the requests that entered or were refused, the calls and the notifications, in order.

@@ -8,14 +8,14 @@ ghost use Rattle.sv_run.specs.Effect.{editing};
 use crate::happening::Reaction;
 use std::alloc::Global;
 use sv_journal::Journal;
+use sv_message::Segments;
 use sv_policy::EditFault;
-use sv_text::Bytes;
 
 /// A growing reaction, and a buffer for its bytes with unspecified contents.
 #[derive(Drop)]
 pub struct Output {
     pub(crate) room: Vec<u8>,
-    pub(crate) sends: Vec<u8>,
+    pub(crate) sends: Segments,
     pub(crate) closes: bool,
     pub(crate) journal: Journal,
     pub(crate) edited: Option<Result<u64, EditFault>>,
@@ -29,7 +29,7 @@ impl Output {
     {
         Output {
             room,
-            sends: Vec::new(alloc),
+            sends: Segments::new(alloc),
             closes: false,
             journal,
             edited: None,
@@ -55,7 +55,7 @@ impl Output {
             ..
         } = self;
         Reaction {
-            sends: Bytes::from_vec(sends),
+            sends,
             closes,
             journal,
             edited,

@@ -85,11 +85,14 @@ fn print<O: Sink>(
 ) -> Result<(), ReplayFault>
     ensures { Prints O.makes (reaction_text number reaction.now) output.old result output.new }
 {
+    let Ok(sends) = reaction.sends.copied(alloc) else {
+        return Err(ReplayFault::NoMemory);
+    };
     let text = match event_text(
         alloc,
         number,
         reaction.journal.entries(),
-        reaction.sends.as_slice(),
+        sends.as_slice(),
         reaction.closes,
         reaction.edited,
     ) {

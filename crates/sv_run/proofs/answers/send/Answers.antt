@@ -4,7 +4,7 @@ use Rattle.sv_run.proofs.answers.send.Goals as goal
 
 pub returns : goal.returns
 returns c =
-    let wrote = c.in_ok-write_response.ensures.text in (
+    let wrote = c.in_ok-send_response.ensures.text in (
       response_text c.args.response.now c.args.head_only c.args.keep wrote.0,
       (wrote.0, wrote.1, refl),
       λ i. record {
