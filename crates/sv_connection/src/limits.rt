@@ -16,11 +16,11 @@ pub const FIRST_READ_BYTES: usize = 1024;
 pub const CALLS_AT_ONCE: u32 = 8;
 
 /// Maximum number of bytes that all writes of a turn take together.
-pub const BYTES_AT_ONCE: usize = 65_536;
+pub const BYTES_AT_ONCE: usize = 262_144;
 
 /// The share of [`BYTES_AT_ONCE`] that a piece costs, since it is an event. After 64 pieces, and those of the same
 /// read, others are served.
-pub const BYTES_A_PIECE: usize = 1024;
+pub const BYTES_A_PIECE: usize = 4096;
 
 /// Maximum number of bytes that an unfinished message counts for. At most a head of 65,536, a body of 1,048,576, the
 /// size line of a chunk of 256 and trailers of 8,192 are kept of a message, however many empty lines and chunk

@@ -23,8 +23,8 @@ pub fn limits_are_as_stated()
     ensures read { READ_BYTES ≡ 16384 }
     ensures first_read { FIRST_READ_BYTES ≡ 1024 }
     ensures calls { CALLS_AT_ONCE ≡ 8 }
-    ensures written { BYTES_AT_ONCE ≡ 65536 }
-    ensures piece { BYTES_A_PIECE ≡ 1024 }
+    ensures written { BYTES_AT_ONCE ≡ 262144 }
+    ensures piece { BYTES_A_PIECE ≡ 4096 }
     ensures under_way { MAX_UNDER_WAY ≡ 1122560 }
     ensures idle { MAX_IDLE_SECONDS ≡ 60 }
     ensures window { WINDOW_SECONDS ≡ 10 }
