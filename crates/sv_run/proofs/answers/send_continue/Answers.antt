@@ -8,7 +8,7 @@ unfolding continue_text
 returns g c =
     let output = c.args.output.now in
     λ i. record {
-      sends = c.in_ok-extend_from_slice.ensures.items i;
+      sends = c.in_ok-extend_from_slice.ensures.ok i;
       closes = sym (or-at_false output.closes) i;
       journal = record output.journal { entries = sym (append-nil output.journal.entries) i };
       edited = sym (first-at_none output.edited) i;
