@@ -17,3 +17,4 @@ mod Taking
 mod TalkLemmas
 mod TurnLemmas
 mod WholeCourse
+pub mod UnsentLemmas

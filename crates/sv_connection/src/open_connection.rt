@@ -10,11 +10,11 @@ use crate::close_reason::{CloseReason, Closing};
 use crate::limits::{FIRST_READ_BYTES, READ_BYTES};
 use crate::peer::{Peer, Tried};
 use crate::pending_bytes::{Pending, Sent};
-use crate::unsent_bytes::Unsent;
 use crate::phase::Phase;
 use crate::pieces::piece_len;
 use crate::step::Step;
 use crate::timeouts::Timeouts;
+use crate::unsent_bytes::Unsent;
 use std::alloc::Global;
 use std::marker::Model;
 use sv_journal::Journal;
@@ -383,12 +383,7 @@ impl<P: Peer> Connection<P> {
             ..
         } = reaction;
         let phase = Phase::after(closes, journal.entries(), awaited);
-        self.under_way = phase.under_way(
-            self.phase,
-            self.under_way,
-            count as u64,
-            &sends,
-        );
+        self.under_way = phase.under_way(self.phase, self.under_way, count as u64, &sends);
         self.phase = phase;
         self.rests = false;
         (self.unsent.replace(sends), journal)

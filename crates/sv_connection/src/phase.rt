@@ -5,8 +5,8 @@ ghost use Rattle.std.specs.Prelude.{◌≡◌};
 ghost use Rattle.sv_connection.specs.Phases as spec;
 
 use crate::limits::MAX_UNDER_WAY;
-use sv_message::Segments;
 use sv_journal::{Entry, RefusalCause};
+use sv_message::Segments;
 use sv_wire::Awaited;
 
 /// The protocol phase of a connection (RFC 9112, sections 9.3 and 9.6).

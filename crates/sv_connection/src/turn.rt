@@ -1,12 +1,12 @@
 //! One read of a connection, and its reaction.
 
-ghost use Rattle.std.specs.Prelude.{◌<◌, length};
+ghost use Rattle.std.specs.Prelude.{◌<◌, ◌++◌, length};
 ghost use Rattle.sv_streams.specs.Calls.{WritesAll};
 ghost use Rattle.sv_connection.specs.TurnSteps.{Sends, TakesTurn};
 
 use crate::over::{Over, tell_over};
-use sv_run::{EventHandler, Happening, Reaction, StepFault};
 use sv_message::Segments;
+use sv_run::{EventHandler, Happening, Reaction, StepFault};
 use sv_streams::{Clock, Sink, Source, WriteFailed, write_all};
 
 /// Reads once, passes the piece to the handler with the time that the clock then gives, and writes the bytes of the
@@ -64,7 +64,14 @@ fn write_segments<S: Sink>(stream: &mut S, segments: &Segments) -> Result<(), Wr
     ensures { WritesAll S.makes segments.now stream.old result stream.new }
 {
     let (first, shared, last) = segments.slices();
-    write_all(stream, first)?;
-    write_all(stream, shared)?;
+    write_both(stream, first, shared)?;
     write_all(stream, last)
+}
+
+// Writes all bytes of both slices, the first one before the second. If a write fails, no other write follows it.
+fn write_both<S: Sink>(stream: &mut S, first: &[u8], second: &[u8]) -> Result<(), WriteFailed>
+    ensures { WritesAll S.makes (first.now ++ second.now) stream.old result stream.new }
+{
+    write_all(stream, first)?;
+    write_all(stream, second)
 }

@@ -68,6 +68,7 @@ impl Unsent {
 
     /// Returns the first of the bytes, at most `most` of them, in three slices of which some may be empty.
     #[inline(always)]
+    #[tactic(auto, using(crate::proofs::UnsentLemmas::take_three))]
     pub fn front(&self, most: usize) -> (&[u8], &[u8], &[u8])
         ensures { result.0.now ++ result.1.now ++ result.2.now ≡ take most self.now }
     {
@@ -80,30 +81,33 @@ impl Unsent {
 
     /// Skips `count` bytes. Shared bytes are let go of when all of them are skipped.
     #[inline(always)]
+    #[tactic(auto, using(crate::proofs::UnsentLemmas::drop_three))]
     pub fn skip(&mut self, count: usize)
         requires { count ≤ length self.old }
         ensures { self.new ≡ drop count self.old }
     {
         let of_first = count.min(self.first.len());
         self.first.skip(of_first);
-        if of_first < count {
-            self.skip_behind(count - of_first);
-        }
+        let left = count - of_first;
+        let of_shared = left.min(self.shared.len());
+        skip_shared(&mut self.shared, of_shared);
+        self.last.skip(left - of_shared);
     }
+}
 
-    // Skips bytes behind the first ones, which are skipped.
-    fn skip_behind(&mut self, count: usize)
-        requires skipped { self.old.first ≡ [] }
-        requires there { count ≤ length self.old }
-        ensures { self.new ≡ drop count self.old }
-    {
-        let of_shared = count.min(self.shared.len());
-        if of_shared == self.shared.len() {
-            self.shared = Bytes::new();
-        } else {
-            self.shared.advance(of_shared);
-        }
-        self.last.skip(count - of_shared);
+// Skips shared bytes.
+#[inline(always)]
+fn skip_shared(bytes: &mut Bytes, count: usize)
+    requires { count ≤ length bytes.old }
+    ensures { bytes.new ≡ drop count bytes.old }
+{
+    if count == 0 {
+        return;
+    }
+    if count == bytes.len() {
+        *bytes = Bytes::new();
+    } else {
+        bytes.advance(count);
     }
 }
 

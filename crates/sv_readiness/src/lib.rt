@@ -24,6 +24,7 @@ mod slewed_clock;
 mod sockets;
 mod stream_peer;
 
+pub use gathering::GatheringWrite;
 pub use laws::{
     limits_are_as_stated, time_comes_to_the_wall_clock, time_follows_the_wall_clock,
     time_keeps_pace, time_never_goes_back,
@@ -37,5 +38,4 @@ pub use listener::Listening;
 pub use round_clock::RoundClock;
 pub use slewed_clock::{Reading, SlewedClock};
 pub use sockets::Sockets;
-pub use gathering::GatheringWrite;
 pub use stream_peer::StreamPeer;
