@@ -2,10 +2,10 @@
 
 use std::alloc::Global;
 use sv_journal::{Entry, Journal, RefusalCause};
+use sv_message::Segments;
 use sv_policy::{Edit, EditFault};
 use sv_rows::Draft;
 use sv_run::{EventHandler, Happening, Reaction, StepFault};
-use sv_message::Segments;
 use sv_wire::Awaited;
 
 /// Sends the bytes of each piece and its time, in angle brackets, and notes each event except edits. A piece of full
