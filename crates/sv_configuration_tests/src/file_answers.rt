@@ -45,7 +45,7 @@ fn push_answer_of(
 
 fn push_answer(answer: &mut Vec<u8>, found: &FileAnswer<'_>) -> Result<(), NoMemory> {
     let (word, rest) = match found {
-        FileAnswer::File(bytes) => ("File ", *bytes),
+        FileAnswer::File(bytes) => ("File ", bytes.as_slice()),
         FileAnswer::Welcome(path) => ("Welcome ", path.as_bytes()),
         FileAnswer::Slash => ("Slash", b"".as_slice()),
         FileAnswer::Missing => ("Missing", b"".as_slice()),

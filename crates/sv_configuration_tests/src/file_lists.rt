@@ -1,15 +1,16 @@
 //! The lists of files that are accepted.
 
+use bytes::Bytes;
 use std::alloc::Global;
 use sv_files::{File, Files, FilesFault};
 use sv_rows::{Asks, Strays, cell, hold, unescaped};
-use sv_text::{Bytes, NoMemory, Text};
+use sv_text::{NoMemory, Text};
 
 /// Returns a file that contains its own path.
 pub fn file_of(alloc: Global, path: &str) -> Result<File, NoMemory> {
     Ok(File {
         path: Text::copy_of(alloc, path)?,
-        bytes: Bytes::copy_of(alloc, path.as_bytes())?,
+        bytes: Bytes::copy_from_slice(alloc, path.as_bytes())?,
     })
 }
 

@@ -3,6 +3,7 @@
 use crate::counted_components::{Counted, Counts};
 use crate::descriptors::{descriptor_text, file_lines};
 use crate::results::{beside, both, made, push};
+use bytes::Bytes;
 use std::alloc::Global;
 use sv_component::Named;
 use sv_container::{Container, NewFault};
@@ -13,7 +14,7 @@ use sv_lifecycle::Deployment;
 use sv_live::Parts;
 use sv_realm::{MAX_USERS, Realm};
 use sv_run::CountedWords;
-use sv_text::{Bytes, NoMemory, Text};
+use sv_text::{NoMemory, Text};
 
 /// The deployment of a context with counted components of the program's own classes.
 pub type TestDeployment = Deployment<
@@ -146,7 +147,7 @@ fn file(alloc: Global, line: &str) -> Result<File, NoMemory> {
     let text = format!(in alloc; "{text}\n")?;
     Ok(File {
         path: Text::copy_of(alloc, path)?,
-        bytes: Bytes::copy_of(alloc, text.as_bytes())?,
+        bytes: Bytes::copy_from_slice(alloc, text.as_bytes())?,
     })
 }
 

@@ -1,10 +1,11 @@
 //! A store of files and folders in memory.
 
+use bytes::Bytes;
 use std::alloc::Global;
 use sv_deployments::{FolderFiles, FolderStore};
 use sv_files::File;
 use sv_program::{FileStore, FileText, Unavailable};
-use sv_text::{Bytes, Listed, NoMemory, Text};
+use sv_text::{Listed, NoMemory, Text};
 
 /// The store of a server with a root context and the context `/two`.
 #[derive(Drop)]
@@ -72,7 +73,7 @@ impl FolderStore for Store<'_> {
         for path in self.files.split(' ') {
             files.push(File {
                 path: Text::copy_of(alloc, path)?,
-                bytes: Bytes::copy_of(alloc, path.as_bytes())?,
+                bytes: Bytes::copy_from_slice(alloc, path.as_bytes())?,
             })?;
         }
         Ok(Ok(Listed::from_vec(files)))

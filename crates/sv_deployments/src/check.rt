@@ -277,7 +277,7 @@ fn total_bytes(files: &[File]) -> usize
 {
     let mut total = 0;
     for file in files {
-        total += file.bytes.as_slice().len();
+        total += file.bytes.len();
     }
     total
 }

@@ -4,6 +4,7 @@ ghost use Rattle.std.specs.Prelude.{◌≡◌, ◌+◌, ◌≤◌, IfOk, length,
 ghost use Rattle.sv_files.specs.declared.files.TheConstants.{MAX_FILES};
 
 use crate::folders::{FolderFiles, FolderStore};
+use bytes::Bytes;
 use std::alloc::Global;
 use std::fs::{DirEntry, read_dir};
 use std::io::{ErrorKind, Read};
@@ -11,7 +12,7 @@ use std::rt::Files;
 use std::{fs, io};
 use sv_files::{File, MAX_FILE_BYTES, MAX_FILES};
 use sv_program::{Disk, Unavailable};
-use sv_text::{Bytes, Listed, NoMemory, Text};
+use sv_text::{Listed, NoMemory, Text};
 
 impl<F: Files + AllocGlobal + Clone + Drop> FolderStore for Disk<'_, F> {
     fn read_files(&mut self, alloc: Global, name: &str) -> Result<FolderFiles, NoMemory> {
@@ -138,5 +139,5 @@ fn read_bytes<F: Files + AllocGlobal + Clone + Drop>(
     fs::open(files, entry.path())?
         .take(limit)
         .read_to_end(&mut bytes)?;
-    Ok(Bytes::from_vec(bytes))
+    Ok(Bytes::from_vec(bytes)?)
 }

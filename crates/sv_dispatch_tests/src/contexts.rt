@@ -4,6 +4,7 @@ use crate::components::{TestLive, parts};
 use crate::descriptors::descriptor;
 use crate::results::{beside, both, made, nothing_of};
 use crate::words::{first_word, number_of};
+use bytes::Bytes;
 use std::alloc::Global;
 use sv_chain::Chains;
 use sv_descriptor::Descriptor;
@@ -11,7 +12,7 @@ use sv_files::{File, Files};
 use sv_journal::Journal;
 use sv_rows::cell;
 use sv_session::Sessions;
-use sv_text::{Bytes, NoMemory, Text};
+use sv_text::{NoMemory, Text};
 use sv_tree::{ServletPatterns, Site};
 
 /// The components of a started context and its site.
@@ -106,7 +107,7 @@ fn file_list(alloc: Global, row: &str) -> Result<Vec<File>, NoMemory> {
 fn file(alloc: Global, words: &str) -> Result<File, NoMemory> {
     let (path, text) = first_word(words);
     let path = Text::copy_of(alloc, path)?;
-    let bytes = Bytes::copy_of(alloc, text.as_bytes())?;
+    let bytes = Bytes::copy_from_slice(alloc, text.as_bytes())?;
     Ok(File { path, bytes })
 }
 

@@ -4,11 +4,12 @@ ghost use Rattle.std.specs.Prelude.{IfOk, Ok, OnOk, [], ◌++◌, ◌∷◌, ◌
 ghost use Rattle.sv_text.specs.Gives.{GivesAnswer};
 
 use crate::elements::{push_elements, push_filter, push_listener, push_servlet};
+use bytes::Bytes;
 use std::alloc::Global;
 use std::marker::Model;
 use sv_component::Named;
 use sv_files::File;
-use sv_text::{Bytes, Listed, NoMemory, Text};
+use sv_text::{Listed, NoMemory, Text};
 
 /// A context of an application: its path, its servlets, filters and listeners, its static files and its users. Each call
 /// takes the context and returns it with an addition, and contracts see its contents. Components are declared in the order
@@ -206,7 +207,7 @@ fn push_file(alloc: Global, files: &mut Vec<File>, path: &str, bytes: &[u8]) -> 
     ensures { OnOk result (files.new.items ≡ files.old.items ++ record { path = path.now; bytes = bytes.now } ∷ []) }
 {
     let path = Text::copy_of(alloc, path)?;
-    let bytes = Bytes::copy_of(alloc, bytes)?;
+    let bytes = Bytes::copy_from_slice(alloc, bytes)?;
     files.push(File { path, bytes })?;
     Ok(())
 }
