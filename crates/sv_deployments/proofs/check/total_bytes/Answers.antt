@@ -7,7 +7,7 @@ use Rattle.sv_deployments.proofs.check.total_bytes.Goals as goal
 
 pub overflow_add-total : goal.overflow_add-total
 overflow_add-total c =
-    let own : c.len.result ≡ length c.file-item.result.bytes = c.len.ensures.value in
+    let own : c.len-total.result ≡ length c.file-item.result.bytes = c.len-total.ensures.value in
     omega (
       arith,
       own,
