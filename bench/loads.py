@@ -1,0 +1,164 @@
+"""The load that bench/speed puts on servers by wrk, and the tables of what it measures: medians, quartiles, ratios and bounds."""
+import collections
+import os
+import re
+import socket
+import statistics
+import subprocess
+import sys
+from typing import Callable, NamedTuple
+
+from servers import TOP, missed
+from sides import CLIENT_CORES, pinned
+
+TICKS_A_SECOND = os.sysconf("SC_CLK_TCK")
+PATIENCE = 30
+LAST_CHUNK = b"0\r\n\r\n"
+# What wrk prints of answers that are not there, or not right.
+WRONG = re.compile(r"Socket errors.*|Non-2xx.*|wrong answers: [1-9].*")
+
+
+class Load(NamedTuple):
+    """Requests over so many connections at once: their path, fields and form, and whether a body, with its chunks as they came, is that of a right answer. With
+    more steps than one they are those of bench/login.lua, which begin with the path and post the form later.
+    """
+
+    path: str
+    is_right: Callable
+    connections: int = 64
+    fields: tuple = ()
+    form: str = ""
+    steps: int = 1
+
+    def is_post(self):
+        return bool(self.form) and self.steps == 1
+
+    def request(self):
+        """The bytes of one request."""
+        fields = [*self.fields]
+        if self.is_post():
+            fields.append("Content-Type: application/x-www-form-urlencoded")
+            fields.append(f"Content-Length: {len(self.form)}")
+        if not any(it.startswith("Host: ") for it in fields):
+            fields.insert(0, "Host: localhost")
+        line = f"{'POST' if self.is_post() else 'GET'} {self.path} HTTP/1.1"
+        return "\r\n".join([line, *fields, "", self.form * self.is_post()]).encode()
+
+    def words(self, port, seconds):
+        """The command that puts the load on a server."""
+        threads = self.connections if self.steps > 1 else len(CLIENT_CORES)
+        words = ["wrk", f"-t{min(self.connections, threads)}", f"-c{self.connections}"]
+        words += [f"-d{seconds}s", *(word for it in self.fields for word in ("-H", it))]
+        if self.form:
+            words += ["-s", f"{TOP}/bench/{'form' if self.is_post() else 'login'}.lua"]
+        words.append(f"http://127.0.0.1:{port}{self.path}")
+        return [*pinned(CLIENT_CORES), *words, *(["--", self.form] if self.form else [])]
+
+
+def whole_answer(port, request):
+    """The head of the answer to a request over a connection of its own, and the body as it came."""
+    with socket.create_connection(("127.0.0.1", port), PATIENCE) as peer:
+        peer.sendall(request)
+        came, is_whole = bytearray(), False
+        while not is_whole and (more := peer.recv(1 << 20)):
+            came += more
+            head, end, body = came.partition(b"\r\n\r\n")
+            length = re.search(rb"(?i)\ncontent-length: (\d+)", head)
+            is_whole = end and (
+                len(body) >= int(length[1]) if length else body.endswith(LAST_CHUNK)
+            )
+    if not came.startswith(b"HTTP/1.1 200"):
+        sys.exit(f"bench: {request[:100]!r} is answered by {bytes(came[:200])!r}")
+    return bytes(head + end), bytes(body)
+
+
+def check(port, load):
+    """Ends the script unless an answer is whole and right."""
+    body = whole_answer(port, load.request())[1]
+    if not load.is_right(body):
+        sys.exit(f"bench: {load.path} is answered by {len(body)} bytes that begin {body[:100]!r}")
+
+
+def requests_of_wrk(port, load, seconds, front=()):
+    """How many requests wrk counts within so many seconds, or logins. Words may precede its command."""
+    words = [*front, *load.words(port, seconds)]
+    ran = subprocess.run(
+        words, stdin=subprocess.DEVNULL, stdout=subprocess.PIPE, text=True, check=True
+    )
+    counted = re.search(r"(\d+) requests in", ran.stdout)
+    if WRONG.search(ran.stdout) or not int(counted[1]):
+        sys.exit(f"bench: {' '.join(words)}\n{ran.stdout}")
+    return int(counted[1]) / load.steps
+
+
+def processor_seconds(number):
+    """What a process has taken of processors, in all its threads: utime and stime of proc(5)."""
+    with open(f"/proc/{number}/stat") as file:
+        fields = file.read().rpartition(")")[2].split()
+    return (int(fields[11]) + int(fields[12])) / TICKS_A_SECOND
+
+
+def microseconds(side, number, port, load, seconds):
+    """The microseconds of processor time that a request costs the server."""
+    check(port, load)
+    if side.warm_up:
+        requests_of_wrk(port, load, side.warm_up)
+    before = processor_seconds(number)
+    count = requests_of_wrk(port, load, seconds)
+    return (processor_seconds(number) - before) / count * 1e6
+
+
+def interleaved(sides, starts, measure):
+    """The figures of `measure(side, number, port)`, a dictionary, of so many starts of each side, which take turns: of each row a list by the name of the side."""
+    figures = collections.defaultdict(lambda: collections.defaultdict(list))
+    for start in range(starts):
+        for side in sides[:: -1 if start % 2 else 1]:
+            with side.serving() as (number, port):
+                for row, figure in measure(side, number, port).items():
+                    figures[row][side.name].append(figure)
+    return figures
+
+
+def spread(figures):
+    """The median of figures, and their quartiles."""
+    if len(figures) < 2:
+        return text_of(figures[0])
+    first, median, third = statistics.quantiles(figures, n=4, method="inclusive")
+    return f"{text_of(median)} ({text_of(first)} to {text_of(third)})"
+
+
+def text_of(figure):
+    """A figure with three digits or more."""
+    return f"{figure:,.0f}" if figure >= 100 else f"{figure:.3g}"
+
+
+def bounded(figure, most, row):
+    """The text of a bound, which the figure may miss; nothing without one."""
+    if most is None:
+        return ""
+    if figure > most:
+        missed.append(f"{row}: {text_of(figure)}, at most {text_of(most)}")
+    return f"{text_of(most)}{' MISSED' if figure > most else ''}"
+
+
+def print_head(title, *columns):
+    print(f"\n{title}\n\n| {' | '.join(columns)} |\n|{'---|' * len(columns)}")
+
+
+def print_line(*cells):
+    print(f"| {' | '.join(cells)} |", flush=True)
+
+
+def print_figure(row, figures, most=None):
+    """A line of a table of one server: the figures, the greatest of them, and what it may be at most."""
+    print_line(row, spread(figures), text_of(max(figures)), bounded(max(figures), most, row))
+
+
+def print_comparison(title, figures, bounds):
+    """A table that compares the first side with each of the others, start by start. The bounds of ratios are by row and side."""
+    print_head(title, "Work", "`run`", "Beside", "Its figure", "Ratio", "Bound")
+    for row, (ours, *others) in ((row, by_side.items()) for row, by_side in figures.items()):
+        for name, theirs in others:
+            ratios = [one / other for one, other in zip(ours[1], theirs, strict=True)]
+            most = bounded(statistics.median(ratios), bounds.get((row, name)), f"{row}, {name}")
+            print_line(row, spread(ours[1]), name, spread(theirs), spread(ratios), most)
