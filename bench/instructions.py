@@ -58,6 +58,7 @@ def counted_by_valgrind(program, folder, request):
         "--tool=callgrind",
         "--dump-instr=yes",
         f"--callgrind-out-file={file}",
+        f"--vgdb-prefix={folder}/vgdb",
         program,
         "run",
         "server.toml",
@@ -66,7 +67,9 @@ def counted_by_valgrind(program, folder, request):
         for count in (0, COUNTED):
             ask_more(count)
             subprocess.run(
-                ["callgrind_control", "-d", str(number)], capture_output=True, check=True
+                ["callgrind_control", f"--vgdb-prefix={folder}/vgdb", "-d", str(number)],
+                capture_output=True,
+                check=True,
             )
     return f"{file}.2"
 

@@ -2,13 +2,15 @@
 import collections
 import os
 import re
+import select
 import socket
 import statistics
 import subprocess
 import sys
+import time
 from typing import Callable, NamedTuple
 
-from servers import TOP, missed
+from servers import TOP, memory, missed
 from sides import CLIENT_CORES, pinned
 
 TICKS_A_SECOND = os.sysconf("SC_CLK_TCK")
@@ -16,6 +18,37 @@ PATIENCE = 30
 LAST_CHUNK = b"0\r\n\r\n"
 # What wrk prints of answers that are not there, or not right.
 WRONG = re.compile(r"Socket errors.*|Non-2xx.*|wrong answers: [1-9].*")
+
+
+class Reading(NamedTuple):
+    """How so many connections read: the bytes that each takes at once, the seconds between, and the receive buffer, if it is set."""
+
+    count: int
+    sip: int
+    pause: float = 0
+    buffer: int = 0
+
+    def read(self, port, path, content):
+        """Reads a file over all connections at once, and compares it."""
+        peers = [socket.socket() for _ in range(self.count)]
+        for peer in peers:
+            if self.buffer:
+                peer.setsockopt(socket.SOL_SOCKET, socket.SO_RCVBUF, self.buffer)
+            peer.connect(("127.0.0.1", port))
+            peer.sendall(Load(path, None).request())
+        came = {peer: bytearray() for peer in peers}
+        reading = [*peers]
+        while reading:
+            for peer in select.select(reading, [], [])[0]:
+                more = peer.recv(self.sip)
+                came[peer] += more
+                if not more or len(came[peer]) >= came[peer].find(b"\r\n\r\n") + 4 + len(content):
+                    reading.remove(peer)
+            time.sleep(self.pause)
+        for peer in peers:
+            peer.close()
+            if came[peer].partition(b"\r\n\r\n")[2] != content:
+                sys.exit(f"bench: another answer than {path} was read, of {len(came[peer])} bytes")
 
 
 class Load(NamedTuple):
@@ -106,6 +139,16 @@ def microseconds(side, number, port, load, seconds):
     before = processor_seconds(number)
     count = requests_of_wrk(port, load, seconds)
     return (processor_seconds(number) - before) / count * 1e6
+
+
+def growth(number, work):
+    """The KiB by which the resident memory of a server exceeds that before, at its peak, while something is done."""
+    before = memory(number)[1]
+    with open(f"/proc/{number}/clear_refs", "w") as file:
+        # Sets the peak back to what is held (proc(5)).
+        file.write("5")
+    work()
+    return memory(number)[0] - before
 
 
 def interleaved(sides, starts, measure):

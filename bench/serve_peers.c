@@ -136,28 +136,29 @@ static void print_times(double *times, long count, double took) {
     for (int i = 0; i < 3; i++) printf("%.1f\n", times[(count - 1) * shares[i] / 1000] * 1e6);
 }
 
+/* The connections take turns: the one that is idle longest is asked next. */
 static void paced(int port, long count, int connections, double rate) {
     struct waiting *all = calloc(connections, sizeof *all), **idle = calloc(connections, sizeof *idle);
     struct epoll_event events[MOST_EVENTS];
     double *times = calloc(count, sizeof *times), start;
     long asked = 0, answered = 0;
-    int poller = epoll_create1(0), idle_count = 0;
+    int poller = epoll_create1(0);
     for (int i = 0; i < connections; i++) {
-        idle[idle_count++] = &all[i];
+        idle[i] = &all[i];
         all[i].stream = connected(port);
         watch(poller, all[i].stream, EPOLLIN, &all[i]);
     }
     start = seconds();
     while (answered < count) {
         double now = seconds();
-        for (; asked < count && idle_count && start + asked / rate <= now; asked++)
-            ask_on(idle[--idle_count], start + asked / rate);
+        for (; asked < count && asked - answered < connections && start + asked / rate <= now; asked++)
+            ask_on(idle[asked % connections], start + asked / rate);
         int ready = epoll_wait(poller, events, MOST_EVENTS, 0);
         for (int i = 0; i < ready; i++) {
             struct waiting *waiting = events[i].data.ptr;
             if (!is_answered(waiting)) continue;
-            times[answered++] = seconds() - waiting->since;
-            idle[idle_count++] = waiting;
+            times[answered] = seconds() - waiting->since;
+            idle[answered++ % connections] = waiting;
         }
     }
     print_times(times, count, seconds() - start);
