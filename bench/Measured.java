@@ -5,7 +5,7 @@ import java.io.IOException;
 import java.nio.charset.StandardCharsets;
 import java.util.concurrent.atomic.AtomicLong;
 
-/** Does for bench/speed what the servlets of `hello` and `run` do: greets by a parameter, writes its response in pieces, ends the session. */
+/** The servlets of `hello` and `run` that bench/speed compares: greets by a parameter, writes a response in pieces, or ends the session. */
 public class Measured extends HttpServlet {
     private static final byte[] PIECE = "one\n".getBytes(StandardCharsets.UTF_8);
     private final AtomicLong greeted = new AtomicLong();

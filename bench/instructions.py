@@ -5,7 +5,7 @@ import sys
 
 from servers import connections, running
 
-# How often a server is asked before anything is counted, and while it is.
+# The requests before and during the count.
 FIRST = 100
 COUNTED = 200
 BROWSER = b"""GET /who HTTP/1.1
@@ -31,7 +31,7 @@ Accept-Language: en-US,en;q=0.9
 
 
 def ask(peer, request, count):
-    """Asks so many times, each time when the answer is there."""
+    """Sends a request so many times, each after the previous answer."""
     for _ in range(count):
         peer.sendall(request)
         answer = peer.recv(65536)
@@ -41,8 +41,8 @@ def ask(peer, request, count):
 
 @contextlib.contextmanager
 def asked_first(arguments, folder, request):
-    """A server that was asked some times over a connection: its number, and what asks as many times more. A request that names a session is a function of the
-    connection, which opens it."""
+    """A server that has answered some requests: its process id, and a function that sends more of them. A request that needs a session is a function of the
+    connection, which opens one."""
     with running(arguments, folder) as (number, port), connections(port, 1) as (peer,):
         found = request(peer) if callable(request) else request
         ask(peer, found, FIRST)
@@ -50,7 +50,7 @@ def asked_first(arguments, folder, request):
 
 
 def counted_by_valgrind(program, folder, request):
-    """The name of valgrind's second file, which has what was counted behind the first."""
+    """The name of valgrind's second file, which has the counts after the first one."""
     file = f"{folder}/instructions"
     counting = [
         "valgrind",

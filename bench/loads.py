@@ -1,4 +1,4 @@
-"""The load that bench/speed puts on servers by wrk, and the tables of what it measures: medians, quartiles, ratios and bounds."""
+"""The load that bench/speed puts on servers, and its tables: medians, quartiles, ratios and bounds."""
 import collections
 import os
 import re
@@ -16,12 +16,12 @@ from sides import CLIENT_CORES, pinned
 TICKS_A_SECOND = os.sysconf("SC_CLK_TCK")
 PATIENCE = 30
 LAST_CHUNK = b"0\r\n\r\n"
-# What wrk prints of answers that are not there, or not right.
+# Lines of wrk about missing or wrong answers.
 WRONG = re.compile(r"Socket errors.*|Non-2xx.*|wrong answers: [1-9].*")
 
 
 class Reading(NamedTuple):
-    """How so many connections read: the bytes that each takes at once, the seconds between, and the receive buffer, if it is set."""
+    """How connections read: their number, the bytes of each read, the seconds between two reads, and the size of the receive buffer, 0 for the default."""
 
     count: int
     sip: int
@@ -29,7 +29,7 @@ class Reading(NamedTuple):
     buffer: int = 0
 
     def read(self, port, path, content):
-        """Reads a file over all connections at once, and compares it."""
+        """Reads a file over all connections at once, and ends the script unless each of them gets it."""
         peers = [socket.socket() for _ in range(self.count)]
         for peer in peers:
             if self.buffer:
@@ -52,8 +52,8 @@ class Reading(NamedTuple):
 
 
 class Load(NamedTuple):
-    """Requests over so many connections at once: their path, fields and form, and whether a body, with its chunks as they came, is that of a right answer. With
-    more steps than one they are those of bench/login.lua, which begin with the path and post the form later.
+    """Requests for wrk: their path, a check of the body as received, chunks included, the number of connections, header fields, and a form to post. With several
+    steps, they are the logins of bench/login.lua, which begin at the path and post the form later.
     """
 
     path: str
@@ -78,10 +78,14 @@ class Load(NamedTuple):
         return "\r\n".join([line, *fields, "", self.form * self.is_post()]).encode()
 
     def words(self, port, seconds):
-        """The command that puts the load on a server."""
+        """The command that sends the requests."""
         threads = self.connections if self.steps > 1 else len(CLIENT_CORES)
         words = ["wrk", f"-t{min(self.connections, threads)}", f"-c{self.connections}"]
-        words += [f"-d{seconds}s", *(word for it in self.fields for word in ("-H", it))]
+        words += [
+            f"-d{seconds}s",
+            f"--timeout={PATIENCE}s",
+            *(word for it in self.fields for word in ("-H", it)),
+        ]
         if self.form:
             words += ["-s", f"{TOP}/bench/{'form' if self.is_post() else 'login'}.lua"]
         words.append(f"http://127.0.0.1:{port}{self.path}")
@@ -89,7 +93,7 @@ class Load(NamedTuple):
 
 
 def whole_answer(port, request):
-    """The head of the answer to a request over a connection of its own, and the body as it came."""
+    """Sends a request over a new connection. Returns the head of the answer, and the body as received."""
     with socket.create_connection(("127.0.0.1", port), PATIENCE) as peer:
         peer.sendall(request)
         came, is_whole = bytearray(), False
@@ -106,14 +110,14 @@ def whole_answer(port, request):
 
 
 def check(port, load):
-    """Ends the script unless an answer is whole and right."""
+    """Ends the script unless the answer is complete and correct."""
     body = whole_answer(port, load.request())[1]
     if not load.is_right(body):
         sys.exit(f"bench: {load.path} is answered by {len(body)} bytes that begin {body[:100]!r}")
 
 
 def requests_of_wrk(port, load, seconds, front=()):
-    """How many requests wrk counts within so many seconds, or logins. Words may precede its command."""
+    """The requests, or logins, that wrk counts within these seconds. `front` precedes its command."""
     words = [*front, *load.words(port, seconds)]
     ran = subprocess.run(
         words, stdin=subprocess.DEVNULL, stdout=subprocess.PIPE, text=True, check=True
@@ -125,34 +129,34 @@ def requests_of_wrk(port, load, seconds, front=()):
 
 
 def processor_seconds(number):
-    """What a process has taken of processors, in all its threads: utime and stime of proc(5)."""
+    """The processor time of all threads of a process: utime and stime in proc(5)."""
     with open(f"/proc/{number}/stat") as file:
         fields = file.read().rpartition(")")[2].split()
     return (int(fields[11]) + int(fields[12])) / TICKS_A_SECOND
 
 
 def microseconds(side, number, port, load, seconds):
-    """The microseconds of processor time that a request costs the server."""
+    """The processor time of the server for each request, in microseconds."""
     check(port, load)
-    if side.warm_up:
-        requests_of_wrk(port, load, side.warm_up)
+    while processor_seconds(number) < side.warm_up:
+        requests_of_wrk(port, load, seconds)
     before = processor_seconds(number)
     count = requests_of_wrk(port, load, seconds)
     return (processor_seconds(number) - before) / count * 1e6
 
 
 def growth(number, work):
-    """The KiB by which the resident memory of a server exceeds that before, at its peak, while something is done."""
+    """The growth of a server's resident memory during some work, at its peak, in KiB."""
     before = memory(number)[1]
     with open(f"/proc/{number}/clear_refs", "w") as file:
-        # Sets the peak back to what is held (proc(5)).
+        # Resets the peak to the current size (proc(5)).
         file.write("5")
     work()
     return memory(number)[0] - before
 
 
 def interleaved(sides, starts, measure):
-    """The figures of `measure(side, number, port)`, a dictionary, of so many starts of each side, which take turns: of each row a list by the name of the side."""
+    """Starts each side so many times, in turns, and collects the figures of `measure(side, number, port)`: a list for each row and name of a side."""
     figures = collections.defaultdict(lambda: collections.defaultdict(list))
     for start in range(starts):
         for side in sides[:: -1 if start % 2 else 1]:
@@ -163,7 +167,7 @@ def interleaved(sides, starts, measure):
 
 
 def spread(figures):
-    """The median of figures, and their quartiles."""
+    """The median of figures, with their quartiles in parentheses."""
     if len(figures) < 2:
         return text_of(figures[0])
     first, median, third = statistics.quantiles(figures, n=4, method="inclusive")
@@ -171,12 +175,12 @@ def spread(figures):
 
 
 def text_of(figure):
-    """A figure with three digits or more."""
+    """A figure with at least three significant digits."""
     return f"{figure:,.0f}" if figure >= 100 else f"{figure:.3g}"
 
 
 def bounded(figure, most, row):
-    """The text of a bound, which the figure may miss; nothing without one."""
+    """The text of a bound, which notes a figure that misses it; empty if there is no bound."""
     if most is None:
         return ""
     if figure > most:
@@ -193,13 +197,13 @@ def print_line(*cells):
 
 
 def print_figure(row, figures, most=None):
-    """A line of a table of one server: the figures, the greatest of them, and what it may be at most."""
+    """Prints a row of one server: the median, and the greatest figure with its bound."""
     print_line(row, spread(figures), text_of(max(figures)), bounded(max(figures), most, row))
 
 
 def print_comparison(title, figures, bounds):
-    """A table that compares the first side with each of the others, start by start. The bounds of ratios are by row and side."""
-    print_head(title, "Work", "`run`", "Beside", "Its figure", "Ratio", "Bound")
+    """Prints a table that compares the first side with each other one. `bounds` has those of ratios, by row and name of the side."""
+    print_head(title, "Work", "`run`", "Compared with", "Its figure", "Ratio", "Bound")
     for row, (ours, *others) in ((row, by_side.items()) for row, by_side in figures.items()):
         for name, theirs in others:
             ratios = [one / other for one, other in zip(ours[1], theirs, strict=True)]

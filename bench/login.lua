@@ -1,5 +1,5 @@
--- Logs in again and again, for wrk with as many threads as connections: asks for a protected page, posts the form, asks for the page, and ends the session.
--- The form is the argument behind `--`. At the end it prints how many answers were not as they must be.
+-- Repeats logins, for wrk with as many threads as connections: requests a protected page, posts the form, requests the page again, and ends the session.
+-- The form is the argument after `--`. At the end it prints the number of wrong answers.
 local FORM = { ["Content-Type"] = "application/x-www-form-urlencoded" }
 local threads = {}
 local steps, step, cookie

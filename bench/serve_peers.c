@@ -3,11 +3,11 @@
  *   keep PORT COUNT   asks COUNT times over one connection, each time when the answer is there, and prints the seconds
  *   anew PORT COUNT   does so over a connection for each request
  *   paced PORT COUNT CONNECTIONS RATE
- *                     asks COUNT times at that rate a second, whether or not answers arrive in time, and prints after the seconds the microseconds
- *                     within which 500, 990 and 999 of 1,000 answers came. A request that finds all connections busy waits for one, and its time
- *                     counts from when it was due: a slow answer makes later ones late (no coordinated omission). It keeps its core busy
+ *                     sends COUNT requests at that RATE a second, whether or not answers arrive in time, and prints the seconds, and the microseconds
+ *                     within which 500, 990 and 999 of 1,000 answers arrive. If all connections are busy, a request waits for one. Each time is
+ *                     measured from when the request is due, so that a slow answer makes later ones late. The client keeps its core busy
  *   memory FILE ..    listens on 127.0.0.1, prints `listening PORT`, and answers each request for the name of a file with its bytes, which are a whole
- *                     response: one event loop writes them from memory, in parts of 64 KiB, to sockets that never block
+ *                     response. One event loop writes them from memory, in parts of 64 KiB, to sockets that never block
  *   floor             listens on 127.0.0.1, prints `listening PORT`, and answers each read with one write of the same bytes, a connection after another:
  *                     no server that makes these two calls a request can be faster
  */
@@ -94,7 +94,7 @@ static void anew(int port, long count) {
     }
 }
 
-/* A connection that waits for an answer: what came of it, and since when. */
+/* A connection that waits for an answer: the bytes received, and the time from which it is measured. */
 struct waiting {
     int stream;
     char text[1024];
@@ -136,7 +136,7 @@ static void print_times(double *times, long count, double took) {
     for (int i = 0; i < 3; i++) printf("%.1f\n", times[(count - 1) * shares[i] / 1000] * 1e6);
 }
 
-/* The connections take turns: the one that is idle longest is asked next. */
+/* The connections take turns: the next request uses the one that is idle longest. */
 static void paced(int port, long count, int connections, double rate) {
     struct waiting *all = calloc(connections, sizeof *all), **idle = calloc(connections, sizeof *idle);
     struct epoll_event events[MOST_EVENTS];
@@ -200,7 +200,7 @@ struct file {
     size_t size;
 };
 
-/* A connection of the event loop: what came of a request, and the file that leaves, up to where. */
+/* A connection of the event loop: the bytes of its request, and the file that it sends, with the number of bytes sent. */
 struct served {
     int stream;
     char text[4096];
@@ -220,7 +220,7 @@ static struct file read_file(const char *path) {
     return file;
 }
 
-/* Reads what came, and finds the file once the request is whole. Says whether the connection goes on. */
+/* Reads bytes, and finds the file once the request is complete. Returns 0 if the connection must be closed. */
 static int take_request(struct served *served, const struct file *files, int count) {
     ssize_t came = recv(served->stream, served->text + served->have, sizeof served->text - 1 - served->have, 0);
     if (came <= 0) return came < 0 && errno == EAGAIN;
@@ -234,7 +234,7 @@ static int take_request(struct served *served, const struct file *files, int cou
     return served->file != NULL;
 }
 
-/* Writes of the file what the socket takes. Says whether the connection goes on. */
+/* Writes as much of the file as the socket accepts. Returns 0 if the connection must be closed. */
 static int write_file(struct served *served) {
     while (served->sent < served->file->size) {
         size_t left = served->file->size - served->sent;

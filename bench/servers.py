@@ -62,7 +62,7 @@ def running(arguments, folder):
 
 @contextlib.contextmanager
 def nginx(folder, front=()):
-    """nginx with one worker, which serves the folder's files: its number as a process, and the port. Words may precede its command."""
+    """nginx with one worker, which also serves the folder's files: its process id and port. `front` precedes its command."""
     with socket.create_server(("127.0.0.1", 0)) as free:
         port = free.getsockname()[1]
     with open(f"{folder}/nginx.conf", "w") as file:
@@ -145,7 +145,7 @@ def answered(port, patience):
 
 
 def asked(peers, port, way, *numbers):
-    """What our client prints of so many requests: the seconds that they took, and what else there is. Words may precede its name."""
+    """The numbers that our client prints for so many requests, first the seconds that they took. `peers` is its name, or a command."""
     words = [*([peers] if isinstance(peers, str) else peers), way, str(port), *map(str, numbers)]
     ran = subprocess.run(
         words, stdin=subprocess.DEVNULL, stdout=subprocess.PIPE, text=True, check=True

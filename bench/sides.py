@@ -10,7 +10,7 @@ from servers import SERVER, TOP, nginx, running
 from tomcat_sites import Tomcat
 
 CORES = sorted(os.sched_getaffinity(0))
-# The server has a core, and its clients have others, as far as there are enough of them.
+# The server has a core of its own, and its clients use others, if there are enough of them.
 SERVER_CORES, CLIENT_CORES = CORES[1:2], CORES[2:4] or CORES[:1]
 SIZES = {"1 KiB": 1 << 10, "16 KiB": 16 << 10, "256 KiB": 256 << 10, "1 MiB": 1 << 20}
 USER, PASSWORD, SALT, ROLE = "ann", "a secret of ann", "61", "reader"
@@ -29,8 +29,8 @@ role-name = "{ROLE}"
 auth-method = "FORM"
 form-login-config = {{ form-login-page = "/login.html", form-error-page = "/login.html" }}
 """
-# The seconds of load after which the compiler of Java has done its work.
-JAVA_WARM_UP = 10
+# The processor seconds after which Java has compiled the code that runs: a form costs half of its time after 20 seconds.
+JAVA_WARM_UP = 60
 WEB_XML = f"""<web-app xmlns="https://jakarta.ee/xml/ns/jakartaee" version="6.0" metadata-complete="true">
 <servlet><servlet-name>default</servlet-name><servlet-class>org.apache.catalina.servlets.DefaultServlet</servlet-class></servlet>
 <servlet><servlet-name>measured</servlet-name><servlet-class>Measured</servlet-class></servlet>
@@ -46,7 +46,7 @@ WEB_XML = f"""<web-app xmlns="https://jakarta.ee/xml/ns/jakartaee" version="6.0"
 
 
 class Side(NamedTuple):
-    """A server that is compared: its name, what starts it and yields its number as a process and its port, and its seconds of load before it is measured."""
+    """A server: its name, a context manager that runs it and gives its process id and port, and its processor seconds before a measurement."""
 
     name: str
     serving: Callable
@@ -54,7 +54,7 @@ class Side(NamedTuple):
 
 
 def pinned(cores):
-    """The words before a command that runs on these cores."""
+    """The words that precede a command to run it on these cores."""
     return ["taskset", "-c", ",".join(map(str, cores))] if cores else []
 
 
@@ -74,7 +74,7 @@ def nginx_side(folder):
 
 
 def memory_side(peers, folder, answers):
-    """The C program that writes whole responses from memory, by the paths that it is asked for."""
+    """The C program that writes these answers from memory, by their paths."""
     files = [f"{folder}/{path[1:]}" for path in answers]
     for file, answer in zip(files, answers.values(), strict=True):
         Path(file).write_bytes(answer)
@@ -83,7 +83,7 @@ def memory_side(peers, folder, answers):
 
 
 class MeasuredTomcat(Tomcat):
-    """A Tomcat that does what the site and `hello` do, with the same digest of the password."""
+    """A Tomcat with the servlets and the login of the site, and the servlet of `hello`. The digest of the password is the same."""
 
     java = [*pinned(SERVER_CORES), "java", "-Xmx512m"]
     credentials = '<CredentialHandler className="org.apache.catalina.realm.MessageDigestCredentialHandler" algorithm="SHA-256"/>'
@@ -109,7 +109,7 @@ def tomcat_side(folder):
 
 
 def servlets(*classes):
-    """The part of a descriptor that maps a servlet of each class to its name in lower case."""
+    """The servlets of these classes in a descriptor, each mapped to its name in lower case."""
     names = [(it.lower(), it) for it in classes]
     declared = ", ".join(f'{{ servlet-name = "{it}", servlet-class = "{of}" }}' for it, of in names)
     mapped = ", ".join(f'{{ servlet-name = "{it}", url-pattern = ["/{it}"] }}' for it, _ in names)
@@ -125,7 +125,7 @@ def write_files(folder, files):
 
 
 def write_site(folder):
-    """Writes the site of `run` into a folder: files, a login by a form, and servlets. Returns its large files."""
+    """Writes the site of `run` into a folder: servlets, a login by a form, and static files, which it returns."""
     noise = random.Random(0)
     large = {f"/{it}": noise.randbytes(it) for it in SIZES.values()}
     user = f'user = [{{ name = "{USER}", salt = "{SALT}", digest = "{DIGEST}", roles = ["{ROLE}"] }}]\n'

@@ -188,7 +188,7 @@ class Tomcat:
     """A Tomcat of its own, and the connection to it."""
 
     java = JAVA
-    # What the realm has inside: nothing for passwords that are kept as they are.
+    # The element inside the realm; empty for passwords in plain text.
     credentials = ""
 
     def __init__(self, base: Path, sites: list[Site]) -> None:
@@ -236,7 +236,7 @@ class Tomcat:
 
     @contextlib.contextmanager
     def running(self) -> Iterator[int]:
-        """It runs, and is ended in the end: its number as a process."""
+        """Runs Tomcat, and ends it: its process id."""
         libraries = f"{TOMCAT}/bin/bootstrap.jar:{TOMCAT}/bin/tomcat-juli.jar"
         places = [
             f"-Dcatalina.home={TOMCAT}",
