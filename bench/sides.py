@@ -29,7 +29,7 @@ role-name = "{ROLE}"
 auth-method = "FORM"
 form-login-config = {{ form-login-page = "/login.html", form-error-page = "/login.html" }}
 """
-# The processor seconds after which Java has compiled the code that runs: a form costs half of its time after 20 seconds.
+# The processor seconds after which Java has compiled the code that runs. After 20 it has not.
 JAVA_WARM_UP = 60
 WEB_XML = f"""<web-app xmlns="https://jakarta.ee/xml/ns/jakartaee" version="6.0" metadata-complete="true">
 <servlet><servlet-name>default</servlet-name><servlet-class>org.apache.catalina.servlets.DefaultServlet</servlet-class></servlet>
