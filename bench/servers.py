@@ -1,4 +1,4 @@
-"""What bench/serve, bench/run and bench/clients share: the servers that they measure, and what they measure them with."""
+"""What bench/serve, bench/run, bench/speed and bench/clients share: the servers that they measure, and what they measure them with."""
 import contextlib
 import os
 import re
@@ -18,8 +18,12 @@ ROOT = 'servlet = [{ servlet-name = "who", servlet-class = "Who" }]\nservlet-map
 NGINX = """daemon off; master_process off; worker_processes 1; pid nginx.pid; error_log stderr;
 events {{ worker_connections 4096; }}
 http {{
-    access_log off; keepalive_requests 1000000000; default_type text/plain; tcp_nodelay on;
-    server {{ listen 127.0.0.1:{port}; location = /who {{ return 200 "caller -\\n"; }} }}
+    access_log off; keepalive_requests 1000000000; default_type text/plain; tcp_nodelay on; sendfile on; tcp_nopush on;
+    server {{
+        listen 127.0.0.1:{port};
+        location = /who {{ return 200 "caller -\\n"; }}
+        location / {{ root files; }}
+    }}
 }}
 """
 REQUEST = b"GET /who HTTP/1.1\r\nHost: localhost\r\n\r\n"
@@ -57,13 +61,14 @@ def running(arguments, folder):
 
 
 @contextlib.contextmanager
-def nginx(folder):
+def nginx(folder, front=()):
+    """nginx with one worker, which also serves the folder's files: its process id and port. `front` precedes its command."""
     with socket.create_server(("127.0.0.1", 0)) as free:
         port = free.getsockname()[1]
     with open(f"{folder}/nginx.conf", "w") as file:
         file.write(NGINX.format(port=port))
     with subprocess.Popen(
-        ["nginx", "-p", folder, "-c", f"{folder}/nginx.conf"], stdin=subprocess.DEVNULL
+        [*front, "nginx", "-p", folder, "-c", f"{folder}/nginx.conf"], stdin=subprocess.DEVNULL
     ) as server:
         try:
             answered(port, 10)
@@ -140,8 +145,8 @@ def answered(port, patience):
 
 
 def asked(peers, port, way, *numbers):
-    """What our client prints of so many requests: the seconds that they took, and what else there is."""
-    words = [peers, way, str(port), *map(str, numbers)]
+    """The numbers that our client prints for so many requests, first the seconds that they took. `peers` is its name, or a command."""
+    words = [*([peers] if isinstance(peers, str) else peers), way, str(port), *map(str, numbers)]
     ran = subprocess.run(
         words, stdin=subprocess.DEVNULL, stdout=subprocess.PIPE, text=True, check=True
     )

@@ -1,4 +1,4 @@
-"""What bench/tomcat and bench/tomcat_audit share: descriptors as both containers have them, and a Tomcat of their own."""
+"""What bench/tomcat, bench/tomcat_audit and bench/speed share: descriptors as both containers have them, and a Tomcat of their own."""
 from __future__ import annotations
 
 import base64
@@ -33,8 +33,8 @@ METHODS = ["GET", "HEAD", "POST", "PUT", "DELETE", "OPTIONS", "ODD"]
 PASSWORD = "secret"
 COMPARED = ("security-constraint", "security-role", "login-config", "deny-uncovered-http-methods")
 SERVER = """<Server port="-1"><Service name="Catalina">
-<Connector port="{port}" address="127.0.0.1" allowTrace="true" redirectPort="443"/>
-<Engine name="Catalina" defaultHost="localhost"><Realm className="org.apache.catalina.realm.MemoryRealm"/>
+<Connector port="{port}" address="127.0.0.1" allowTrace="true" redirectPort="443" maxKeepAliveRequests="-1"/>
+<Engine name="Catalina" defaultHost="localhost"><Realm className="org.apache.catalina.realm.MemoryRealm">{credentials}</Realm>
 <Host name="localhost" appBase="webapps" autoDeploy="false"/></Engine></Service></Server>
 """
 CONTEXT = '<Context><JarScanner scanClassPath="false" scanManifest="false"/></Context>\n'
@@ -187,6 +187,10 @@ def compared_part(path: Path) -> bytes:
 class Tomcat:
     """A Tomcat of its own, and the connection to it."""
 
+    java = JAVA
+    # The element inside the realm; empty for passwords in plain text.
+    credentials = ""
+
     def __init__(self, base: Path, sites: list[Site]) -> None:
         with socket.socket() as free:
             free.bind(("127.0.0.1", 0))
@@ -195,20 +199,26 @@ class Tomcat:
         self._write_configuration(sites)
         self._connection = http.client.HTTPConnection("127.0.0.1", self.port, timeout=30)
 
-    def _write_configuration(self, sites: list[Site]) -> None:
+    def _write_base(self, source: str) -> Path:
+        """Writes what every context needs. Returns the folder of the compiled servlet."""
         for folder in ("conf", "logs", "temp", "webapps", "work"):
             (self.base / folder).mkdir(parents=True)
         shutil.copy(TOMCAT / "etc/catalina.properties", self.base / "conf")
         classes = self.base / "classes"
         subprocess.run(
-            ["javac", "-cp", TOMCAT / "lib/servlet-api.jar", "-d", classes, HERE / "Reached.java"],
+            ["javac", "-cp", TOMCAT / "lib/servlet-api.jar", "-d", classes, HERE / source],
             check=True,
         )
-        (self.base / "conf/server.xml").write_text(SERVER.format(port=self.port))
+        server = SERVER.format(port=self.port, credentials=self.credentials)
+        (self.base / "conf/server.xml").write_text(server)
         (self.base / "conf/context.xml").write_text(CONTEXT)
         (self.base / "conf/web.xml").write_text(
             '<web-app xmlns="https://jakarta.ee/xml/ns/jakartaee" version="6.0" metadata-complete="true"/>'
         )
+        return classes
+
+    def _write_configuration(self, sites: list[Site]) -> None:
+        classes = self._write_base("Reached.java")
         names = {
             site.user(caller): roles for site in sites for caller, roles in site.callers.items()
         }
@@ -225,8 +235,8 @@ class Tomcat:
             (folder / "web.xml").write_bytes(site.web_xml)
 
     @contextlib.contextmanager
-    def running(self) -> Iterator[None]:
-        """It runs, and is ended in the end."""
+    def running(self) -> Iterator[int]:
+        """Runs Tomcat, and ends it: its process id."""
         libraries = f"{TOMCAT}/bin/bootstrap.jar:{TOMCAT}/bin/tomcat-juli.jar"
         places = [
             f"-Dcatalina.home={TOMCAT}",
@@ -234,7 +244,7 @@ class Tomcat:
             f"-Djava.io.tmpdir={self.base}/temp",
         ]
         command = [
-            *JAVA,
+            *self.java,
             *places,
             "-cp",
             libraries,
@@ -246,7 +256,7 @@ class Tomcat:
         ) as process:
             try:
                 self._wait(process)
-                yield
+                yield process.pid
             finally:
                 process.terminate()
 
