@@ -15,6 +15,7 @@ mod Policy
 pub mod RefusedContexts
 pub mod Saying
 pub mod Setting
+pub mod Tables
 pub mod Walking
 pub mod Words
 pub mod Wrong

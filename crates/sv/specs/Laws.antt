@@ -1,13 +1,19 @@
 -- Laws of the meaning of arguments.
-use Rattle.std.specs.Prelude.{◌≡◌, ◌≢◌, ◌<◌, ◌≤◌, ℕ, List, [], Option, Some, None, option_copied}
+use Rattle.std.specs.Prelude.{◌≡◌, ◌≢◌, ◌<◌, ◌≤◌, ℕ, Bool, true, false, List, [], ◌∷◌, codes, flat_map, if◌then◌else◌, map, Option, Some, None, option_copied}
 use Rattle.std.specs.List.{All, Contains}
+use Rattle.std.specs.Str.{bytes_eq}
 use Rattle.sv.specs.Command.{IsNamed}
 use Rattle.sv.specs.Near.{distance, near}
 use Rattle.sv.specs.AuditOptions.{IsAudit}
 use Rattle.sv.specs.RunOptions.{IsAsked}
+use Rattle.sv.specs.Settings.{key_word, option_keys, set_of, takes_word}
+use Rattle.sv.specs.Topics.{commands, options, topic_name, topic_names, topic_usage}
 use Rattle.sv.specs.Usage.{IsUsageLine}
 use Rattle.sv.specs.declared.command.Command.{Command}
 use Rattle.sv.specs.declared.command.Command.TheVariants.{First, Policy, Uncovered, Audit, Check, Replay, Serve, Run, SelfTest, Help, Manual, Version}
+use Rattle.sv.specs.declared.key.Key.{Key}
+use Rattle.sv.specs.declared.option_set.OptionSet.{OptionSet}
+use Rattle.sv.specs.declared.option_set.OptionSet.TheVariants as set
 use Rattle.sv.specs.declared.topic.Topic.{Topic}
 use Rattle.sv.specs.declared.topic.Topic.TheVariants as topic
 use Rattle.sv.specs.declared.audit_options.AuditOptions.{AuditOptions}
@@ -15,6 +21,8 @@ use Rattle.sv.specs.declared.run_options.RunOptions.{RunOptions}
 use Rattle.sv_audit_command.specs.declared.access_options.AccessOptions.{AccessOptions}
 use Rattle.sv_audit_command.specs.declared.access_options.Asked.{Asked}
 use Rattle.sv_audit_command.specs.declared.access_options.Asked.TheVariants as asked
+use Rattle.sv_manual.specs.Manual.{named_usage}
+use Rattle.sv_manual.specs.Rows.{OptionFields}
 
 -- the same names, address and numbers
 abbrev pub AreSame : RunOptions → RunOptions → Type 0
@@ -81,3 +89,39 @@ NearIsNearest = (names : List (List ℕ)) (word name : List ℕ) → near names 
 -- if no name is near to a word, all are more than two edits away, or the word is empty
 abbrev pub OthersAreFar : Type 0
 OthersAreFar = (names : List (List ℕ)) (word : List ℕ) → near names word ≡ None → word ≢ [] → All (λ other. 2 < distance other word) names
+
+-- the manual has the commands, in the order of the help
+abbrev pub ManualHasCommands : Type 0
+ManualHasCommands = map (λ command. command.name) commands ≡ topic_names
+
+-- the manual has the usage of each command
+abbrev pub ManualHasUsages : Type 0
+ManualHasUsages = (topic : Topic) → named_usage (topic_name topic) commands ≡ topic_usage topic
+
+-- an option of the manual, if it is one of this command, and whether a word follows it
+abbrev pub listed_option : List ℕ → OptionFields → List (List ℕ × Bool)
+listed_option name option =
+    if bytes_eq option.command name then (option.word, (if bytes_eq option.argument [] then false else true)) ∷ [] else []
+
+-- the options of an option set, each with whether a word follows it
+abbrev pub taken_options : OptionSet → List (List ℕ × Bool)
+taken_options its = map (λ key. (key_word key, takes_word key)) (option_keys its)
+
+-- the options of a command
+abbrev pub topic_options : Topic → List (List ℕ × Bool)
+topic_options topic.Run = taken_options set.Run
+topic_options topic.Audit = taken_options set.Audit
+topic_options topic.Help = (codes "--format", true) ∷ []
+topic_options other = []
+
+-- the manual has exactly the options of each command
+abbrev pub ManualHasOptions : Type 0
+ManualHasOptions = (topic : Topic) → flat_map (listed_option (topic_name topic)) options ≡ topic_options topic
+
+-- every option is among those of its command
+abbrev pub AreAllKeys : Type 0
+AreAllKeys = (key : Key) → Contains (option_keys (set_of key)) key
+
+-- the options of a command are its own
+abbrev pub AreOwnKeys : Type 0
+AreOwnKeys = (its : OptionSet) → map set_of (option_keys its) ≡ map (λ any. its) (option_keys its)

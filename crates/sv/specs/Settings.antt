@@ -1,5 +1,5 @@
 -- The options of the commands as words.
-use Rattle.std.specs.Prelude.{◌≡◌, ℕ, Bool, true, false, List, [], ◌∷◌, codes, Option, Some, None}
+use Rattle.std.specs.Prelude.{◌≡◌, ℕ, Bool, true, false, List, [], ◌∷◌, codes, map, Option, Some, None}
 use Rattle.std.specs.List.{flat_map}
 use Rattle.std.specs.Str.{bytes_eq}
 use Rattle.sv.specs.declared.key.Key.{Key}
@@ -51,12 +51,12 @@ value_name Method = codes "METHOD"
 value_name Diff = codes "a server file"
 
 -- the options of a command, in the order of its help
+abbrev pub option_keys : OptionSet → List Key
+option_keys Run = Control ∷ Journal ∷ Listen ∷ SameSeed ∷ Connections ∷ IdleSeconds ∷ HeldMebibytes ∷ []
+option_keys Audit = Secure ∷ Format ∷ As ∷ Role ∷ FailOn ∷ Accept ∷ Lines ∷ Path ∷ Method ∷ Diff ∷ []
+
 abbrev pub option_words : OptionSet → List (List ℕ)
-option_words Run =
-    key_word Control ∷ key_word Journal ∷ key_word Listen ∷ key_word SameSeed ∷ key_word Connections ∷ key_word IdleSeconds ∷ key_word HeldMebibytes ∷ []
-option_words Audit =
-    key_word Secure ∷ key_word Format ∷ key_word As ∷ key_word Role ∷ key_word FailOn ∷ key_word Accept ∷ key_word Lines
-    ∷ key_word Path ∷ key_word Method ∷ key_word Diff ∷ []
+option_words set = map key_word (option_keys set)
 
 -- the command of an option
 abbrev pub set_of : Key → OptionSet

@@ -39,7 +39,7 @@ topic_usage Replay = codes "sv replay CONFIG"
 topic_usage Serve = codes "sv serve CONFIG N"
 topic_usage Run = codes "sv run CONFIG [OPTION ..]"
 topic_usage SelfTest = codes "sv selftest CONFIG"
-topic_usage Help = codes "sv help [COMMAND]"
+topic_usage Help = codes "sv help [COMMAND | [config] [--format FORMAT]]"
 topic_usage Version = codes "sv version"
 
 abbrev pub commands : List CommandFields

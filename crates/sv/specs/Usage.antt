@@ -1,5 +1,6 @@
 -- The second line about arguments that name no command.
-use Rattle.std.specs.Prelude.{◌≡◌, ℕ, List, [], ◌∷◌, ◌++◌, codes, Option, Some, None}
+use Rattle.std.specs.Prelude.{◌≡◌, ℕ, Bool, List, [], ◌∷◌, ◌++◌, ◌||◌, codes, if◌then◌else◌, Option, Some, None}
+use Rattle.std.specs.Str.{bytes_eq}
 use Rattle.sv.specs.Near.{near}
 use Rattle.sv.specs.OptionFault.{IsRefused}
 use Rattle.sv.specs.Settings.{key_word, option_words, value_name}
@@ -59,9 +60,13 @@ option_fault_line its (BadValue key value) = needs_line key ++ codes ", not " ++
 abbrev pub IsOptionLine : OptionSet → List (List ℕ) → List ℕ → Type 0
 IsOptionLine its arguments line = (fault : OptionFault) × IsRefused its arguments fault × (line ≡ option_fault_line its fault)
 
+-- a word of the usage of `help` that is no command
+abbrev pub is_help_word : List ℕ → Bool
+is_help_word word = bytes_eq word (codes "--format") || bytes_eq word (codes "config")
+
 -- the line about a word after `help`: it is no name of a command, or other words are wrong
 abbrev pub about_line : Option Topic → List ℕ → List ℕ
-about_line None word = unknown_command word
+about_line None word = if is_help_word word then usage_line Help else unknown_command word
 about_line (Some topic) word = usage_line Help
 
 abbrev pub IsHelpLine : List (List ℕ) → List ℕ → Type 0

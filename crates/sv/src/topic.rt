@@ -1,7 +1,7 @@
 //! The commands of the program, as topics of help.
 
 ghost use Rattle.std.specs.Prelude.{◌≡◌, ◌↔◌, true};
-ghost use Rattle.sv.specs.Topics.{IsCalled, IsHelpOption, topic_name, topic_usage};
+ghost use Rattle.sv.specs.Topics.{IsCalled, IsHelpOption, topic_name};
 ghost use Rattle.sv.specs.Values.{Finds};
 
 /// A command of the program, as a topic of help.
@@ -89,25 +89,6 @@ impl Topic {
             Topic::SelfTest => "selftest",
             Topic::Help => "help",
             Topic::Version => "version",
-        }
-    }
-
-    /// Returns the usage of the command: the program's name, its own and its arguments.
-    pub fn usage(self) -> &'static str
-        ensures { result.now ≡ topic_usage self }
-    {
-        match self {
-            Topic::First => "sv first [deny]",
-            Topic::Policy => "sv policy CONFIG METHOD TARGET [USER]",
-            Topic::Uncovered => "sv uncovered CONFIG",
-            Topic::Audit => "sv audit CONFIG [OPTION ..]",
-            Topic::Check => "sv check CONFIG",
-            Topic::Replay => "sv replay CONFIG",
-            Topic::Serve => "sv serve CONFIG N",
-            Topic::Run => "sv run CONFIG [OPTION ..]",
-            Topic::SelfTest => "sv selftest CONFIG",
-            Topic::Help => "sv help [COMMAND]",
-            Topic::Version => "sv version",
         }
     }
 }

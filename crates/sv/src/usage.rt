@@ -1,8 +1,8 @@
 //! The second line about arguments that name no command: what is wrong with them, and how to get help.
 
-ghost use Rattle.std.specs.Prelude.{◌≡◌, ◌++◌, IfOk, codes, map, option_copied, string_bytes};
+ghost use Rattle.std.specs.Prelude.{◌≡◌, ◌++◌, IfOk, None, codes, map, option_copied, string_bytes};
 ghost use Rattle.sv.specs.Command.{NameNothing};
-ghost use Rattle.sv.specs.Laws.{HaveOneLine};
+ghost use Rattle.sv.specs.Laws.{AreAllKeys, AreOwnKeys, HaveOneLine, ManualHasCommands, ManualHasOptions, ManualHasUsages};
 ghost use Rattle.sv.specs.Near.{near};
 ghost use Rattle.sv.specs.AuditOptions.{IsAudit};
 ghost use Rattle.sv.specs.RunOptions.{IsAsked};
@@ -22,6 +22,7 @@ use crate::option_set::OptionSet;
 use crate::run_options::RunOptions;
 use crate::topic::{TOPICS, Topic};
 use std::alloc::Global;
+use sv_manual::command_usage;
 use sv_program::quoted;
 use sv_text::{NoMemory, Text};
 
@@ -105,15 +106,34 @@ fn help_detail(alloc: Global, arguments: &[String]) -> Result<Text, NoMemory>
         return usage_line(alloc, Topic::Help);
     }
     match Topic::named(word.as_str()) {
-        None => unknown_command(alloc, word.as_str()),
+        None => other_word_line(alloc, word.as_str()),
         Some(_) => usage_line(alloc, Topic::Help),
     }
+}
+
+/// Returns the line about the only word after `help` or its options, if it names no command. For a word of the usage of
+/// `help`, as `--format` without a format, the line is that usage.
+fn other_word_line(alloc: Global, word: &str) -> Result<Text, NoMemory>
+    ensures { GivesAnswer result (spec.about_line None word.now) }
+{
+    if is_help_word(word) {
+        usage_line(alloc, Topic::Help)
+    } else {
+        unknown_command(alloc, word)
+    }
+}
+
+/// Returns whether the word is in the usage of `help`, and is no command.
+fn is_help_word(word: &str) -> bool
+    ensures { result ≡ spec.is_help_word word.now }
+{
+    word == "--format" || word == "config"
 }
 
 fn usage_line(alloc: Global, topic: Topic) -> Result<Text, NoMemory>
     ensures { GivesAnswer result (spec.usage_line topic) }
 {
-    let usage = topic.usage();
+    let usage = command_usage(alloc, topic.name())?;
     Ok(Text::from_string(format!(in alloc; "  usage: {usage}")?))
 }
 
@@ -233,4 +253,13 @@ fn bad_value_line(alloc: Global, key: Key, value: &str) -> Result<Text, NoMemory
 /// Arguments that name no command have only one second line.
 pub fn wrong_arguments_have_one_line()
     ensures { HaveOneLine }
+{}
+
+/// The manual has the commands of the program with their usages, and exactly their options.
+pub fn the_manual_is_of_this_program()
+    ensures commands { ManualHasCommands }
+    ensures usages { ManualHasUsages }
+    ensures options { ManualHasOptions }
+    ensures all_keys { AreAllKeys }
+    ensures own_keys { AreOwnKeys }
 {}

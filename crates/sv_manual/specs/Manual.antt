@@ -35,6 +35,14 @@ shown_option Markdown option = item_option option.word option.argument (escaped 
 abbrev pub usage_of : List ℕ → List ℕ → List ℕ
 usage_of name arguments = codes "sv " ++ name ++ spaced arguments
 
+-- the usage of the command, if it has this name
+abbrev pub usage_named : List ℕ → CommandFields → List ℕ
+usage_named name command = if bytes_eq command.name name then usage_of command.name command.arguments else []
+
+-- the usage of the command of this name
+abbrev pub named_usage : List ℕ → List CommandFields → List ℕ
+named_usage name commands = flat_map (usage_named name) commands
+
 abbrev pub roff_head : List ℕ → List ℕ → List ℕ
 roff_head name arguments = page.ROFF_COMMAND.now ++ escaped Roff name ++ escaped Roff (spaced arguments)
 

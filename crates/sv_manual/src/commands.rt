@@ -57,7 +57,7 @@ pub const COMMANDS: [CommandRow; 11] = [
     ),
     (
         "help",
-        "[COMMAND]",
+        "[COMMAND | [config] [--format FORMAT]]",
         "lists the commands, or shows the usage of one, or with config the keys of the files",
     ),
     (

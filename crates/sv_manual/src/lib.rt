@@ -13,4 +13,4 @@ pub use commands::{COMMANDS, CommandRow, OPTIONS, OptionRow};
 pub use completion::completion_page;
 pub use form::Form;
 pub use keys::config_page;
-pub use manual::{command_page, commands_page};
+pub use manual::{command_page, command_usage, commands_page};

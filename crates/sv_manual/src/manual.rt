@@ -34,6 +34,16 @@ pub fn command_page(alloc: Global, form: Form, name: &str) -> Result<Text, NoMem
     named_of(alloc, form, name, &COMMANDS, &OPTIONS)
 }
 
+/// Returns the usage of the command of this name: the program's name, its own and its arguments.
+///
+/// # Errors
+/// `NoMemory` if memory runs out.
+pub fn command_usage(alloc: Global, name: &str) -> Result<Text, NoMemory>
+    ensures { GivesAnswer result (spec.named_usage name.now (map (command_fields (λ text. text.now)) COMMANDS)) }
+{
+    named_usage(alloc, name, &COMMANDS)
+}
+
 fn page_of(
     alloc: Global,
     form: Form,
@@ -63,6 +73,33 @@ fn named_of(
         push_named(alloc, &mut text, form, name, command, options)?;
     }
     Ok(Text::from_string(text))
+}
+
+fn named_usage(alloc: Global, name: &str, commands: &[CommandRow]) -> Result<Text, NoMemory>
+    ensures { GivesAnswer result (spec.named_usage name.now (map (command_fields (λ text. text.now)) commands.now)) }
+{
+    let mut text = String::new(alloc);
+    for command in commands {
+        push_usage(alloc, &mut text, name, command)?;
+    }
+    Ok(Text::from_string(text))
+}
+
+/// Adds the usage of a command, if it has this name.
+fn push_usage(
+    alloc: Global,
+    text: &mut String,
+    name: &str,
+    command: &CommandRow,
+) -> Result<(), NoMemory>
+    ensures { OnOk result (string_bytes text.new ≡ string_bytes text.old ++ spec.usage_named name.now (command_fields (λ text. text.now) command.now)) }
+{
+    if command.0 != name {
+        return Ok(());
+    }
+    let usage = usage(alloc, command.0, command.1)?;
+    text.push_str(usage.as_str())?;
+    Ok(())
 }
 
 /// Adds a command, if it has this name.

@@ -51,8 +51,7 @@ files.
 ";
 
 /// The end of the page in Markdown.
-pub const MARKDOWN_END: &str = "\
-
+pub const MARKDOWN_END: &str = "
 The exit status is 0 if the command succeeded, 1 if the configuration or the system has a fault, 2 if
 the arguments or a script are wrong, 3 if memory ran out, and 4 if an audit has findings that must
 not be there.
