@@ -57,8 +57,8 @@ pub(crate) fn try_gathered<W: GatheringWrite>(
     ];
     for _ in 0..u64::MAX {
         match writer.write_gathered(&slices) {
-            Ok(0) => return Tried::Failed,
-            Ok(count) => return Tried::Done(count),
+            Ok(count) if 0 < count => return Tried::Done(count),
+            Ok(_) => return Tried::Failed,
             Err(error) if error.kind() == ErrorKind::Interrupted => {}
             Err(error) if error.kind() == ErrorKind::WouldBlock => return Tried::WouldBlock,
             Err(_) => return Tried::Failed,
