@@ -2,6 +2,7 @@
 
 ghost use Rattle.std.specs.Prelude.{◌<◌, length, OnOk};
 
+use bytes::Bytes;
 use std::alloc::Global;
 use sv_exchange::{Exchange, ExchangeFault};
 use sv_mapping::Kind;
@@ -32,6 +33,7 @@ fn make(
         "enter" => enter(exchange, rest),
         "visit" => visit(exchange, rest),
         "fill" => fill(alloc, exchange, rest.parse::<usize>().unwrap_or(0)),
+        "lend" => lend(alloc, exchange, rest.parse::<usize>().unwrap_or(0)),
         "clear" => Ok(clear(exchange)),
         "reset" => Ok(reset(exchange)),
         "set" | "add" | "attribute" => change_named(exchange, name, rest),
@@ -62,6 +64,14 @@ fn change(exchange: &mut Exchange, call: &str, rest: &str) -> Result<bool, Excha
 fn fill(alloc: Global, exchange: &mut Exchange, count: usize) -> Result<bool, ExchangeFault> {
     let bytes = Vec::from_elem(alloc, b'x', count)?;
     exchange.write(bytes.as_slice())
+}
+
+/// Writes this number of bytes that have a further owner.
+fn lend(alloc: Global, exchange: &mut Exchange, count: usize) -> Result<bool, ExchangeFault> {
+    let Ok(bytes) = Bytes::from_vec(Vec::from_elem(alloc, b'x', count)?) else {
+        return Err(ExchangeFault::NoMemory);
+    };
+    exchange.write_shared(&bytes)
 }
 
 fn clear(exchange: &mut Exchange) -> bool {

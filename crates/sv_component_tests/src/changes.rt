@@ -122,6 +122,15 @@ flush; enter INCLUDE; fill 4194305 | TooLarge | 200 | ""             | 0\r\n\r\n
 write ab; flush; fill 4194303  | TooLarge  | 200 | ""                | 2\r\nab\r\n0\r\n\r\n
 write ab; flush; fill 4194302  | done      | 200 | ""                | 4194324 bytes
 write ab; clear; fill 4194304  | done      | 200 | ""                | 4194304 bytes
+-- bytes that have a further owner are written as others are
+lend 4194304                   | done      | 200 | ""                | 4194304 bytes
+lend 4194305                   | TooLarge  | 200 | ""                | ""
+write ab; lend 4194303         | TooLarge  | 200 | ""                | ab
+write ab; lend 3; write c      | done      | 200 | ""                | abxxxc
+write ab; lend 20000; write c  | done      | 200 | ""                | 20003 bytes
+lend 20000; lend 20000         | done      | 200 | ""                | 40000 bytes
+write ab; lend 20000; clear    | done      | 200 | ""                | ""
+write ab; lend 20000; flush; write c | done | 200 | ""               | 20021 bytes
 "#;
 
 #[test]

@@ -25,6 +25,8 @@ mod response_texts;
 #[cfg(test)]
 mod responses;
 #[cfg(test)]
+mod segments;
+#[cfg(test)]
 mod specification_table;
 #[cfg(test)]
 mod steps;

@@ -5,7 +5,7 @@ use std::alloc::Global;
 use sv_message::{Body, Cookie, Pieces, Rare, Response, Segments};
 use sv_rows::{Asks, cell, unescaped};
 use sv_text::{Bytes, Listed, NoMemory, Text};
-use sv_wire::{DateText, Field, write_response};
+use sv_wire::{DateText, Field, send_response, write_response};
 
 /// Answers with the text of a response, which is appended to a word that the output already holds.
 pub struct Responses;
@@ -21,7 +21,7 @@ impl Asks for Responses {
     }
 }
 
-/// Returns a word, followed by the text of the response if its status can be written.
+/// Returns a word, followed by the text of the response if its status can be written. What is sent has the same bytes.
 fn written(alloc: Global, response: &Response, manner: &str) -> Result<Vec<u8>, NoMemory> {
     let (part, rest) = manner.split_once(' ').unwrap_or((manner, ""));
     let (after, moment) = rest.split_once(' ').unwrap_or((rest, ""));
@@ -32,6 +32,12 @@ fn written(alloc: Global, response: &Response, manner: &str) -> Result<Vec<u8>, 
         let (is_head, keeps) = (part == "head", after == "keep");
         let date = DateText::at(moment);
         write_response(response, is_head, keeps, &date, room, &mut output)?;
+        let mut sent = Segments::from_vec(b"before ".to_vec(alloc)?);
+        let room = b"what it held before".to_vec(alloc)?;
+        send_response(response, is_head, keeps, &date, room, &mut sent)?;
+        if sent.copied(alloc)?.as_slice() != output.as_slice() {
+            return Ok(b"before what is sent differs".to_vec(alloc)?);
+        }
     }
     Ok(output)
 }
