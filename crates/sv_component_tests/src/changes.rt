@@ -3,7 +3,7 @@
 use crate::runs::{Sees, add_seen};
 use std::alloc::Global;
 use sv_exchange::Exchange;
-use sv_message::{Body, Field, Response, Segments};
+use sv_message::{Body, Field, Response};
 use sv_rows::{Asks, Draft, Strays, cell, hold};
 use sv_text::NoMemory;
 use sv_wire::{DateText, write_response};
@@ -174,7 +174,10 @@ pub fn add_fields_and_body(alloc: Global, text: &mut Draft, response: &Response)
     add_fields(text, response.fields.as_slice());
     text.add(" | ");
     match &response.body {
-        Body::Whole(body) => add_body(text, body),
+        Body::Whole(body) => match body.copied(alloc) {
+            Ok(body) => add_body(text, body.as_slice()),
+            Err(_) => text.fail(),
+        },
         Body::Flushed { .. } => add_sent(alloc, text, response),
     }
 }
@@ -207,12 +210,9 @@ fn add_fields(text: &mut Draft, fields: &[Field]) {
 }
 
 /// Adds a body, or its length if it has more than 100 bytes.
-fn add_body(text: &mut Draft, body: &Segments) {
+fn add_body(text: &mut Draft, body: &[u8]) {
     if body.len() <= 100 {
-        let (first, shared, last) = body.slices();
-        text.add_bytes(first);
-        text.add_bytes(shared);
-        text.add_bytes(last);
+        text.add_bytes(body);
     } else {
         text.add_shown(&body.len());
         text.add(" bytes");

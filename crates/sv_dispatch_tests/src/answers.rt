@@ -7,7 +7,7 @@ use std::alloc::Global;
 use sv_dispatch::{dispatch, serve, show_error};
 use sv_exchange::{Exchange, KeptError};
 use sv_journal::Journal;
-use sv_message::{Body, Response, Segments};
+use sv_message::{Body, Response};
 use sv_rows::Draft;
 use sv_session::Sessions;
 use sv_text::NoMemory;
@@ -289,7 +289,10 @@ fn add_response(alloc: Global, told: &mut Draft, response: &Response) {
     }
     told.add(" | ");
     match &response.body {
-        Body::Whole(body) => add_body(told, body),
+        Body::Whole(body) => match body.copied(alloc) {
+            Ok(body) => add_body(told, body.as_slice()),
+            Err(_) => told.fail(),
+        },
         Body::Flushed { .. } => add_sent(alloc, told, response),
     }
 }
@@ -310,12 +313,9 @@ fn add_sent(alloc: Global, told: &mut Draft, response: &Response) {
 }
 
 /// Adds a body, or its length if it has more than 200 bytes.
-fn add_body(told: &mut Draft, body: &Segments) {
+fn add_body(told: &mut Draft, body: &[u8]) {
     if body.len() <= 200 {
-        let (first, shared, last) = body.slices();
-        told.add_bytes(first);
-        told.add_bytes(shared);
-        told.add_bytes(last);
+        told.add_bytes(body);
     } else {
         told.add_shown(&body.len());
         told.add(" bytes");
