@@ -79,17 +79,30 @@ fn stepped(
 
 /// Adds each run of equal bytes: the byte, with the length before it if there are several.
 fn add_runs(bytes: &[u8], told: &mut Draft) {
-    let mut rest = bytes;
-    while let Some(first) = rest.first() {
-        let run = rest.iter().take_while(|byte| *byte == first).count();
-        told.add(" ");
-        if run > 1 {
-            told.add_shown(&run);
-            told.add("*");
+    let mut last = None;
+    let mut count = 0u64;
+    for byte in bytes {
+        if last != Some(*byte) {
+            add_run(last, count, told);
+            count = 0;
         }
-        told.add_bytes(&[*first]);
-        rest = rest.split_at(run.max(1)).1;
+        last = Some(*byte);
+        count = count.saturating_add(1);
     }
+    add_run(last, count, told);
+}
+
+/// Adds a run of a byte, if there is one.
+fn add_run(byte: Option<u8>, count: u64, told: &mut Draft) {
+    let Some(byte) = byte else {
+        return;
+    };
+    told.add(" ");
+    if count > 1 {
+        told.add_shown(&count);
+        told.add("*");
+    }
+    told.add_bytes(&[byte]);
 }
 
 #[test]
