@@ -54,7 +54,7 @@ abbrev pub SaysClasses : ValueInFile → List ℕ → Option Detail → Type 0
 SaysClasses place known given =
     (shown : List ℕ) × IsPlaceText place.file place.text place.steps shown × Says (shown ++ (codes ": the program has " ++ known)) given
 
--- the second line of a fault; standard streams, memory, findings and counted faults have none
+-- the second line of a fault; only that of memory has none
 abbrev pub IsFaultDetail : CommandFault → Option Detail → Type 0
 IsFaultDetail (fault.File name why) given = Says (name ++ codes ": " ++ reason_text why) given
 IsFaultDetail (fault.Server faulty) given = HasLine faulty given
@@ -67,8 +67,8 @@ IsFaultDetail (fault.Socket found) given = Says (socket_reason found) given
 IsFaultDetail (fault.Script line) given = Says (codes "the line is malformed, or the container refuses what it requests") given
 IsFaultDetail (fault.User shown) given = Says (codes "the context has no user " ++ shown) given
 IsFaultDetail (fault.Method shown) given = Says (codes "the method is not a token: " ++ shown) given
-IsFaultDetail fault.Input given = given ≡ None
-IsFaultDetail fault.Output given = given ≡ None
+IsFaultDetail fault.Input given = Says (codes "standard input cannot be read") given
+IsFaultDetail fault.Output given = Says (codes "standard output cannot be written, and may be incomplete") given
 IsFaultDetail fault.NoMemory given = given ≡ None
-IsFaultDetail (fault.Findings count) given = given ≡ None
-IsFaultDetail (fault.Faults count) given = given ≡ None
+IsFaultDetail (fault.Findings count) given = Says (codes "the report has findings of kinds that --fail-on names, and --accept accepts none of these") given
+IsFaultDetail (fault.Faults count) given = Says (codes "the report shows the first fault of each file") given

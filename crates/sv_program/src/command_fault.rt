@@ -114,8 +114,8 @@ impl CommandFault {
 }
 
 impl CommandFault {
-    /// Returns the second line on standard error, which says why the first one is printed. Faults of standard streams
-    /// and of memory have none, nor have findings and counted faults: the report shows them.
+    /// Returns the second line on standard error, which says why the first one is printed. Only [`CommandFault::NoMemory`]
+    /// has none.
     pub fn detail(&self) -> Option<Detail<'_>>
         ensures { IsFaultDetail self.now result }
     {
@@ -133,14 +133,27 @@ impl CommandFault {
             CommandFault::Script { .. } => Some(Detail::Sentence(SCRIPT_REASON)),
             CommandFault::User(shown) => Some(Detail::User(shown.as_str())),
             CommandFault::Method(shown) => Some(Detail::Method(shown.as_str())),
-            CommandFault::Input => None,
-            CommandFault::Output => None,
+            CommandFault::Input => Some(Detail::Sentence(INPUT_REASON)),
+            CommandFault::Output => Some(Detail::Sentence(OUTPUT_REASON)),
             CommandFault::NoMemory => None,
-            CommandFault::Findings(_) => None,
-            CommandFault::Faults(_) => None,
+            CommandFault::Findings(_) => Some(Detail::Sentence(FINDINGS_REASON)),
+            CommandFault::Faults(_) => Some(Detail::Sentence(FAULTS_REASON)),
         }
     }
 }
+
+/// Why a command ends without its input.
+const INPUT_REASON: &str = "standard input cannot be read";
+
+/// Why a command ends before its output is complete.
+const OUTPUT_REASON: &str = "standard output cannot be written, and may be incomplete";
+
+/// Why a command fails after a report with findings.
+const FINDINGS_REASON: &str =
+    "the report has findings of kinds that --fail-on names, and --accept accepts none of these";
+
+/// Why a command fails after a report with faults.
+const FAULTS_REASON: &str = "the report shows the first fault of each file";
 
 /// Why a script ends at a line.
 const SCRIPT_REASON: &str = "the line is malformed, or the container refuses what it requests";
