@@ -78,7 +78,7 @@ module _ (constraints : List Constraint) (pattern : List ℕ) where
       (λ method. ap opened_by (covering_focused pattern method constraints) ∙ by_focused (filter (λ c. covers c pattern method) constraints))
       (ap opened_by (others_focused pattern constraints) ∙ by_focused (filter (λ c. covers_unnamed c pattern) constraints)) (named_focused pattern constraints)
 
--- ---- Without a constraint that lets everyone in, nothing is opened.
+-- ---- Without a constraint that lets everyone in, or without one that restricts, nothing is opened.
 none_at : (test : Constraint → Bool) (b : Bool) (c : Constraint) (members : List Constraint) → test c ≡ false → filter test members ≡ [] → filter test (cond b (c ∷ members) members) ≡ []
 none_at test true c members is below = ap (λ b. cond b (c ∷ filter test members) (filter test members)) is ∙ below
 none_at test false c members is below = below
@@ -92,16 +92,16 @@ no_pair : (barred : Bool) (other : Option ℕ) → cond barred None (pair_of Non
 no_pair true other = refl
 no_pair false other = refl
 
+no_other : (barred : Bool) (number : Option ℕ) → cond barred None (pair_of number None) ≡ None
+no_other true number = refl
+no_other false None = refl
+no_other false (Some number) = refl
+
 fold_none : (names : List (List ℕ)) → fold (λ least (m : List ℕ). lesser_pair least None) None names ≡ None
 fold_none [] = refl
 fold_none (name ∷ names) = fold_none names
 
-module _ (members : List Constraint) (pattern : List ℕ) (none : list_any is_open members ≡ false) where
-  by_none : (keep : Constraint → Bool) → opened_by (filter keep members) ≡ None
-  by_none keep =
-      ap (λ open_ones. cond (is_some (least_where precludes (filter keep members)) || not (list_any permits_plain (filter keep members))) None (pair_of (least_number open_ones) (least_where is_restricted (filter keep members)))) (none_kept is_open keep members none)
-      ∙ no_pair (is_some (least_where precludes (filter keep members)) || not (list_any permits_plain (filter keep members))) (least_where is_restricted (filter keep members))
-
+module _ (members : List Constraint) (pattern : List ℕ) (by_none : (keep : Constraint → Bool) → opened_by (filter keep members) ≡ None) where
   no_pair_on : opened_pair members pattern ≡ None
   unfolding opened_pair
   no_pair_on =
@@ -112,8 +112,28 @@ module _ (members : List Constraint) (pattern : List ℕ) (none : list_any is_op
   none_opened : opened_on members pattern ≡ []
   none_opened = ap (λ pairs. map (λ (pair : ℕ × ℕ). finding.Opened pattern (opened_methods members pattern) pair.0 pair.1) (option_to_list pairs)) no_pair_on
 
-  pub nothing_pushed : (findings : List Finding) → findings ≡ findings ++ opened_on members pattern
-  nothing_pushed findings = sym (append-nil findings) ∙ ap (λ more. findings ++ more) (sym none_opened)
+  none_pushed : (findings : List Finding) → findings ≡ findings ++ opened_on members pattern
+  none_pushed findings = sym (append-nil findings) ∙ ap (λ more. findings ++ more) (sym none_opened)
+
+module _ (members : List Constraint) where
+  abbrev is_barred : (Constraint → Bool) → Bool
+  is_barred keep = is_some (least_where precludes (filter keep members)) || not (list_any permits_plain (filter keep members))
+
+  without_open : list_any is_open members ≡ false → (keep : Constraint → Bool) → opened_by (filter keep members) ≡ None
+  without_open none keep =
+      ap (λ open_ones. cond (is_barred keep) None (pair_of (least_number open_ones) (least_where is_restricted (filter keep members)))) (none_kept is_open keep members none)
+      ∙ no_pair (is_barred keep) (least_where is_restricted (filter keep members))
+
+  without_restricted : list_any is_restricted members ≡ false → (keep : Constraint → Bool) → opened_by (filter keep members) ≡ None
+  without_restricted none keep =
+      ap (λ restricted. cond (is_barred keep) None (pair_of (least_where is_open (filter keep members)) (least_number restricted))) (none_kept is_restricted keep members none)
+      ∙ no_other (is_barred keep) (least_where is_open (filter keep members))
+
+  pub nothing_pushed : (pattern : List ℕ) → list_any is_open members ≡ false → (findings : List Finding) → findings ≡ findings ++ opened_on members pattern
+  nothing_pushed pattern none = none_pushed members pattern (without_open none)
+
+  pub nothing_unrestricted : (pattern : List ℕ) → list_any is_restricted members ≡ false → (findings : List Finding) → findings ≡ findings ++ opened_on members pattern
+  nothing_unrestricted pattern none = none_pushed members pattern (without_restricted none)
 
 -- ---- The opened methods from the methods that differ from those that are not named.
 differ_true : (a : Bool) → differ a true ≡ not a

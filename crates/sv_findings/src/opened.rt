@@ -82,6 +82,9 @@ fn push_opened_by(
     if !is_any_open(members) {
         return Ok(());
     }
+    if !is_any_restricted(members) {
+        return Ok(());
+    }
     let copies = focused(alloc, pattern, members)?;
     let borrowed: Vec<&Constraint> = copies.iter().collect(alloc)?;
     push_opened_on(findings, alloc, rules, pattern, borrowed.as_slice())
@@ -94,6 +97,15 @@ fn is_any_open(members: &[&Constraint]) -> bool
     members
         .iter()
         .any(|member| matches!(member.auth, Auth::Absent))
+}
+
+/// Returns whether one of the constraints has an authorization constraint.
+fn is_any_restricted(members: &[&Constraint]) -> bool
+    ensures { result ≡ list_any (λ member. spec.is_restricted member.now) members.now }
+{
+    members
+        .iter()
+        .any(|member| matches!(member.auth, Auth::Roles(_)))
 }
 
 /// Appends a pattern with its opened methods and the least numbers of two such constraints, if there are any.
