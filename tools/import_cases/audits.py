@@ -178,7 +178,7 @@ def shows_caller(came: Ended) -> bool:
     return came.status == 0 and rows[:3:2] + rows[4:5] == [
         f"context /shop ({NAME})",
         '"" all yes 1, line 3',
-        "/ all no (nobody (no role is allowed)) 2, line 7",
+        "/ all no (no role is allowed) 2, line 7",
     ]
 
 

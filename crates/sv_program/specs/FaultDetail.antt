@@ -70,5 +70,5 @@ IsFaultDetail (fault.Method shown) given = Says (codes "the method is not a toke
 IsFaultDetail fault.Input given = Says (codes "standard input cannot be read") given
 IsFaultDetail fault.Output given = Says (codes "standard output cannot be written, and may be incomplete") given
 IsFaultDetail fault.NoMemory given = given ≡ None
-IsFaultDetail (fault.Findings count) given = Says (codes "the report has findings of kinds that --fail-on names, and --accept accepts none of these") given
-IsFaultDetail (fault.Faults count) given = Says (codes "the report shows the first fault of each file") given
+IsFaultDetail (fault.Findings count) given = Says (codes "the report shows them; --fail-on names their kinds") given
+IsFaultDetail (fault.Faults count) given = Says (codes "the report shows them") given

@@ -149,11 +149,10 @@ const INPUT_REASON: &str = "standard input cannot be read";
 const OUTPUT_REASON: &str = "standard output cannot be written, and may be incomplete";
 
 /// Why a command fails after a report with findings.
-const FINDINGS_REASON: &str =
-    "the report has findings of kinds that --fail-on names, and --accept accepts none of these";
+const FINDINGS_REASON: &str = "the report shows them; --fail-on names their kinds";
 
 /// Why a command fails after a report with faults.
-const FAULTS_REASON: &str = "the report shows the first fault of each file";
+const FAULTS_REASON: &str = "the report shows them";
 
 /// Why a script ends at a line.
 const SCRIPT_REASON: &str = "the line is malformed, or the container refuses what it requests";

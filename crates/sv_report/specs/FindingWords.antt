@@ -52,7 +52,7 @@ abbrev pub unserved_text : List ℕ → List ℕ
 unserved_text pattern = joined (codes "nothing answers at " ∷ pattern_text (Some pattern) ∷ [])
 
 abbrev pub login_text : List ℕ → List ℕ
-login_text path = joined (codes "the login page needs " ∷ escaped path ∷ codes ", which needs a login itself" ∷ [])
+login_text path = joined (codes "the login page needs " ∷ escaped path ∷ codes ", which not everyone may GET" ∷ [])
 
 abbrev pub unknown_role_text : ℕ → List ℕ → List ℕ
 unknown_role_text number role = joined (codes "constraint " ∷ number_text number ∷ codes " names the undeclared role " ∷ escaped role ∷ [])

@@ -6,7 +6,7 @@ use Rattle.sv_audit.specs.declared.access.Access.{Access}
 use Rattle.sv_audit.specs.declared.access.Access.TheVariants.{AnyLogin, Roles}
 use Rattle.sv_report.specs.Escaped.{escaped}
 use Rattle.sv_report.specs.Parts.{joined}
-use Rattle.sv_report.specs.Words.{who_text}
+use Rattle.sv_report.specs.Words.{refusal_text, who_text}
 use Rattle.sv_report.specs.declared.report.Viewer.{Viewer}
 
 -- The viewer as a caller, who is logged in.
@@ -32,13 +32,14 @@ abbrev pub viewer_title : Option Viewer → List ℕ
 viewer_title None = codes "who may enter"
 viewer_title (Some viewer) = escaped viewer.name
 
-abbrev pub answer_text : Bool → List ℕ → List ℕ
-answer_text enters who = if enters then codes "yes" else joined (codes "no (" ∷ who ∷ codes ")" ∷ [])
+-- Whether a viewer enters and, if not, why.
+abbrev pub answer_text : Bool → Bool → Access → List ℕ
+answer_text enters has_login access = if enters then codes "yes" else joined (codes "no (" ∷ refusal_text has_login access ∷ codes ")" ∷ [])
 
 -- The callers that may enter or, with a viewer, whether the viewer may.
 abbrev pub entry_text : Option Viewer → Bool → Access → List ℕ
 entry_text None has_login access = who_text has_login access
-entry_text (Some viewer) has_login access = answer_text (may_enter viewer has_login access) (who_text has_login access)
+entry_text (Some viewer) has_login access = answer_text (may_enter viewer has_login access) has_login access
 
 -- The callers that reach the protected folders.
 abbrev pub hidden_text : Option Viewer → List ℕ

@@ -40,3 +40,19 @@ who_text has_login Everyone = codes "everyone"
 who_text has_login AnyLogin = logged_in has_login (codes "any login")
 who_text has_login (Roles []) = codes "nobody (no such role)"
 who_text has_login (Roles (name ∷ names)) = logged_in has_login (codes "role " ++ names_text (name ∷ names))
+
+-- Callers who log in, or why nobody does.
+abbrev pub or_no_login : Bool → List ℕ → List ℕ
+or_no_login has_login text = if has_login then text else codes "no login"
+
+-- Whom an access lets in, or why it lets nobody in, for a caller who does not enter.
+abbrev pub refusal_text : Bool → Access → List ℕ
+refusal_text has_login UncoveredDenied = codes "uncovered, denied"
+refusal_text has_login Precluded = codes "no role is allowed"
+refusal_text has_login AnyLogin = or_no_login has_login (codes "any login")
+refusal_text has_login (Roles []) = codes "no such role"
+refusal_text has_login (Roles (name ∷ names)) = or_no_login has_login (codes "role " ++ names_text (name ∷ names))
+refusal_text has_login Unconstrained = who_text has_login Unconstrained
+refusal_text has_login Uncovered = who_text has_login Uncovered
+refusal_text has_login NeedsTls = who_text has_login NeedsTls
+refusal_text has_login Everyone = who_text has_login Everyone

@@ -192,7 +192,7 @@ fn login_text(alloc: Global, path: &str) -> Result<Text, NoMemory>
         &[
             "the login page needs ",
             path.as_str(),
-            ", which needs a login itself",
+            ", which not everyone may GET",
         ],
     )
 }

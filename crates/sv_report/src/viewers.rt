@@ -9,7 +9,7 @@ ghost use Rattle.sv_report.specs.Viewers as spec;
 use crate::escaped::escaped;
 use crate::parts::joined;
 use crate::report::Viewer;
-use crate::words::who_text;
+use crate::words::{refusal_text, who_text};
 use std::alloc::Global;
 use sv_audit::Access;
 use sv_constraints::lists;
@@ -57,21 +57,29 @@ pub fn entry_text(
 ) -> Result<Text, NoMemory>
     ensures { GivesAnswer result (spec.entry_text viewer.now has_login access.now) }
 {
-    let who = who_text(alloc, has_login, access)?;
     match viewer {
-        None => Ok(who),
-        Some(viewer) => answer_text(alloc, may_enter(viewer, has_login, access), who.as_str()),
+        None => who_text(alloc, has_login, access),
+        Some(viewer) => {
+            let enters = may_enter(viewer, has_login, access);
+            answer_text(alloc, enters, has_login, access)
+        }
     }
 }
 
-fn answer_text(alloc: Global, enters: bool, who: &str) -> Result<Text, NoMemory>
-    ensures { GivesAnswer result (spec.answer_text enters who.now) }
+/// Returns whether a viewer enters and, if not, why.
+fn answer_text(
+    alloc: Global,
+    enters: bool,
+    has_login: bool,
+    access: &Access,
+) -> Result<Text, NoMemory>
+    ensures { GivesAnswer result (spec.answer_text enters has_login access.now) }
 {
     if enters {
-        Text::copy_of(alloc, "yes")
-    } else {
-        joined(alloc, &["no (", who, ")"])
+        return Text::copy_of(alloc, "yes");
     }
+    let why = refusal_text(alloc, has_login, access)?;
+    joined(alloc, &["no (", why.as_str(), ")"])
 }
 
 /// Returns the text of the callers that reach the protected folders.

@@ -111,6 +111,43 @@ fn roles_text(alloc: Global, has_login: bool, roles: &[Text]) -> Result<Text, No
     Text::copy_of(alloc, logged_in(has_login, names.as_str()))
 }
 
+/// Returns whom an access lets in, or why it lets nobody in, for a caller who does not enter.
+pub(crate) fn refusal_text(
+    alloc: Global,
+    has_login: bool,
+    access: &Access,
+) -> Result<Text, NoMemory>
+    ensures { GivesAnswer result (spec.refusal_text has_login access.now) }
+{
+    match access {
+        Access::UncoveredDenied => Text::copy_of(alloc, "uncovered, denied"),
+        Access::Precluded => Text::copy_of(alloc, "no role is allowed"),
+        Access::AnyLogin => Text::copy_of(alloc, or_no_login(has_login, "any login")),
+        Access::Roles(roles) => refused_roles_text(alloc, has_login, roles.as_slice()),
+        Access::Unconstrained => who_text(alloc, has_login, access),
+        Access::Uncovered => who_text(alloc, has_login, access),
+        Access::NeedsTls => who_text(alloc, has_login, access),
+        Access::Everyone => who_text(alloc, has_login, access),
+    }
+}
+
+/// Returns the text of callers who log in, or why nobody does.
+fn or_no_login<'a>(has_login: bool, text: &'a str) -> &'a str
+    ensures { result.now ≡ spec.or_no_login has_login text.now }
+{
+    if has_login { text } else { "no login" }
+}
+
+fn refused_roles_text(alloc: Global, has_login: bool, roles: &[Text]) -> Result<Text, NoMemory>
+    ensures { GivesAnswer result (spec.refusal_text has_login (Access.Roles roles.now)) }
+{
+    if roles.is_empty() {
+        return Text::copy_of(alloc, "no such role");
+    }
+    let names = named_roles(alloc, roles)?;
+    Text::copy_of(alloc, or_no_login(has_login, names.as_str()))
+}
+
 fn named_roles(alloc: Global, roles: &[Text]) -> Result<Text, NoMemory>
     ensures { GivesAnswer result (codes "role " ++ spec.names_text roles.now) }
 {
