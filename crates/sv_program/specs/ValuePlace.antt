@@ -1,6 +1,6 @@
 -- The place at which a value of a file begins: the last one at which both truth values, written there with brackets that
 -- close what is then open, are the value.
-use Rattle.std.specs.Prelude.{◌≡◌, ℕ, ◌-◌, ◌<◌, ◌≤◌, ◌/◌, ◌+◌, Bool, true, false, not, ◌&&◌, ◌||◌, ◌==◌, List, [], ◌∷◌, ◌++◌, length, take, drop, slice_index_or, Option, Some, None}
+use Rattle.std.specs.Prelude.{◌≡◌, ℕ, ◌-◌, ◌<◌, ◌≤◌, ◌/◌, ◌+◌, Bool, true, false, not, ◌&&◌, ◌||◌, ◌==◌, List, [], ◌∷◌, ◌++◌, length, take, drop, slice_index_or, Option, Some, None, if◌then◌else◌}
 use Rattle.std.specs.Option.{option_and_then}
 use Rattle.std.specs.Str.{byte}
 use Rattle.toml.specs.Data.{Data, boolean}
@@ -80,8 +80,21 @@ abbrev pub IsByteWithin : List ℕ → List ValueStep → Region → Option ℕ 
 IsByteWithin text steps region None = IsTried text region → BeginsNowhere text steps region.start region.end
 IsByteWithin text steps region (Some at) = IsLastBeginning text steps region.start region.end (Some at)
 
+-- the place of the header of a table that begins these lines (TOML 1.0), or else their first line
+abbrev pub header_spot : List ℕ → Region → Spot
+header_spot text region = if slice_index_or text region.start 0 == byte "[" then Byte region.start else Line region.line
+
+-- the place of a value on these lines, if it begins at this place within them
+abbrev pub spot_on : List ℕ → Region → Option ℕ → Spot
+spot_on text region None = header_spot text region
+spot_on text region (Some at) = Byte at
+
+-- the place of a value that begins on these lines
+abbrev pub IsSpotOn : List ℕ → List ValueStep → Region → Spot → Type 0
+IsSpotOn text steps region spot = (within : Option ℕ) × IsByteWithin text steps region within × (spot ≡ spot_on text region within)
+
 -- the place of the value after these steps, as far as it is known
 abbrev pub IsSpot : List ℕ → List ValueStep → Spot → Type 0
 IsSpot text steps Nowhere = IsRegion text steps None
-IsSpot text steps (Line line) = (region : Region) × IsRegion text steps (Some region) × IsByteWithin text steps region None × (line ≡ region.line)
-IsSpot text steps (Byte at) = (region : Region) × IsRegion text steps (Some region) × IsByteWithin text steps region (Some at)
+IsSpot text steps (Line line) = (region : Region) × IsRegion text steps (Some region) × IsSpotOn text steps region (Line line)
+IsSpot text steps (Byte at) = (region : Region) × IsRegion text steps (Some region) × IsSpotOn text steps region (Byte at)

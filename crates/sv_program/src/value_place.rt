@@ -2,7 +2,7 @@
 //!
 //! The TOML reader gives no places. So both truth values are written into the text, one after the other, at each place of
 //! the lines on which the value begins, from the last place on, with brackets that close what is then open. The value
-//! begins at the first place at which the reader finds them as the value.
+//! begins at the first place at which the reader finds them as the value. A table with a header begins at that.
 
 ghost use Rattle.std.specs.Prelude.{◌≡◌, ◌++◌, ◌<◌, ◌≤◌, IfOk, OnOk, Some, length, option_map, string_bytes, take};
 ghost use Rattle.std.specs.Bool.{Decides};
@@ -39,7 +39,18 @@ pub(crate) fn spot_of(alloc: Global, text: &[u8], steps: &[ValueStep]) -> Result
     };
     match byte_within(alloc, text, steps, region)? {
         Some(at) => Ok(Spot::Byte(at)),
-        None => Ok(Spot::Line(region.line)),
+        None => Ok(header_spot(text, region)),
+    }
+}
+
+/// Returns the place of the header of a table that begins these lines, or else their first line.
+fn header_spot(text: &[u8], region: Region) -> Spot
+    ensures { result ≡ spec.header_spot text.now region }
+{
+    if text.get(region.start).copied() == Some(b'[') {
+        Spot::Byte(region.start)
+    } else {
+        Spot::Line(region.line)
     }
 }
 
