@@ -17,7 +17,7 @@ FAULTS = {
     "UnknownKey": b":LINE: the key `KEY` is not known here",
     "MissingKey": b":LINE: the key `KEY` is missing",
     "WrongType": b":LINE: the value of `KEY` is not TAKES",
-    "BadPattern": b":LINE: no URL pattern stands at `KEY`",
+    "BadPattern": b":LINE: the value of `KEY` is not a URL pattern",
     "DuplicatePattern": b":LINE: a pattern at `KEY` was mapped before",
     "UnknownServlet": b":LINE: no servlet is declared by the name at `KEY`",
     "UnknownFilter": b":LINE: no filter is declared by the name at `KEY`",
