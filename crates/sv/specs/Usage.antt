@@ -20,10 +20,18 @@ abbrev pub hint : Option (List ℕ) → List ℕ → List ℕ
 hint (Some name) listing = codes "did you mean \"" ++ name ++ codes "\"?"
 hint None listing = listing
 
-abbrev pub unknown_command : List ℕ → List ℕ
-unknown_command word =
+-- the line about a word that is none of the known ones
+abbrev pub unknown_word : List (List ℕ) → List ℕ → List ℕ
+unknown_word known word =
     codes "  there is no command " ++ quoted word ++ codes "; "
-    ++ hint (near topic_names word) (codes "\"sv help\" lists the commands")
+    ++ hint (near known word) (codes "\"sv help\" lists the commands")
+
+abbrev pub unknown_command : List ℕ → List ℕ
+unknown_command word = unknown_word topic_names word
+
+-- the line about a word after `help`, which also knows `config`
+abbrev pub unknown_topic : List ℕ → List ℕ
+unknown_topic word = unknown_word (topic_names ++ codes "config" ∷ []) word
 
 -- the command with these options
 abbrev pub set_topic : OptionSet → Topic
@@ -66,7 +74,7 @@ is_help_word word = bytes_eq word (codes "--format") || bytes_eq word (codes "co
 
 -- the line about a word after `help`: it is no name of a command, or other words are wrong
 abbrev pub about_line : Option Topic → List ℕ → List ℕ
-about_line None word = if is_help_word word then usage_line Help else unknown_command word
+about_line None word = if is_help_word word then usage_line Help else unknown_topic word
 about_line (Some topic) word = usage_line Help
 
 abbrev pub IsHelpLine : List (List ℕ) → List ℕ → Type 0

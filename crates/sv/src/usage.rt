@@ -119,7 +119,7 @@ fn other_word_line(alloc: Global, word: &str) -> Result<Text, NoMemory>
     if is_help_word(word) {
         usage_line(alloc, Topic::Help)
     } else {
-        unknown_command(alloc, word)
+        unknown_topic(alloc, word)
     }
 }
 
@@ -140,17 +140,26 @@ fn usage_line(alloc: Global, topic: Topic) -> Result<Text, NoMemory>
 fn unknown_command(alloc: Global, word: &str) -> Result<Text, NoMemory>
     ensures { GivesAnswer result (spec.unknown_command word.now) }
 {
-    let name = near_command(alloc, word)?;
+    let names = command_names(alloc)?;
+    unknown_word(alloc, names.as_slice(), word)
+}
+
+/// Returns the line about a word after `help` that it does not know.
+fn unknown_topic(alloc: Global, word: &str) -> Result<Text, NoMemory>
+    ensures { GivesAnswer result (spec.unknown_topic word.now) }
+{
+    let mut names = command_names(alloc)?;
+    names.push("config")?;
+    unknown_word(alloc, names.as_slice(), word)
+}
+
+fn unknown_word(alloc: Global, known: &[&str], word: &str) -> Result<Text, NoMemory>
+    ensures { GivesAnswer result (spec.unknown_word (map (λ name. name.now) known.now) word.now) }
+{
+    let name = nearest(alloc, known, word)?;
     let hint = hint(alloc, name, "\"sv help\" lists the commands")?;
     let word = quoted(alloc, word)?;
     Ok(Text::from_string(format!(in alloc; "  there is no command {word}; {hint}")?))
-}
-
-fn near_command(alloc: Global, word: &str) -> Result<Option<&'static str>, NoMemory>
-    ensures { IfOk result (λ found. option_copied found ≡ near topic_names word.now) }
-{
-    let names = command_names(alloc)?;
-    nearest(alloc, names.as_slice(), word)
 }
 
 fn command_names(alloc: Global) -> Result<Vec<&'static str>, NoMemory>
