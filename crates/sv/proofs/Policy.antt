@@ -7,7 +7,7 @@ use Rattle.sv_policy.specs.declared.explain_fault.ExplainFault.{ExplainFault}
 use Rattle.sv_policy.specs.declared.explain_fault.ExplainFault.TheVariants as explain
 use Rattle.sv_program.specs.CommandFault.{command_fault}
 use Rattle.sv_program.specs.declared.command_fault.CommandFault.{CommandFault}
-use Rattle.sv.specs.declared.question.Question.{Question}
+use Rattle.sv_arguments.specs.declared.question.Question.{Question}
 use Rattle.sv.specs.Policy.{Ends, fault_of, line_of}
 
 abbrev pub Told : Question → explained.Answer → Option (List ℕ) → CommandFault → Type 0

@@ -16,12 +16,11 @@ use Rattle.sv_deployments.specs.Folders.{FolderGiving}
 use Rattle.sv_deployments.specs.declared.configuration.Configuration.{Configuration}
 use Rattle.sv_audit_command.specs.AuditCommand.{Audits, IsAudited, IsBeforeOutput}
 use Rattle.sv.specs.CheckCommand.{Checks, IsBeforeReport}
-use Rattle.sv.specs.Manual.{manual_text}
 use Rattle.sv.specs.Policy.{RunsPolicy}
 use Rattle.sv.specs.Printed.{Shows}
-use Rattle.sv.specs.Topics.{help_text}
-use Rattle.sv.specs.declared.command.Command.{Command}
-use Rattle.sv.specs.declared.command.Command.TheVariants.{First, Policy, Uncovered, Audit, Check, Replay, Serve, Run, SelfTest, Help, Manual, Version}
+use Rattle.sv.specs.Help.{help_text, manual_text}
+use Rattle.sv_arguments.specs.declared.command.Command.{Command}
+use Rattle.sv_arguments.specs.declared.command.Command.TheVariants.{First, Policy, Uncovered, Audit, Check, Replay, Serve, Run, SelfTest, Help, Manual, Version}
 use Rattle.sv.specs.declared.texts.TheConstants.{VERSION}
 
 -- a fault in reading a server's files and folders is the command's fault

@@ -1,16 +1,4 @@
-pub mod Options
-pub mod AuditOptions
-pub mod AuditWords
-pub mod RunOptions
-pub mod Given
 pub mod CheckCommand
-pub mod Command
-pub mod Laws
-pub mod Manual
-pub mod Question
-pub mod Service
-pub mod Settings
-pub mod Values
 pub mod Replies
 pub mod Execution
 pub mod Policy
@@ -20,7 +8,4 @@ pub mod Replay
 pub mod Serving
 pub mod ServerStart
 pub mod Site
-pub mod Near
-pub mod OptionFault
-pub mod Topics
-pub mod Usage
+pub mod Help

@@ -15,7 +15,7 @@ use Rattle.sv_policy.specs.Explanation as explained
 use Rattle.sv_policy.specs.Text.{explanation_text}
 use Rattle.sv_policy.specs.declared.explain_fault.ExplainFault.{ExplainFault}
 use Rattle.sv_policy.specs.declared.explain_fault.ExplainFault.TheVariants as explain
-use Rattle.sv.specs.declared.question.Question.{Question}
+use Rattle.sv_arguments.specs.declared.question.Question.{Question}
 use Rattle.sv_program.specs.CommandFault.{UnlessNoMemory}
 use Rattle.sv_program.specs.Configuration.{Step}
 use Rattle.sv_program.specs.FileStore.{Giving}

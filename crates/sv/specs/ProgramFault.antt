@@ -2,8 +2,8 @@
 use Rattle.std.specs.Prelude.{◌≡◌, ℕ, List, codes, Option, Some}
 use Rattle.std.specs.declared.io.ErrorKind.{ErrorKind}
 use Rattle.std.specs.declared.io.ErrorKind.TheVariants.{OutOfMemory}
-use Rattle.sv.specs.Command.{NameNothing}
-use Rattle.sv.specs.Usage.{IsUsageLine}
+use Rattle.sv_arguments.specs.Command.{NameNothing}
+use Rattle.sv_arguments.specs.Usage.{IsUsageLine}
 use Rattle.sv.specs.declared.program_fault.ProgramFault.{ProgramFault}
 use Rattle.sv.specs.declared.program_fault.ProgramFault.TheVariants.{Usage, Command}
 use Rattle.sv_program.specs.CommandFault.{fault_line, status_of}

@@ -2,7 +2,7 @@
 use Rattle.std.specs.Prelude.{ℕ, ◌*◌, Bool, true, false, Option, None, Some}
 use Rattle.std.specs.Option.{unwrap_or}
 use Rattle.sv_connection.specs.declared.limits.Limits.{Limits}
-use Rattle.sv.specs.declared.run_options.RunOptions.{RunOptions}
+use Rattle.sv_arguments.specs.declared.run_options.RunOptions.{RunOptions}
 use Rattle.sv_listening.specs.declared.seed.Seeding.{Seeding}
 use Rattle.sv_listening.specs.declared.seed.Seeding.TheVariants.{Configured, Fresh}
 

@@ -5,7 +5,6 @@ ghost use Rattle.std.specs.Prelude.{◌≡◌, IfErr};
 ghost use Rattle.sv.specs.Execution.{IsBefore, ReadsFiles, RunsCommand, ServesNothing};
 
 use crate::check_command::check;
-use crate::command::Command;
 use crate::help_command::{help, print_manual};
 use crate::policy_command::policy;
 use crate::replay_command::replay;
@@ -19,6 +18,7 @@ use std::net::Net;
 use std::random::RandomSource;
 use std::rt::Files;
 use std::time::Clock;
+use sv_arguments::Command;
 use sv_audit_command::audit;
 use sv_component::{Filter, Listener, Servlet};
 use sv_deployments::{FolderStore, ProgramFilter, ProgramListener, ProgramServlet};

@@ -1,16 +1,14 @@
 //! The command `help`: prints the usage of each command, or of one, and the manual in other forms.
 
 ghost use Rattle.std.specs.Prelude.{◌≡◌, ◌≢◌, IfErr};
-ghost use Rattle.sv.specs.Manual.{manual_text};
 ghost use Rattle.sv.specs.Printed.{Shows};
-ghost use Rattle.sv.specs.Topics.{help_text};
+ghost use Rattle.sv.specs.Help.{help_text, manual_text};
 ghost use Rattle.sv_program.specs.CommandFault.{UnlessNoMemory};
 ghost use Rattle.sv_text.specs.Gives.{GivesAnswer};
 
-use crate::manual::Manual;
-use crate::topic::Topic;
 use std::alloc::Global;
 use std::io::Write;
+use sv_arguments::{Manual, Topic};
 use sv_manual::{Form, command_page, commands_page, completion_page, config_page};
 use sv_program::{CommandFault, print_text};
 use sv_text::{NoMemory, Text};
@@ -31,7 +29,7 @@ pub fn help<W: Write>(
     print_text(writer, text.as_str())
 }
 
-#[tactic(auto, unfolding(crate::specs::Topics::help_text))]
+#[tactic(auto, unfolding(crate::specs::Help::help_text))]
 fn help_on(alloc: Global, topic: Option<Topic>) -> Result<Text, NoMemory>
     ensures { GivesAnswer result (help_text topic) }
 {
@@ -57,7 +55,7 @@ pub fn print_manual<W: Write>(
     print_text(writer, text.as_str())
 }
 
-#[tactic(auto, unfolding(crate::specs::Manual::manual_text))]
+#[tactic(auto, unfolding(crate::specs::Help::manual_text))]
 fn manual_page(alloc: Global, manual: Manual) -> Result<Text, NoMemory>
     ensures { GivesAnswer result (manual_text manual) }
 {

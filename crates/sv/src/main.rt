@@ -2,35 +2,20 @@
 #![tactic(auto)]
 
 mod asked_container;
-mod audit_options;
 mod check_command;
-mod command;
-mod count;
 mod execution;
 mod gaps;
-mod given;
 mod help_command;
-mod key;
-mod manual;
-mod near;
-mod option_fault;
-mod option_set;
 mod policy_command;
 mod program_fault;
-mod question;
 mod replay_command;
 mod run_command;
-mod run_options;
 mod self_test_command;
 mod serve_command;
 mod server_start;
-mod service;
 mod site;
 mod texts;
-mod topic;
-mod usage;
 
-use crate::command::Command;
 use execution::carry_out;
 use program_fault::ProgramFault;
 use std::net::Net;
@@ -39,6 +24,7 @@ use std::random::RandomSource;
 use std::rt::{Env, Files};
 use std::time::Clock;
 use std::{env, io};
+use sv_arguments::Command;
 use sv_program::{CommandFault, Disk, report_fault};
 
 fn main(rt: HostRuntime) -> ExitCode {

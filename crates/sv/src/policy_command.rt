@@ -11,9 +11,9 @@ ghost use Rattle.sv_text.specs.Gives.{GivesAnswer};
 ghost use Rattle.sv.specs.Policy as spec;
 ghost use Rattle.sv.specs.Printed.{Shows};
 
-use crate::question::Question;
 use std::alloc::Global;
 use std::io::Write;
+use sv_arguments::Question;
 use sv_component::{Filter, Listener, Servlet};
 use sv_container::{
     Container, ExplainFault, Explanation, containers_explain_what_was_deployed, start,

@@ -4,10 +4,10 @@ ghost use Rattle.std.specs.Prelude.{◌≡◌, Some, codes, map, string_bytes};
 ghost use Rattle.std.specs.IoError.{error_kind};
 ghost use Rattle.sv.specs.ProgramFault.{IsProgramDetail, IsUnread, IsUsage, IsUsageFault, program_fault_line, program_status};
 
-use crate::usage::usage_detail;
 use std::alloc::Global;
 use std::io::ErrorKind;
 use std::{fmt, io};
+use sv_arguments::usage_detail;
 use sv_program::{CommandFault, Detail};
 use sv_text::{NoMemory, Text};
 

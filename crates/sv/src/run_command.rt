@@ -5,7 +5,6 @@ ghost use Rattle.sv.specs.Serving.{BeginsWith};
 ghost use Rattle.sv.specs.Site as spec;
 
 use crate::asked_container::AskedContainer;
-use crate::run_options::RunOptions;
 use crate::server_start::{StartedServer, start_server};
 use crate::site::{limits_of, seeding_by};
 use std::alloc::Global;
@@ -14,6 +13,7 @@ use std::net::{IpAddr, Ipv4Addr, Net, SocketAddr};
 use std::random::RandomSource;
 use std::rt::Files;
 use std::time::Clock;
+use sv_arguments::RunOptions;
 use sv_component::{Filter, Listener, Servlet};
 use sv_deployments::{FolderStore, ProgramFilter, ProgramListener, ProgramServlet};
 use sv_listening::{ListenOptions, run_controlled, run_recorded};

@@ -4,7 +4,7 @@ ghost use Rattle.std.specs.Prelude.{◌≡◌};
 ghost use Rattle.std.specs.Option.{unwrap_or};
 ghost use Rattle.sv.specs.Site as spec;
 
-use crate::run_options::RunOptions;
+use sv_arguments::RunOptions;
 use sv_connection::Limits;
 use sv_listening::Seeding;
 

@@ -21,7 +21,7 @@ use Rattle.sv_audit_command.specs.declared.audit_report.Report.{Report}
 abbrev pub Auditing : Type 0 → Type 1
 Auditing S = Step Report → S → S → Type 0
 
--- The report on a server file with this text, if it is available, on what was found of its contexts, and from these
+-- The report on a server file with this text, if it is available, on the contexts found, and from these
 -- further files.
 abbrev pub report_for : AccessOptions → List ℕ → FileText → List FoundContext → FurtherFiles → Step Report
 report_for options config file found files = do

@@ -1,4 +1,4 @@
--- What is reported of a context (Jakarta Servlet 6.0, section 13.8).
+-- The report on a context (Jakarta Servlet 6.0, section 13.8).
 use Rattle.std.specs.Prelude.{ℕ, ◌+◌, List, [], ◌∷◌, map, position, Option, option_and_then, if◌then◌else◌}
 use Rattle.std.specs.List.{flat_map}
 use Rattle.std.specs.Str.{bytes_eq}
@@ -59,11 +59,11 @@ nested_paths paths path = flat_map (nested_of path) paths
 abbrev pub patterns_in : AuditedContext → ContextPatterns
 patterns_in context = context_patterns context.constraints context.mappings
 
--- What is reported of the rows, given the patterns of the context.
+-- The report on the rows, given the patterns of the context.
 abbrev pub rows_in : AuditedContext → ContextPatterns → List Row → List ReportedRow
 rows_in context patterns rows = reported_rows patterns (context.surroundings.contexts, context.surroundings.path) rows
 
--- What follows from the constraints of a context, given its patterns and its access table.
+-- The consequences of the constraints of a context, given its patterns and its access table.
 abbrev pub audit_with : Option Asked → List ℕ → AuditedContext → ContextPatterns → Table → Audit
 audit_with asked accepted context patterns table = record {
   viewer = viewer_in asked context.realm;

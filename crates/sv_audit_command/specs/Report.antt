@@ -91,7 +91,7 @@ fails kinds finding = not finding.is_accepted && lists_kind kinds (kind_name fin
 abbrev pub failing : List ℕ → List ContextReport → List ReportedFinding
 failing kinds reports = flat_map (λ report. filter (fails kinds) report.findings) reports
 
--- The number of such findings; none are asked for without kinds.
+-- The number of these findings; without kinds, none.
 abbrev pub failing_count : Option (List ℕ) → List ContextReport → ℕ
 failing_count None reports = 0
 failing_count (Some kinds) reports = length (failing kinds reports)
@@ -118,7 +118,7 @@ explanation_report options target contexts = do
 abbrev pub difference_in : AccessOptions → ServerDifference → Report
 difference_in options found = record { text = compared.written options.format found; count = opened_count (option_copied options.fail_on) found }
 
--- The report on what the contexts decide otherwise than those of the other server, whose file has this name.
+-- The report on the differences between the contexts and those of the other server, whose file has this name.
 abbrev pub difference_report : AccessOptions → List ℕ → OtherFiles → List AuditedContext → Step Report
 difference_report options name other contexts = do
   others ← other_server options.is_secure name other

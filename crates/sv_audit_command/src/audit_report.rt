@@ -96,7 +96,7 @@ fn access_report(
     }
 }
 
-/// Returns the report on what the contexts decide otherwise than those of the other server, whose file has this name.
+/// Returns the report on the differences between the contexts and those of the other server, whose file has this name.
 fn difference_report(
     alloc: Global,
     contexts: Listed<AuditedContext>,

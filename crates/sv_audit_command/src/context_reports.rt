@@ -1,4 +1,4 @@
-//! What is reported of contexts.
+//! Reports on contexts.
 
 ghost use Rattle.std.specs.Prelude.{◌≡◌, ◌++◌, ℕ, List, OnOk, map, position};
 ghost use Rattle.std.specs.Str.{bytes_eq};
@@ -24,7 +24,7 @@ use sv_policy::{Groups, grouped};
 use sv_report::{ContextReport, ReportedFinding, ReportedRow, Viewer, line_at, line_of};
 use sv_text::{Listed, NoMemory, Text};
 
-/// What is asked of contexts: the caller whose access is shown, and the text of the accepting file.
+/// The questions to contexts: the caller whose access is shown, and the text of the accepting file.
 #[derive(Clone, Copy)]
 pub(crate) struct Asking<'a> {
     /// The caller, if one is asked for.
@@ -69,7 +69,7 @@ fn context_report(
     })
 }
 
-/// What follows from the constraints of a context.
+/// The consequences of the constraints of a context.
 #[derive(Drop)]
 struct Audit {
     viewer: Option<Viewer>,
@@ -99,7 +99,7 @@ fn patterns_in(alloc: Global, context: &AuditedContext) -> Result<ContextPattern
     context_patterns(alloc, constraints, context.mappings.as_slice())
 }
 
-/// Returns what follows from the constraints of a context, given its patterns and its access table.
+/// Returns the consequences of the constraints of a context, given its patterns and its access table.
 fn audit_with(
     alloc: Global,
     context: &AuditedContext,
@@ -206,7 +206,7 @@ fn reported_findings(
     Ok(Listed::from_vec(reported))
 }
 
-/// Returns what is reported of a finding, given the constraints by pattern, their patterns, and the lines of the
+/// Returns the report on a finding, given the constraints by pattern, their patterns, and the lines of the
 /// accepting file.
 fn reported_finding(
     alloc: Global,

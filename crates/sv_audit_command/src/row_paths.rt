@@ -1,4 +1,4 @@
-//! What is reported with the rows of an access table: an example, the servlet that answers it, what answers the other
+//! The additions of a report to the rows of an access table: an example, the servlet that answers it, what answers the other
 //! paths of the row, and the patterns that are chosen before that of the row.
 
 ghost use Rattle.std.specs.Prelude.{◌≡◌, ◌++◌, OnOk, map};
@@ -22,7 +22,7 @@ pub(crate) const MAX_COMPARED_PATTERNS: usize = 2000;
 /// The greatest number of patterns that a row lists.
 pub(crate) const MAX_NARROWER: usize = 3;
 
-/// Returns the rows with what is reported of them, given the patterns of the context.
+/// Returns the rows with these additions, given the patterns of the context.
 pub(crate) fn reported_rows(
     alloc: Global,
     patterns: &ContextPatterns,

@@ -33,7 +33,7 @@ lines_in (Err why) = no_lines
 abbrev pub source_of : ContextTexts → Source
 source_of texts = record { path = texts.context.path; file = texts.context.descriptor; lines = lines_in texts.descriptor }
 
--- The descriptor, if it is to be kept.
+-- The descriptor, if it is kept.
 abbrev pub kept_descriptor : Bool → ContextTexts → Step (Option WebApp)
 kept_descriptor false texts = Ok None
 kept_descriptor true texts = do
@@ -50,7 +50,7 @@ context_parts options texts = do
   users ← users_in texts
   Ok (parts_of texts kept users)
 
--- What is used of the files of a context with this descriptor.
+-- The parts of the files of a context with this descriptor that an audit uses.
 abbrev pub its_files : FoundContext → WebApp → ContextFiles
 its_files found app = files_in found.texts.context.files found.files app.login
 

@@ -44,7 +44,7 @@ login_page_in files (Some pages) = option_and_then (page_at files) (path_in (can
 abbrev pub files_of : List File → Option FormLogin → ContextFiles
 files_of files login = record { paths = Some (paths_of files); login_page = login_page_in files login }
 
--- What is used of the files, if they are known.
+-- The parts of the files that an audit uses, if they are known.
 abbrev pub used_of : Option (List File) → Option FormLogin → ContextFiles
 used_of None login = record { paths = None; login_page = None }
 used_of (Some files) login = files_of files login

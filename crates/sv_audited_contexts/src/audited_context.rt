@@ -60,7 +60,7 @@ pub struct Source {
     pub lines: SourceLines,
 }
 
-/// Reads the contexts from what was found of them. Transport requirements are dropped if requests arrive over a
+/// Reads the contexts from the texts of their files. Transport requirements are dropped if requests arrive over a
 /// connection whose transport is guaranteed. Descriptors are kept if they are asked for.
 ///
 /// # Errors
@@ -118,7 +118,7 @@ fn audited_context(
     Ok(context_of(alloc, found, web_app, parts, paths, options.is_secure)?)
 }
 
-/// What is read of a context beside its constraints: the descriptor if it is kept, the users, and their roles.
+/// The parts of a context besides its constraints: the descriptor if it is kept, the users, and their roles.
 #[derive(Drop)]
 pub struct ContextParts {
     descriptor: Option<Descriptor>,
@@ -143,7 +143,7 @@ fn context_parts(
     })
 }
 
-/// Reads the descriptor, if it is to be kept. It is read a second time, since its constraints are taken out of the first
+/// Reads the descriptor, if it is kept. It is read a second time, since its constraints are taken out of the first
 /// one.
 fn kept_descriptor(
     alloc: Global,

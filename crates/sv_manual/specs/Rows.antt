@@ -26,10 +26,10 @@ option_fields text row = record { command = text row.0; word = text row.1; argum
 abbrev pub spaced : List ℕ → List ℕ
 spaced text = if bytes_eq text [] then [] else codes " " ++ text
 
--- what is made of an option, if it is one of this command
+-- the text made of an option, if it is one of this command
 abbrev pub option_text : (OptionFields → List ℕ) → List ℕ → OptionFields → List ℕ
 option_text shown name fields = if bytes_eq fields.command name then shown fields else []
 
--- what is made of each option of a command, in order
+-- the text made of each option of a command, in order
 abbrev pub options_of : (OptionFields → List ℕ) → List ℕ → List OptionFields → List ℕ
 options_of shown name options = flat_map (option_text shown name) options

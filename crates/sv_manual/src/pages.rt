@@ -100,10 +100,10 @@ A server file names the files of its contexts, relative to its own folder.
 Each table of a deployment descriptor except init\\-param may also have the keys description and display\\-name, which are ignored.
 ";
 
-/// What is before the values of a key in the help.
+/// The text before the values of a key in the help.
 pub const KEY_TAKES: &str = "\n        takes ";
 
-/// What is before the meaning of a key in the help.
+/// The text before the meaning of a key in the help.
 pub const KEY_MEANS: &str = "\n        ";
 
 /// The end of the manual page of the configuration files.

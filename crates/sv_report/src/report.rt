@@ -1,4 +1,4 @@
-//! What is reported of a context.
+//! The report on a context.
 
 use sv_audit::{Narrower, Row};
 use sv_findings::{Finding, Reach};

@@ -1,4 +1,4 @@
-use Rattle.sv.specs.Manual.{manual_text}
+use Rattle.sv.specs.Help.{manual_text}
 use Rattle.sv.proofs.help_command.manual_page.Goals as goal
 
 pub returns-in-Keys : goal.returns-in-Keys

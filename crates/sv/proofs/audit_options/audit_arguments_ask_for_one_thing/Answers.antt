@@ -1,5 +1,0 @@
-use Rattle.sv.proofs.One.{audits_one}
-use Rattle.sv.proofs.audit_options.audit_arguments_ask_for_one_thing.Goals as goal
-
-pub returns : goal.returns
-returns c = audits_one

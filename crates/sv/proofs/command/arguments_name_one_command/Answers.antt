@@ -1,5 +1,0 @@
-use Rattle.sv.proofs.OneTopic.{one_command}
-use Rattle.sv.proofs.command.arguments_name_one_command.Goals as goal
-
-pub returns : goal.returns
-returns c = one_command

@@ -1,7 +1,0 @@
-use Rattle.sv.proofs.Saying.{says_first}
-use Rattle.sv.proofs.given.Given.value.Goals as goal
-use Rattle.sv.specs.Settings.{values}
-
-pub returns : goal.returns
-returns c = λ settings are.
-    says_first (values c.args.key settings) c.value_in.result (are.1.1 c.args.key) (c.value_in.ensures settings are.0 are.1.0)

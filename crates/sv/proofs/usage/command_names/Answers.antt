@@ -1,8 +1,0 @@
-use Rattle.sv.proofs.usage.command_names.Goals as goal
-use Rattle.sv.specs.Topics.{topic_names}
-use Rattle.std.proofs.Common.{arith}
-use Rattle.std.proofs.lemmas.Grind.{common_steps}
-
-pub returns : goal.returns
-unfolding topic_names
-returns c = grind (arith, common_steps)

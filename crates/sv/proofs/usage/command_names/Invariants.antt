@@ -1,6 +1,0 @@
-use Rattle.std.proofs.Common.{◌≡◌, map, take}
-use Rattle.sv.proofs.usage.command_names.Given as goal
-use Rattle.sv.specs.Topics.{topic_name}
-
-abbrev pub invariant-loop-topic : goal.invariant-loop-topic
-invariant-loop-topic l = map (λ name. name.now) l.names.items ≡ map topic_name (take l.topic-index l.topic-items)

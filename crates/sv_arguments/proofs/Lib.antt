@@ -1,0 +1,19 @@
+pub mod Called
+pub mod Decoding
+pub mod Finding
+pub mod Going
+pub mod Joining
+pub mod Lines
+pub mod Naming
+pub mod Nearest
+pub mod Numbers
+pub mod One
+pub mod OneLine
+pub mod OneTopic
+pub mod Saying
+pub mod Setting
+pub mod Tables
+pub mod Walking
+pub mod Words
+pub mod Wrong
+mod ManualWords

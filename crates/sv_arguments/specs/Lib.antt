@@ -1,0 +1,16 @@
+pub mod Options
+pub mod AuditOptions
+pub mod AuditWords
+pub mod RunOptions
+pub mod Given
+pub mod Command
+pub mod Laws
+pub mod Manual
+pub mod Question
+pub mod Service
+pub mod Settings
+pub mod Values
+pub mod Near
+pub mod OptionFault
+pub mod Topics
+pub mod Usage

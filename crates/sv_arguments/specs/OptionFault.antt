@@ -1,0 +1,35 @@
+-- What is wrong with the arguments of a command that has options.
+use Rattle.std.specs.Prelude.{◌≡◌, ◌≢◌, ℕ, List, [], ◌∷◌, ◌++◌, true, Some}
+use Rattle.sv_arguments.specs.Options.{AreProper, IsValue}
+use Rattle.sv_arguments.specs.Settings.{Setting, IsKey, key_word, rival, set_of, takes_word, values, words_of}
+use Rattle.sv_arguments.specs.declared.key.Key.{Key}
+use Rattle.sv_arguments.specs.declared.option_fault.OptionFault.{OptionFault}
+use Rattle.sv_arguments.specs.declared.option_fault.OptionFault.TheVariants.{NoServer, Unknown, Twice, Excluded, NoValue, BadValue}
+use Rattle.sv_arguments.specs.declared.option_set.OptionSet.{OptionSet}
+
+-- the command has this option, and it may follow these settings
+abbrev pub IsFree : OptionSet → List Setting → Key → Type 0
+IsFree set settings key =
+    (set_of key ≡ set) × (values key settings ≡ []) × ((other : Key) → rival key ≡ Some other → values other settings ≡ [])
+
+-- the words after these settings begin with this fault
+abbrev pub IsWrong : OptionSet → List Setting → List (List ℕ) → OptionFault → Type 0
+IsWrong set settings words NoServer = ⊥
+IsWrong set settings words (Unknown word) =
+    (after : List (List ℕ)) × (words ≡ word.now ∷ after) × ((key : Key) → IsKey set word.now key → ⊥)
+IsWrong set settings words (Twice key) =
+    (after : List (List ℕ)) × (words ≡ key_word key ∷ after) × (set_of key ≡ set) × (values key settings ≢ [])
+IsWrong set settings words (Excluded key other) =
+    (after : List (List ℕ)) × (words ≡ key_word key ∷ after) × (set_of key ≡ set) × (values key settings ≡ [])
+    × (rival key ≡ Some other) × (values other settings ≢ [])
+IsWrong set settings words (NoValue key) = (words ≡ key_word key ∷ []) × IsFree set settings key × (takes_word key ≡ true)
+IsWrong set settings words (BadValue key value) =
+    (after : List (List ℕ)) × (words ≡ key_word key ∷ value.now ∷ after) × IsFree set settings key × (takes_word key ≡ true)
+    × (IsValue key value.now → ⊥)
+
+-- there is no server file, or the words after its name are those of proper settings, followed by words with this fault
+abbrev pub IsRefused : OptionSet → List (List ℕ) → OptionFault → Type 0
+IsRefused set arguments NoServer = arguments ≡ []
+IsRefused set arguments fault =
+    (config : List ℕ) × (settings : List Setting) × (rest : List (List ℕ))
+    × (arguments ≡ config ∷ (words_of settings ++ rest)) × AreProper set settings × IsWrong set settings rest fault

@@ -1,0 +1,34 @@
+-- Which options the arguments of a command may have.
+use Rattle.std.specs.Prelude.{◌≡◌, ◌⊎◌, ℕ, ◌≤◌, List, [], length, All, Some}
+use Rattle.sv_audit_command.specs.Kinds.{AreKinds}
+use Rattle.sv_audit_command.specs.declared.access_options.Format as report
+use Rattle.sv_arguments.specs.Settings.{Setting, Keyed, rival, set_of, values}
+use Rattle.sv_arguments.specs.Values.{IsAddress, IsCount}
+use Rattle.sv_arguments.specs.AuditWords.{IsFormat}
+use Rattle.sv_arguments.specs.declared.key.Key.{Key}
+use Rattle.sv_arguments.specs.declared.key.Key.TheVariants.{Listen, SameSeed, Connections, IdleSeconds, HeldMebibytes, Secure, Format, FailOn}
+use Rattle.sv_arguments.specs.declared.option_set.OptionSet.{OptionSet}
+use Rattle.std.specs.declared.net.socket_addr.SocketAddr.{SocketAddr}
+
+-- the word is a value of the option
+abbrev pub IsValue : Key → List ℕ → Type 0
+IsValue Listen word = (address : SocketAddr) × IsAddress word address
+IsValue SameSeed word = word ≡ []
+IsValue Connections word = (count : ℕ) × IsCount 1024 word count
+IsValue IdleSeconds word = (count : ℕ) × IsCount 86400 word count
+IsValue HeldMebibytes word = (count : ℕ) × IsCount 1048576 word count
+IsValue Secure word = word ≡ []
+IsValue Format word = (format : report.Format) × IsFormat word format
+IsValue FailOn word = AreKinds word
+IsValue other word = Unit {0}
+
+-- an option of the command with a value of it
+abbrev pub IsProper : OptionSet → Setting → Type 0
+IsProper set (Keyed key word) = (set_of key ≡ set) × IsValue key word
+
+-- options of the command with values of them, each at most once, and no two that exclude each other
+abbrev pub AreProper : OptionSet → List Setting → Type 0
+AreProper set settings =
+    All (IsProper set) settings
+    × ((key : Key) → length (values key settings) ≤ 1)
+    × ((key other : Key) → rival key ≡ Some other → (values key settings ≡ []) ⊎ (values other settings ≡ []))

@@ -1,0 +1,24 @@
+-- The meaning of the arguments of the command `run`.
+use Rattle.std.specs.Prelude.{◌≡◌, ℕ, List, ◌∷◌}
+use Rattle.sv_arguments.specs.Options.{AreProper}
+use Rattle.sv_arguments.specs.Settings.{Setting, values, words_of}
+use Rattle.sv_arguments.specs.Values.{IsAddress, IsCount, IsGiven, IsName, Says}
+use Rattle.sv_arguments.specs.declared.key.Key.TheVariants.{Connections, Control, HeldMebibytes, IdleSeconds, Journal, Listen, SameSeed}
+use Rattle.sv_arguments.specs.declared.option_set.OptionSet.TheVariants.{Run}
+use Rattle.sv_arguments.specs.declared.run_options.RunOptions.{RunOptions}
+
+-- the settings give these options
+abbrev pub GiveRun : List Setting → RunOptions → Type 0
+GiveRun settings options =
+    Says IsName (values Control settings) options.control
+    × Says IsName (values Journal settings) options.journal
+    × Says IsAddress (values Listen settings) options.listen
+    × IsGiven (values SameSeed settings) options.same_seed
+    × Says (IsCount 1024) (values Connections settings) options.connections
+    × Says (IsCount 86400) (values IdleSeconds settings) options.idle_seconds
+    × Says (IsCount 1048576) (values HeldMebibytes settings) options.held_mebibytes
+
+-- the arguments are the name of the server file, then the words of settings in any order, which give these options
+abbrev pub IsAsked : List (List ℕ) → RunOptions → Type 0
+IsAsked arguments options =
+    (settings : List Setting) × (arguments ≡ options.config.now ∷ words_of settings) × AreProper Run settings × GiveRun settings options

@@ -1,0 +1,179 @@
+//! The options of a command as words.
+
+ghost use Rattle.std.specs.Prelude.{◌≡◌, ◌≢◌, ◌∷◌, ◌++◌, ◌≤◌, ℕ, List, [], Some, None, All, IfErr, IfOk, IfSome, false, is_some, length, map, string_bytes};
+ghost use Rattle.sv_arguments.specs.Given.{AreOf, IsFirst, IsNext, IsSplit};
+ghost use Rattle.sv_arguments.specs.OptionFault.{IsRefused, IsWrong};
+ghost use Rattle.sv_arguments.specs.Options.{AreProper, IsProper, IsValue};
+ghost use Rattle.sv_arguments.specs.Settings.{Keyed, Setting, rival, setting_words, values, words_of};
+ghost use Rattle.sv_arguments.specs.Values.{IsAddress, IsCount, IsGiven, IsName, Says};
+
+use crate::count::{address_in, count_in};
+use crate::key::Key;
+use crate::option_fault::OptionFault;
+use crate::option_set::OptionSet;
+use std::net::SocketAddr;
+
+/// The server file of a command, and its options as words: the options of its set in any order, each at most once,
+/// each with a value of it, and no two that exclude each other.
+#[derive(Clone, Copy)]
+pub(crate) struct Given<'a> {
+    /// The name of the server file.
+    pub(crate) config: &'a str,
+    pub(crate) set: OptionSet,
+    pub(crate) words: &'a [String],
+}
+
+impl<'a> Given<'a> {
+    /// Parses the arguments: the name of the server file, followed by options.
+    ///
+    /// # Errors
+    /// The first fault, from the left.
+    pub(crate) fn parse(
+        set: OptionSet,
+        arguments: &'a [String],
+    ) -> Result<Given<'a>, OptionFault<'a>>
+        ensures it { IfOk result (λ given. (given.set ≡ set) × (map string_bytes arguments.now ≡ given.config.now ∷ map string_bytes given.words.now)
+            × (settings : List Setting) × AreOf set (map string_bytes given.words.now) settings) }
+        ensures fault { IfErr result (IsRefused set (map string_bytes arguments.now)) }
+    {
+        let Some((config, words)) = arguments.split_first() else {
+            return Err(OptionFault::NoServer);
+        };
+        let mut rest = words;
+        while let Some((word, after)) = rest.split_first() {
+            let done = before(words, rest);
+            let others = rest_behind(set, done, word.as_str(), after)?;
+            rest = others;
+        }
+        Ok(Given {
+            config: config.as_str(),
+            set,
+            words,
+        })
+    }
+
+    /// Returns the word after an option.
+    pub(crate) fn value(&self, key: Key) -> Option<&'a str>
+        ensures { (settings : List Setting) → AreOf self.now.set (map string_bytes self.now.words.now) settings → Says IsName (values key settings) result }
+    {
+        value_in(self.set, self.words, key)
+    }
+
+    /// Returns whether an option is given.
+    pub(crate) fn has(&self, key: Key) -> bool
+        ensures { (settings : List Setting) → AreOf self.now.set (map string_bytes self.now.words.now) settings → IsGiven (values key settings) result }
+    {
+        value_in(self.set, self.words, key).is_some()
+    }
+
+    /// Returns the address after an option whose values are addresses.
+    pub(crate) fn address(&self, key: Key) -> Option<SocketAddr>
+        ensures { (settings : List Setting) → AreOf self.now.set (map string_bytes self.now.words.now) settings
+            → ((word : List ℕ) → IsValue key word → (address : SocketAddr) × IsAddress word address) → Says IsAddress (values key settings) result }
+    {
+        let word = self.value(key)?;
+        address_in(word)
+    }
+
+    /// Returns the number after an option whose values are numbers from 1 to the limit.
+    pub(crate) fn count(&self, key: Key, limit: u32) -> Option<u32>
+        ensures { (settings : List Setting) → AreOf self.now.set (map string_bytes self.now.words.now) settings
+            → ((word : List ℕ) → IsValue key word → (count : ℕ) × IsCount limit word count) → Says (IsCount limit) (values key settings) result }
+    {
+        let word = self.value(key)?;
+        count_in(word, limit)
+    }
+}
+
+/// Returns the words before the rest.
+fn before<'a>(words: &'a [String], rest: &[String]) -> &'a [String]
+    requires { length rest.now ≤ length words.now }
+    ensures { (front : List (List ℕ)) → map string_bytes words.now ≡ front ++ map string_bytes rest.now → map string_bytes result.now ≡ front }
+{
+    let (front, _) = words.split_at(words.len() - rest.len());
+    front
+}
+
+/// Reads the option that begins with this word and follows these, and returns the remaining words.
+fn rest_behind<'a>(
+    set: OptionSet,
+    done: &'a [String],
+    word: &'a str,
+    after: &'a [String],
+) -> Result<&'a [String], OptionFault<'a>>
+    ensures it { IfOk result (λ rest. (settings : List Setting) → AreOf set (map string_bytes done.now) settings
+        → IsNext set settings (word.now ∷ map string_bytes after.now) (map string_bytes rest.now)) }
+    ensures shorter { IfOk result (λ rest. length rest.now ≤ length after.now) }
+    ensures fault { IfErr result (λ fault. (settings : List Setting) → AreOf set (map string_bytes done.now) settings
+        → IsWrong set settings (word.now ∷ map string_bytes after.now) fault) }
+{
+    let Some(key) = set.key(word) else {
+        return Err(OptionFault::Unknown(word));
+    };
+    if value_in(set, done, key).is_some() {
+        return Err(OptionFault::Twice(key));
+    }
+    if let Some(rival) = rival_in(set, done, key) {
+        return Err(OptionFault::Excluded(key, rival));
+    }
+    if !key.takes_word() {
+        return Ok(after);
+    }
+    let Some((value, rest)) = after.split_first() else {
+        return Err(OptionFault::NoValue(key));
+    };
+    let value = value.as_str();
+    if !key.is_value(value) {
+        return Err(OptionFault::BadValue(key, value));
+    }
+    Ok(rest)
+}
+
+/// Returns the option among these words that excludes this one.
+fn rival_in(set: OptionSet, words: &[String], key: Key) -> Option<Key>
+    ensures it { IfSome result (λ other. (rival key ≡ Some other) × ((settings : List Setting) → AreOf set (map string_bytes words.now) settings → values other settings ≢ [])) }
+    ensures none { is_some result ≡ false → (settings : List Setting) → AreOf set (map string_bytes words.now) settings
+        → (other : Key) → rival key ≡ Some other → values other settings ≡ [] }
+{
+    let other = key.rival()?;
+    if value_in(set, words, other).is_some() {
+        Some(other)
+    } else {
+        None
+    }
+}
+
+/// Returns the word after the first option of this key.
+fn value_in<'a>(set: OptionSet, words: &'a [String], key: Key) -> Option<&'a str>
+    ensures { (settings : List Setting) → map string_bytes words.now ≡ words_of settings → All (IsProper set) settings → IsFirst (values key settings) result }
+{
+    let mut rest = words;
+    while let Some((word, after)) = rest.split_first() {
+        let word = word.as_str();
+        let (value, others) = value_behind(set, word, after)?;
+        if word == key.word() {
+            return Some(value);
+        }
+        rest = others;
+    }
+    None
+}
+
+/// Returns the word after an option, and the remaining words. The word after an option that takes none is empty.
+fn value_behind<'a>(
+    set: OptionSet,
+    word: &str,
+    after: &'a [String],
+) -> Option<(&'a str, &'a [String])>
+    ensures split { (key : Key) (value : List ℕ) (rest : List (List ℕ)) → word.now ∷ map string_bytes after.now ≡ setting_words (Keyed key value) ++ rest
+        → IsProper set (Keyed key value) → IsSplit string_bytes value rest result }
+    ensures shorter { IfSome result (λ found. length found.1.now ≤ length after.now) }
+{
+    let key = set.key(word)?;
+    if key.takes_word() {
+        let (value, others) = after.split_first()?;
+        Some((value.as_str(), others))
+    } else {
+        Some(("", after))
+    }
+}

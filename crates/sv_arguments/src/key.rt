@@ -1,0 +1,185 @@
+//! The options of the commands.
+
+ghost use Rattle.std.specs.Prelude.{◌≡◌, ◌↔◌, true};
+ghost use Rattle.sv_arguments.specs.Options.{IsValue};
+ghost use Rattle.sv_arguments.specs.Settings.{key_word, rival, takes_word, value_name};
+
+use crate::audit_options::format_named;
+use crate::count::{address_in, count_in};
+use sv_audit_command::are_kinds;
+
+/// Maximum value of `--connections`.
+pub(crate) const MAX_CONNECTIONS: u32 = 1024;
+
+/// Maximum value of `--idle-seconds`: a day.
+pub(crate) const MAX_IDLE_SECONDS: u32 = 86_400;
+
+/// Maximum value of `--held-mebibytes`: a tebibyte.
+pub(crate) const MAX_HELD_MEBIBYTES: u32 = 1_048_576;
+
+/// An option of a command. No two have the same word.
+#[derive(Clone, Copy)]
+pub enum Key {
+    /// `--control SOCKET`: the name of the control socket file, for queries and for stopping the server.
+    Control,
+    /// `--journal FILE`: the name of the file to which the journal is appended.
+    Journal,
+    /// `--listen ADDRESS:PORT`: the address that the server listens on.
+    Listen,
+    /// `--same-seed`: random words are derived only from the server file's seed.
+    SameSeed,
+    /// `--connections N`: maximum number of connections that are served at once.
+    Connections,
+    /// `--idle-seconds N`: idle timeout of a connection, in seconds.
+    IdleSeconds,
+    /// `--held-mebibytes N`: maximum number of mebibytes that all connections hold together.
+    HeldMebibytes,
+    /// `--secure`: requests arrive over a connection whose transport is guaranteed.
+    Secure,
+    /// `--format FORMAT`: the form of the report.
+    Format,
+    /// `--as USER`: the user who sends the requests.
+    As,
+    /// `--role ROLE`: the role of a caller who sends the requests.
+    Role,
+    /// `--fail-on KINDS`: the kinds of findings with which the command fails.
+    FailOn,
+    /// `--accept FILE`: the name of the file of accepted findings.
+    Accept,
+    /// `--lines FILE`: the name of the file of the lines on which the constraints of an imported descriptor begin.
+    Lines,
+    /// `--path TARGET`: the target of the request that is explained.
+    Path,
+    /// `--method METHOD`: the method of that request.
+    Method,
+    /// `--diff OTHER`: the name of the server file that is compared with the first.
+    Diff,
+}
+
+impl Key {
+    /// Returns the word of the option.
+    pub(crate) fn word(self) -> &'static str
+        ensures { result.now ≡ key_word self }
+    {
+        match self {
+            Key::Control => "--control",
+            Key::Journal => "--journal",
+            Key::Listen => "--listen",
+            Key::SameSeed => "--same-seed",
+            Key::Connections => "--connections",
+            Key::IdleSeconds => "--idle-seconds",
+            Key::HeldMebibytes => "--held-mebibytes",
+            Key::Secure => "--secure",
+            Key::Format => "--format",
+            Key::As => "--as",
+            Key::Role => "--role",
+            Key::FailOn => "--fail-on",
+            Key::Accept => "--accept",
+            Key::Lines => "--lines",
+            Key::Path => "--path",
+            Key::Method => "--method",
+            Key::Diff => "--diff",
+        }
+    }
+
+    /// Returns what the option needs after its word, for a message.
+    pub(crate) fn value_name(self) -> &'static str
+        ensures { result.now ≡ value_name self }
+    {
+        match self {
+            Key::Control => "SOCKET",
+            Key::Journal => "FILE",
+            Key::Listen => "ADDRESS:PORT",
+            Key::SameSeed => "nothing",
+            Key::Connections => "a number from 1 to 1024",
+            Key::IdleSeconds => "a number from 1 to 86400",
+            Key::HeldMebibytes => "a number from 1 to 1048576",
+            Key::Secure => "nothing",
+            Key::Format => "text, json, html or keys",
+            Key::As => "USER",
+            Key::Role => "ROLE",
+            Key::FailOn => "any, or kinds of findings joined by commas",
+            Key::Accept => "FILE",
+            Key::Lines => "FILE",
+            Key::Path => "TARGET",
+            Key::Method => "METHOD",
+            Key::Diff => "a server file",
+        }
+    }
+
+    /// Returns whether a word follows the option's own.
+    pub(crate) fn takes_word(self) -> bool
+        ensures { result ≡ takes_word self }
+    {
+        match self {
+            Key::Control => true,
+            Key::Journal => true,
+            Key::Listen => true,
+            Key::SameSeed => false,
+            Key::Connections => true,
+            Key::IdleSeconds => true,
+            Key::HeldMebibytes => true,
+            Key::Secure => false,
+            Key::Format => true,
+            Key::As => true,
+            Key::Role => true,
+            Key::FailOn => true,
+            Key::Accept => true,
+            Key::Lines => true,
+            Key::Path => true,
+            Key::Method => true,
+            Key::Diff => true,
+        }
+    }
+
+    /// Returns the option that cannot be given with this one, if there is one.
+    pub(crate) fn rival(self) -> Option<Key>
+        ensures { result ≡ rival self }
+    {
+        match self {
+            Key::Control => None,
+            Key::Journal => None,
+            Key::Listen => None,
+            Key::SameSeed => None,
+            Key::Connections => None,
+            Key::IdleSeconds => None,
+            Key::HeldMebibytes => None,
+            Key::Secure => None,
+            Key::Format => None,
+            Key::As => Some(Key::Role),
+            Key::Role => Some(Key::As),
+            Key::FailOn => None,
+            Key::Accept => None,
+            Key::Lines => None,
+            Key::Path => Some(Key::Diff),
+            Key::Method => None,
+            Key::Diff => Some(Key::Path),
+        }
+    }
+
+    /// Returns whether the word is a value of the option, which takes a word.
+    pub(crate) fn is_value(self, word: &str) -> bool
+        requires { takes_word self ≡ true }
+        ensures { result ≡ true ↔ IsValue self word.now }
+    {
+        match self {
+            Key::Control => true,
+            Key::Journal => true,
+            Key::Listen => address_in(word).is_some(),
+            Key::SameSeed => word.is_empty(),
+            Key::Connections => count_in(word, MAX_CONNECTIONS).is_some(),
+            Key::IdleSeconds => count_in(word, MAX_IDLE_SECONDS).is_some(),
+            Key::HeldMebibytes => count_in(word, MAX_HELD_MEBIBYTES).is_some(),
+            Key::Secure => word.is_empty(),
+            Key::Format => format_named(word).is_some(),
+            Key::As => true,
+            Key::Role => true,
+            Key::FailOn => are_kinds(word),
+            Key::Accept => true,
+            Key::Lines => true,
+            Key::Path => true,
+            Key::Method => true,
+            Key::Diff => true,
+        }
+    }
+}

@@ -1,0 +1,31 @@
+//! The arguments of the program: the command that they name with its options, and what is wrong with arguments that name
+//! none.
+#![tactic(auto)]
+
+mod audit_options;
+mod command;
+mod count;
+mod given;
+mod key;
+mod manual;
+mod near;
+mod option_fault;
+mod option_set;
+mod question;
+mod run_options;
+mod service;
+mod topic;
+mod usage;
+
+pub use audit_options::{AuditOptions, audit_arguments_ask_for_one_thing};
+pub use command::{Command, arguments_name_one_command};
+pub use count::Count;
+pub use key::Key;
+pub use manual::Manual;
+pub use near::a_near_name_is_the_nearest;
+pub use option_fault::OptionFault;
+pub use question::Question;
+pub use run_options::{RunOptions, arguments_ask_for_one_thing};
+pub use service::Service;
+pub use topic::{TOPICS, Topic, is_help_option};
+pub use usage::{the_manual_is_of_this_program, usage_detail, wrong_arguments_have_one_line};

@@ -1,0 +1,63 @@
+//! The arguments of the command `run`.
+
+ghost use Rattle.std.specs.Prelude.{IfErr, IfOk, map, string_bytes};
+ghost use Rattle.sv_arguments.specs.Laws.{AskForOne};
+ghost use Rattle.sv_arguments.specs.OptionFault.{IsRefused};
+ghost use Rattle.sv_arguments.specs.RunOptions.{IsAsked};
+
+use crate::given::Given;
+use crate::key::{Key, MAX_CONNECTIONS, MAX_HELD_MEBIBYTES, MAX_IDLE_SECONDS};
+use crate::option_fault::OptionFault;
+use crate::option_set::OptionSet;
+use std::net::SocketAddr;
+
+/// A server, and the options of its run.
+#[derive(Clone, Copy)]
+pub struct RunOptions<'a> {
+    /// The name of the server file.
+    pub config: &'a str,
+    /// The name of the control socket file, for queries and for stopping the server, if there is one.
+    pub control: Option<&'a str>,
+    /// The name of the file to which the journal is appended, if there is one.
+    pub journal: Option<&'a str>,
+    /// The address that the server listens on, or none for 127.0.0.1 with the server file's port.
+    pub listen: Option<SocketAddr>,
+    /// Whether random words are derived only from the server file's seed.
+    pub same_seed: bool,
+    /// Maximum number of connections that are served at once, or none for the default.
+    pub connections: Option<u32>,
+    /// Idle timeout of a connection in seconds, or none for the default.
+    pub idle_seconds: Option<u32>,
+    /// Maximum number of mebibytes that all connections hold together, or none for the default.
+    pub held_mebibytes: Option<u32>,
+}
+
+impl<'a> RunOptions<'a> {
+    /// Parses the arguments: the name of the server file, followed by options in any order, each at most once. The
+    /// options are `--control SOCKET`, `--journal FILE`, `--listen ADDRESS:PORT`, `--same-seed`, `--connections N` (1
+    /// to 1,024), `--idle-seconds N` (1 to 86,400) and `--held-mebibytes N` (1 to 1,048,576).
+    ///
+    /// # Errors
+    /// The first fault, from the left.
+    pub fn parse(arguments: &'a [String]) -> Result<RunOptions<'a>, OptionFault<'a>>
+        ensures it { IfOk result (IsAsked (map string_bytes arguments.now)) }
+        ensures fault { IfErr result (IsRefused OptionSet.Run (map string_bytes arguments.now)) }
+    {
+        let given = Given::parse(OptionSet::Run, arguments)?;
+        Ok(RunOptions {
+            config: given.config,
+            control: given.value(Key::Control),
+            journal: given.value(Key::Journal),
+            listen: given.address(Key::Listen),
+            same_seed: given.has(Key::SameSeed),
+            connections: given.count(Key::Connections, MAX_CONNECTIONS),
+            idle_seconds: given.count(Key::IdleSeconds, MAX_IDLE_SECONDS),
+            held_mebibytes: given.count(Key::HeldMebibytes, MAX_HELD_MEBIBYTES),
+        })
+    }
+}
+
+/// Arguments have only one meaning.
+pub fn arguments_ask_for_one_thing()
+    ensures { AskForOne }
+{}
