@@ -98,7 +98,7 @@ impl Key {
             Key::Format => "text, json, html or keys",
             Key::As => "USER",
             Key::Role => "ROLE",
-            Key::FailOn => "any, or kinds of findings joined by commas",
+            Key::FailOn => "any, or kinds that \"sv help audit\" lists, joined by commas",
             Key::Accept => "FILE",
             Key::Lines => "FILE",
             Key::Path => "TARGET",
