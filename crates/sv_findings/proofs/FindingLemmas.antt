@@ -4,7 +4,7 @@ use Rattle.std.proofs.lemmas.Bool.Decides.{Decides-eqb}
 use Rattle.std.proofs.lemmas.List.Elements.{All-append, All-cons, All-contains, All-contains_itself, All-head, All-map, All-nil, All-same, All-tail}
 use Rattle.std.proofs.lemmas.List.Sums.{AllPass-from_list_all}
 use Rattle.std.proofs.lemmas.Slice.Eq.{bytes_eq-Decides, starts_is}
-use Rattle.std.proofs.Common.{◌≡◌, ℕ, ◌<◌, Bool, true, false, not, ◌||◌, ◌&&◌, List, [], ◌∷◌, ◌++◌, map, length, drop, codes, refl, ap, sym, ◌∙◌, cond, Option, None, Some, inl, inr, ◌==◌}
+use Rattle.std.proofs.Common.{◌≡◌, ℕ, ◌<◌, Bool, true, false, not, ◌||◌, ◌&&◌, List, [], ◌∷◌, ◌++◌, map, length, drop, codes, refl, ap, sym, ◌∙◌, cond, Option, None, Some, inl, inr, ◌==◌, ◌⊎◌}
 use Rattle.std.specs.Prelude.{All, Contains, Err, IsTrue, Ok, Result, filter, find, slice_index_or}
 use Rattle.std.specs.List.{flat_map, list_all, list_any}
 use Rattle.std.specs.Option.{option_and_then, option_map_or, option_to_list}
@@ -42,14 +42,14 @@ use Rattle.sv_findings.proofs.OpenedLemmas.{AreOpen, AreOpenFor, are_open, fresh
 use Rattle.sv_audit.proofs.Shapes.{IsShaped, nothing_matches, served_shaped}
 use Rattle.sv_findings.specs.Dead.{is_tried_late, dead_among, dead_patterns, dead_patterns_in, decides_nothing, escaped, escaped_in, is_beaten, is_dead, is_escaped}
 use Rattle.sv_audit.specs.Shapes.{matches_nothing}
-use Rattle.sv_findings.specs.FindingLaws.{FindingsAreRight, IsMeant, IsNeverBest, IsOpen, IsRestricted, IsRight, names_in}
+use Rattle.sv_findings.specs.FindingLaws.{BestDecides, FindingsAreRight, IsMeant, IsNeverBest, IsOpen, IsRestricted, IsRight, names_in}
 use Rattle.sv_audit.specs.Shapes.{IsServed}
 use Rattle.sv_findings.specs.Opened.{opened_at, opened_for, opened_methods, opened_pair}
 use Rattle.sv_findings.specs.RoleFindings.{is_role, is_unheld, is_unknown, is_unused, named_roles, role_findings, unheld_roles, unknown_among, unknown_roles, unused_roles}
 use Rattle.sv_audit.specs.Callers.{has_method, same_callers}
-use Rattle.sv_findings.specs.Findings.{findings_of, pattern_findings, reached_rows, row_findings}
+use Rattle.sv_findings.specs.Findings.{findings_of, met_rows, pattern_findings, row_findings}
 use Rattle.sv_findings.specs.Uncovered.{is_left_open, is_left_out, uncovered_at}
-use Rattle.sv_findings.specs.ReachedRows.{is_row_reached}
+use Rattle.sv_findings.specs.MetRows.{is_row_met}
 use Rattle.sv_findings.specs.Reach.{is_reached}
 use Rattle.sv_findings.specs.Readings.{covers_one, covers_part, first_covering, is_covered, is_late, is_prefix, read_as, read_at, read_otherwise, share_method}
 use Rattle.sv_findings.proofs.MeetingForms.{none_held, none_meets}
@@ -359,13 +359,13 @@ module _ (constraints : List Constraint) (rules : Rules) (surroundings : Surroun
       (made_last (match_every_path (all_patterns constraints)))
 
   abbrev pub the_rows : List Row
-  the_rows = reached_rows surroundings (table_of constraints rules).rows
+  the_rows = met_rows constraints surroundings (table_of constraints rules).rows
 
   kept_made : (test : Row → Bool) (rows : List Row) → All IsMade rows → All IsMade (filter test rows)
   kept_made test rows all = kept_all IsMade test rows (λ k d within passing. all k d within)
 
   reached_made : All IsMade the_rows
-  reached_made = kept_made (is_row_reached surroundings.contexts surroundings.path) (table_of constraints rules).rows all_made
+  reached_made = kept_made (is_row_met surroundings.contexts surroundings.path (lists (all_patterns constraints) (codes "/*"))) (table_of constraints rules).rows all_made
 
   module _ (at : Option (List ℕ) → List Group → List Finding) (each : (pattern : List ℕ) → All (IsRight constraints rules surroundings) (at (Some pattern) (row_at constraints rules pattern).groups)) (none : (groups : List Group) → All (IsRight constraints rules surroundings) (at None groups)) where
     row_right : (pattern : Option (List ℕ)) (groups : List Group) → ((text : List ℕ) → pattern ≡ Some text → groups ≡ (row_at constraints rules text).groups) → All (IsRight constraints rules surroundings) (at pattern groups)
@@ -666,6 +666,19 @@ module _ (constraints : List Constraint) (rules : Rules) (surroundings : Surroun
       (All-append The (row_findings constraints rows ++ by_pattern) by_page
       (All-append The (row_findings constraints rows) by_pattern by_row_right (by_pattern_right shapes))
       (page_right constraints rules surroundings surroundings.login_page refl)) by_role_right
+
+decides_at : (constraints : List Constraint) (path pattern : List ℕ) (b : Bool) → decides_nothing (lists (all_patterns constraints) (codes "/*")) pattern ≡ b → IsNeverBest constraints pattern ⊎ (b ≡ false) → IsServed path → best_pattern (all_patterns constraints) path ≡ Some pattern → b ≡ false
+decides_at constraints path pattern b is (inl never) served best = absurd (never path served best)
+decides_at constraints path pattern b is (inr none) served best = none
+
+decides_or : (shapes : CanonicalHasShape) (constraints : List Constraint) (pattern : List ℕ) (b : Bool) → decides_nothing (lists (all_patterns constraints) (codes "/*")) pattern ≡ b → IsNeverBest constraints pattern ⊎ (b ≡ false)
+decides_or shapes constraints pattern true is = inl (never_best shapes constraints pattern is)
+decides_or shapes constraints pattern false is = inr refl
+
+pub best_decides : CanonicalHasShape → BestDecides
+best_decides shapes constraints path pattern served best =
+    let nothing : Bool = decides_nothing (lists (all_patterns constraints) (codes "/*")) pattern in
+    decides_at constraints path pattern nothing refl (decides_or shapes constraints pattern nothing refl) served best
 
 pub findings_right : CanonicalHasShape → FindingsAreRight
 findings_right shapes constraints rules surroundings = all_right constraints rules surroundings shapes

@@ -27,7 +27,7 @@ use Rattle.sv_audit.proofs.RowCells.{row_cell}
 use Rattle.sv_audit.specs.Access.{cell_at}
 use Rattle.sv_findings.proofs.OpenedLemmas.{contained, kept_any, method_found, opened_exact, some_pair}
 use Rattle.sv_findings.specs.Dead.{dead_patterns_in, decides_nothing, escaped, is_dead}
-use Rattle.sv_findings.specs.FindingLaws.{DeadIsFound, HeadIsFound, IsReached, OpenedIsFound, ReadingIsFound, UncoveredIsFound, UnreachedIsFound, says_dead, says_head, says_opened, says_read, says_uncovered, says_unreached}
+use Rattle.sv_findings.specs.FindingLaws.{DeadIsFound, HeadIsFound, IsMet, OpenedIsFound, ReadingIsFound, UncoveredIsFound, UnreachedIsFound, says_dead, says_head, says_opened, says_read, says_uncovered, says_unreached}
 use Rattle.sv_audit.specs.Callers.{has_method, same_callers}
 use Rattle.sv_findings.specs.Findings.{findings_of, pattern_findings}
 use Rattle.sv_findings.specs.LoginNeeds.{login_needs}
@@ -35,7 +35,7 @@ use Rattle.sv_findings.specs.RoleFindings.{role_findings}
 use Rattle.sv_findings.specs.Uncovered.{is_left_open, is_left_out, uncovered_at}
 use Rattle.sv_findings.specs.Dead.{is_tried_late}
 use Rattle.sv_findings.specs.Reach.{is_reached}
-use Rattle.sv_findings.specs.ReachedRows.{is_row_reached}
+use Rattle.sv_findings.specs.MetRows.{is_met, is_row_met}
 use Rattle.sv_findings.specs.Readings.{covers_one, covers_part, first_covering, holds_one, is_covered, is_late, is_prefix, read_as, read_at, share_method}
 use Rattle.sv_findings.specs.Unreached.{is_unreached, unreached_in}
 use Rattle.sv_findings.specs.declared.surroundings.Surroundings.{Surroundings}
@@ -119,17 +119,17 @@ module _ (constraints : List Constraint) (rules : Rules) (pattern : List ℕ) wh
       ∙ left_out method none open_to_all
 
   -- A row that passes is found among the reached rows.
-  row_found : (surroundings : Surroundings) (test : Row → Bool) → lists (all_patterns constraints) pattern ≡ true → IsReached surroundings pattern → test (row_at constraints rules pattern) ≡ true
+  row_found : (surroundings : Surroundings) (test : Row → Bool) → lists (all_patterns constraints) pattern ≡ true → IsMet constraints surroundings pattern → test (row_at constraints rules pattern) ≡ true
       → list_any test (the_rows constraints rules surroundings) ≡ true
   row_found surroundings test there reached some =
-      kept_any test (is_row_reached surroundings.contexts surroundings.path) (table_of constraints rules).rows
-      ∙ any_first (λ (row : Row). is_row_reached surroundings.contexts surroundings.path row && test row) (map (row_at constraints rules) (in_row_order (all_patterns constraints))) (cond (match_every_path (all_patterns constraints)) [] (other_paths ∷ []))
-      (any_seen (λ (row : Row). is_row_reached surroundings.contexts surroundings.path row && test row) (row_at constraints rules) (in_row_order (all_patterns constraints))
-      ∙ any_in (λ p. is_reached surroundings.contexts surroundings.path p && test (row_at constraints rules p)) (in_row_order (all_patterns constraints)) pattern (ordered_lists (all_patterns constraints) pattern ∙ there)
-      (both (is_reached surroundings.contexts surroundings.path pattern) (test (row_at constraints rules pattern)) reached some))
+      kept_any test (is_row_met surroundings.contexts surroundings.path (lists (all_patterns constraints) (codes "/*"))) (table_of constraints rules).rows
+      ∙ any_first (λ (row : Row). is_row_met surroundings.contexts surroundings.path (lists (all_patterns constraints) (codes "/*")) row && test row) (map (row_at constraints rules) (in_row_order (all_patterns constraints))) (cond (match_every_path (all_patterns constraints)) [] (other_paths ∷ []))
+      (any_seen (λ (row : Row). is_row_met surroundings.contexts surroundings.path (lists (all_patterns constraints) (codes "/*")) row && test row) (row_at constraints rules) (in_row_order (all_patterns constraints))
+      ∙ any_in (λ p. is_met surroundings.contexts surroundings.path (lists (all_patterns constraints) (codes "/*")) p && test (row_at constraints rules p)) (in_row_order (all_patterns constraints)) pattern (ordered_lists (all_patterns constraints) pattern ∙ there)
+      (both (is_met surroundings.contexts surroundings.path (lists (all_patterns constraints) (codes "/*")) pattern) (test (row_at constraints rules pattern)) reached some))
 
   -- What is found at the row of a reached pattern is found in the table.
-  in_table : (surroundings : Surroundings) (test : Finding → Bool) (at : Option (List ℕ) → List Group → List Finding) → lists (all_patterns constraints) pattern ≡ true → IsReached surroundings pattern → list_any test (at (Some pattern) groups) ≡ true
+  in_table : (surroundings : Surroundings) (test : Finding → Bool) (at : Option (List ℕ) → List Group → List Finding) → lists (all_patterns constraints) pattern ≡ true → IsMet constraints surroundings pattern → list_any test (at (Some pattern) groups) ≡ true
       → list_any test (flat_map (λ (row : Row). at row.pattern row.groups) (the_rows constraints rules surroundings)) ≡ true
   in_table surroundings test at there reached some =
       any_of_joined test (λ (row : Row). at row.pattern row.groups) (the_rows constraints rules surroundings)
@@ -353,7 +353,7 @@ reported_reading : (pattern method : List ℕ) (methods : Methods) (other : Opti
 reported_reading pattern method methods None some has = absurd (false≢true some)
 reported_reading pattern method methods (Some other) some has = ap (λ b. b || false) (both (bytes_eq pattern pattern) (covers_method methods method) (same_text pattern) has)
 
-module _ (constraints : List Constraint) (rules : Rules) (surroundings : Surroundings) (pattern method other : List ℕ) (its_reached : IsReached surroundings other) (listed : lists (all_patterns constraints) other ≡ true) (tried : is_tried_late other ≡ true) (covered : is_uncovered_at constraints other method ≡ false) where
+module _ (constraints : List Constraint) (rules : Rules) (surroundings : Surroundings) (pattern method other : List ℕ) (its_reached : IsMet constraints surroundings other) (listed : lists (all_patterns constraints) other ≡ true) (tried : is_tried_late other ≡ true) (covered : is_uncovered_at constraints other method ≡ false) where
   abbrev late_ones : List Row
   late_ones = late constraints rules surroundings
 

@@ -18,6 +18,7 @@ use Rattle.sv_audit.specs.Shapes.{IsServed}
 use Rattle.sv_findings.specs.Dead.{decides_nothing, is_escaped, is_tried_late}
 use Rattle.sv_findings.specs.Findings.{findings_of}
 use Rattle.sv_findings.specs.Reach.{is_reached}
+use Rattle.sv_findings.specs.MetRows.{is_met}
 use Rattle.sv_findings.specs.Readings.{is_prefix}
 use Rattle.sv_findings.specs.Unserved.{holds}
 use Rattle.sv_findings.specs.LoginNeeds.{needed_at, parts, references_after, target_of}
@@ -119,19 +120,24 @@ IsRight constraints rules surroundings (UnusedRole role) = IsTrue (lists rules.d
 abbrev pub FindingsAreRight : Type 0
 FindingsAreRight = (constraints : List Constraint) (rules : Rules) (surroundings : Surroundings) → All (IsRight constraints rules surroundings) (findings_of constraints rules (table_of constraints rules) surroundings)
 
--- Some requests may reach the pattern.
-abbrev pub IsReached : Surroundings → List ℕ → Type 0
-IsReached surroundings pattern = IsTrue (is_reached surroundings.contexts surroundings.path pattern)
+-- A pattern that is the best match of the path of a request decides something.
+abbrev pub BestDecides : Type 0
+BestDecides = (constraints : List Constraint) (path pattern : List ℕ) → IsServed path → best_pattern (all_patterns constraints) path ≡ Some pattern →
+    decides_nothing (lists (all_patterns constraints) (codes "/*")) pattern ≡ false
+
+-- Some requests may reach the pattern and have it as their best match.
+abbrev pub IsMet : List Constraint → Surroundings → List ℕ → Type 0
+IsMet constraints surroundings pattern = IsTrue (is_met surroundings.contexts surroundings.path (lists (all_patterns constraints) (codes "/*")) pattern)
 
 -- Whether the finding says that everyone may use the method at the pattern although it is restricted.
 abbrev pub says_opened : List ℕ → List ℕ → Finding → Bool
 says_opened pattern method (Opened its_pattern methods number other) = bytes_eq its_pattern pattern && covers_method methods method
 says_opened pattern method other = false
 
--- Each method is found that everyone may use at a path of a reached pattern, since a constraint needs no authorization,
+-- Each method is found that everyone may use at a path of a pattern that requests meet, since a constraint needs no authorization,
 -- although a constraint with an authorization constraint covers it.
 abbrev pub OpenedIsFound : Type 0
-OpenedIsFound = (constraints : List Constraint) (rules : Rules) (surroundings : Surroundings) (pattern method path : List ℕ) → IsReached surroundings pattern → IsRestricted constraints pattern method →
+OpenedIsFound = (constraints : List Constraint) (rules : Rules) (surroundings : Surroundings) (pattern method path : List ℕ) → IsMet constraints surroundings pattern → IsRestricted constraints pattern method →
     best_pattern (all_patterns constraints) path ≡ Some pattern → kind_and_cause (verdict constraints rules method path None) ≡ (Passes, cause.Unauthenticated) →
     IsTrue (list_any (says_opened pattern method) (findings_of constraints rules (table_of constraints rules) surroundings))
 
@@ -157,16 +163,16 @@ abbrev pub says_head : List ℕ → Finding → Bool
 says_head pattern (HeadDiffers its_pattern get head) = bytes_eq its_pattern pattern
 says_head pattern other = false
 
--- Unless uncovered methods are denied, each method is found that no constraint covers at a reached pattern of the
--- constraints, if they cover another method there.
+-- Unless uncovered methods are denied, each method is found that no constraint covers at a pattern of the
+-- constraints that requests meet, if they cover another method there.
 abbrev pub UncoveredIsFound : Type 0
-UncoveredIsFound = (constraints : List Constraint) (rules : Rules) (surroundings : Surroundings) (pattern method other : List ℕ) → IsReached surroundings pattern → rules.deny_uncovered ≡ false → IsTrue (lists (all_patterns constraints) pattern) →
+UncoveredIsFound = (constraints : List Constraint) (rules : Rules) (surroundings : Surroundings) (pattern method other : List ℕ) → IsMet constraints surroundings pattern → rules.deny_uncovered ≡ false → IsTrue (lists (all_patterns constraints) pattern) →
     IsTrue (is_uncovered constraints pattern method) → is_uncovered constraints pattern other ≡ false → IsTrue (list_any (says_uncovered pattern method) (findings_of constraints rules (table_of constraints rules) surroundings))
 
--- Each reached pattern is found that is the best match of a path at which a caller, or a request without one, fares differently
+-- Each pattern that requests meet is found that is the best match of a path at which a caller, or a request without one, fares differently
 -- with GET and with HEAD.
 abbrev pub HeadIsFound : Type 0
-HeadIsFound = (constraints : List Constraint) (rules : Rules) (surroundings : Surroundings) (pattern path : List ℕ) (caller : Option Caller) → IsReached surroundings pattern → best_pattern (all_patterns constraints) path ≡ Some pattern →
+HeadIsFound = (constraints : List Constraint) (rules : Rules) (surroundings : Surroundings) (pattern path : List ℕ) (caller : Option Caller) → IsMet constraints surroundings pattern → best_pattern (all_patterns constraints) path ≡ Some pattern →
     (kind_and_cause (verdict constraints rules (codes "GET") path caller)).0 ≢ (kind_and_cause (verdict constraints rules (codes "HEAD") path caller)).0 →
     IsTrue (list_any (says_head pattern) (findings_of constraints rules (table_of constraints rules) surroundings))
 
@@ -175,10 +181,10 @@ abbrev pub says_read : List ℕ → List ℕ → Finding → Bool
 says_read pattern method (ReadOtherwise its_pattern methods other) = bytes_eq its_pattern pattern && covers_method methods method
 says_read pattern method other = false
 
--- Unless uncovered methods are denied, each method is found that no constraint covers at a reached prefix pattern of the
--- constraints, if they cover it at a reached pattern that is tried later.
+-- Unless uncovered methods are denied, each method is found that no constraint covers at a prefix pattern of the
+-- constraints that requests meet, if they cover it at such a pattern that is tried later.
 abbrev pub ReadingIsFound : Type 0
-ReadingIsFound = (constraints : List Constraint) (rules : Rules) (surroundings : Surroundings) (pattern method other : List ℕ) → IsReached surroundings pattern → IsReached surroundings other →
+ReadingIsFound = (constraints : List Constraint) (rules : Rules) (surroundings : Surroundings) (pattern method other : List ℕ) → IsMet constraints surroundings pattern → IsMet constraints surroundings other →
     rules.deny_uncovered ≡ false → IsTrue (lists (all_patterns constraints) pattern) → IsTrue (lists (all_patterns constraints) other) → IsTrue (is_prefix (form pattern)) → IsTrue (is_tried_late other) →
     IsTrue (is_uncovered constraints pattern method) → is_uncovered constraints other method ≡ false → IsTrue (list_any (says_read pattern method) (findings_of constraints rules (table_of constraints rules) surroundings))
 

@@ -10,7 +10,7 @@ use Rattle.sv_findings.specs.Dead.{dead_among, dead_patterns, escaped}
 use Rattle.sv_findings.specs.Heads.{head_at}
 use Rattle.sv_findings.specs.LoginNeeds.{login_needs}
 use Rattle.sv_findings.specs.Opened.{opened_at}
-use Rattle.sv_findings.specs.ReachedRows.{is_row_reached}
+use Rattle.sv_findings.specs.MetRows.{is_row_met}
 use Rattle.sv_findings.specs.Readings.{read_otherwise}
 use Rattle.sv_findings.specs.RoleFindings.{role_findings}
 use Rattle.sv_findings.specs.Uncovered.{uncovered_at}
@@ -36,10 +36,11 @@ pattern_findings constraints contexts context surroundings =
     ++ unserved contexts context surroundings constraints
     ++ escaped constraints
 
-abbrev pub reached_rows : Surroundings → List Row → List Row
-reached_rows surroundings rows = filter (is_row_reached surroundings.contexts surroundings.path) rows
+-- The rows whose pattern some requests may reach and have as their best match.
+abbrev pub met_rows : List Constraint → Surroundings → List Row → List Row
+met_rows constraints surroundings rows = filter (is_row_met surroundings.contexts surroundings.path (lists (all_patterns constraints) (codes "/*"))) rows
 
 -- The findings of constraints and their table, given what surrounds them.
 abbrev pub findings_of : List Constraint → Rules → Table → Surroundings → List Finding
 findings_of constraints rules table surroundings =
-    row_findings constraints (reached_rows surroundings table.rows) ++ pattern_findings constraints surroundings.contexts surroundings.path surroundings ++ login_needs surroundings.contexts surroundings.path constraints rules surroundings.login_page ++ role_findings rules.declared surroundings.held constraints
+    row_findings constraints (met_rows constraints surroundings table.rows) ++ pattern_findings constraints surroundings.contexts surroundings.path surroundings ++ login_needs surroundings.contexts surroundings.path constraints rules surroundings.login_page ++ role_findings rules.declared surroundings.held constraints

@@ -1,5 +1,5 @@
 pub mod Reach
-pub mod ReachedRows
+pub mod MetRows
 pub mod Dead
 pub mod Opened
 pub mod Uncovered

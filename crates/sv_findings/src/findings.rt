@@ -7,13 +7,13 @@ ghost use Rattle.sv_findings.specs.Findings as spec;
 ghost use Rattle.sv_findings.specs.Uncovered as uncovered;
 ghost use Rattle.sv_findings.specs.declared.finding.Finding.TheVariants as finding;
 
-use crate::dead::{push_escaped, push_ineffective};
+use crate::dead::{lists_prefix, push_escaped, push_ineffective};
 use crate::finding::Finding;
 use crate::heads::push_heads;
 use crate::login_needs::push_login_needs;
+use crate::met_rows::met_rows;
 use crate::opened::push_opened;
 use crate::reach::Reaches;
-use crate::reached_rows::reached_rows;
 use crate::readings::push_read_otherwise;
 use crate::role_findings::push_by_role;
 use crate::surroundings::Surroundings;
@@ -26,7 +26,8 @@ use sv_policy::copied_methods;
 use sv_text::{Listed, NoMemory, Text};
 
 /// Returns the findings of constraints, their rules, their access table and what surrounds them, in the order of the
-/// variants of [`Finding`]. What a row opens is looked for only at patterns that requests reach.
+/// variants of [`Finding`]. What a row opens is looked for only at patterns that requests meet: they may reach
+/// them, and have them as their best match.
 ///
 /// # Errors
 /// `NoMemory` if memory runs out.
@@ -45,7 +46,8 @@ pub fn findings_of(
         surroundings.path.as_str(),
     )?;
     let mut findings = Vec::new(alloc);
-    let rows = reached_rows(alloc, &reaches, table.rows.as_slice())?;
+    let has_prefix = lists_prefix(alloc, constraints)?;
+    let rows = met_rows(alloc, &reaches, has_prefix, table.rows.as_slice())?;
     push_by_row(&mut findings, alloc, constraints, rules, rows.as_slice())?;
     push_by_pattern(&mut findings, alloc, constraints, &reaches, surroundings)?;
     push_login_needs(

@@ -3,7 +3,7 @@
 ghost use Rattle.std.specs.Prelude.{◌≡◌};
 ghost use Rattle.sv_findings.specs.declared.unserved.TheConstants.{MAX_SERVED_PATTERNS};
 ghost use Rattle.sv_findings.specs.Reach.{ElsewhereIsForeign, HiddenIsProtected, ServedIsReached};
-ghost use Rattle.sv_findings.specs.FindingLaws.{DeadIsFound, FindingsAreRight, HeadIsFound, OpenedIsFound, ReadingIsFound, UncoveredIsFound, UnreachedIsFound};
+ghost use Rattle.sv_findings.specs.FindingLaws.{BestDecides, DeadIsFound, FindingsAreRight, HeadIsFound, OpenedIsFound, ReadingIsFound, UncoveredIsFound, UnreachedIsFound};
 
 use sv_mapping::laws::best_is_a_match;
 use sv_uri::laws::canonical_has_shape;
@@ -24,10 +24,10 @@ pub fn findings_are_right()
     canonical_has_shape();
 }
 
-/// No method is missed that a constraint opens to everyone at a reached pattern and another one restricts. Unless
-/// uncovered methods are denied, none is missed at a reached pattern of the constraints at which another method is
-/// covered, and none that a pattern covers that is tried later. No difference between GET and HEAD at a reached pattern
-/// is missed, no pattern that decides nothing, and none that no request reaches.
+/// No method is missed that a constraint opens to everyone at a pattern that requests meet, and another one restricts.
+/// Unless uncovered methods are denied, none is missed at such a pattern of the constraints at which another method is
+/// covered, and none that a pattern covers that is tried later. No difference between GET and HEAD at such a pattern is
+/// missed, no pattern that decides nothing, and none that no request reaches.
 pub fn findings_are_complete()
     ensures opened { OpenedIsFound }
     ensures uncovered { UncoveredIsFound }
@@ -37,6 +37,14 @@ pub fn findings_are_complete()
     ensures unreached { UnreachedIsFound }
 {
     best_is_a_match();
+}
+
+/// The best match of the path of a request decides something, so no finding on requests is lost with the patterns that
+/// decide nothing.
+pub fn best_patterns_decide()
+    ensures { BestDecides }
+{
+    canonical_has_shape();
 }
 
 /// Each path that a hidden pattern matches is protected. A target belongs to another context if its path within this one

@@ -8,9 +8,9 @@ mod findings;
 mod heads;
 mod laws;
 mod login_needs;
+mod met_rows;
 mod opened;
 mod reach;
-mod reached_rows;
 mod readings;
 mod role_findings;
 mod surroundings;
@@ -19,7 +19,10 @@ mod unserved;
 
 pub use finding::Finding;
 pub use findings::findings_of;
-pub use laws::{findings_are_complete, findings_are_right, limits_are_as_stated, reach_is_right};
+pub use laws::{
+    best_patterns_decide, findings_are_complete, findings_are_right, limits_are_as_stated,
+    reach_is_right,
+};
 pub use reach::{Reach, Reaches, reach_of};
 pub use surroundings::{LoginPage, Surroundings};
 pub use unserved::MAX_SERVED_PATTERNS;

@@ -38,6 +38,7 @@ body { margin: 0 auto; max-width: 72rem; padding: 1rem; color: var(--ink); backg
 h1 { font-size: 1.5rem; margin: 0.5rem 0; }
 h2 { font-size: 1.15rem; margin: 2rem 0 0.5rem; }
 small { color: var(--faint); font-weight: normal; }
+small, details { overflow-wrap: anywhere; }
 code { font: 0.92em ui-monospace, monospace; overflow-wrap: anywhere; }
 ul { list-style: none; margin: 0; padding: 0; }
 li { margin: 0.5rem 0; padding: 0.5rem 0.75rem; border-left: 4px solid var(--uncovered); background: var(--code);

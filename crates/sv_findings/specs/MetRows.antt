@@ -1,0 +1,17 @@
+-- The rows of an access table that requests meet (Jakarta Servlet 6.0, sections 10.5 and 12.1).
+use Rattle.std.specs.Prelude.{ℕ, Bool, false, not, ◌&&◌, List, Option}
+use Rattle.std.specs.Option.{option_map_or}
+use Rattle.sv_audit.specs.declared.rows.Row.{Row}
+use Rattle.sv_findings.specs.Dead.{decides_nothing}
+use Rattle.sv_findings.specs.Reach.{is_reached}
+
+-- Whether some requests may reach the pattern and have it as their best match, given whether `/*` is among the patterns.
+abbrev pub is_met : List (List ℕ) → List ℕ → Bool → List ℕ → Bool
+is_met contexts context has_prefix pattern = not (decides_nothing has_prefix pattern) && is_reached contexts context pattern
+
+-- Whether there is a pattern, and some requests may meet it.
+abbrev pub is_pattern_met : List (List ℕ) → List ℕ → Bool → Option (List ℕ) → Bool
+is_pattern_met contexts context has_prefix pattern = option_map_or (is_met contexts context has_prefix) pattern false
+
+abbrev pub is_row_met : List (List ℕ) → List ℕ → Bool → Row → Bool
+is_row_met contexts context has_prefix row = is_pattern_met contexts context has_prefix row.pattern

@@ -1,0 +1,59 @@
+//! The rows of an access table that requests meet.
+
+ghost use Rattle.std.specs.Prelude.{◌≡◌, IfOk, filter, map};
+ghost use Rattle.sv_text.specs.Gives.{GivesAnswer};
+ghost use Rattle.sv_findings.specs.MetRows as spec;
+
+use crate::dead::decides_nothing;
+use crate::reach::Reaches;
+use std::alloc::Global;
+use sv_audit::Row;
+use sv_text::{NoMemory, Text};
+
+/// Returns the rows of the patterns that some requests may reach and have as their best match, given whether `/*` is
+/// among the patterns.
+pub fn met_rows<'a>(
+    alloc: Global,
+    reaches: &Reaches<'_>,
+    has_prefix: bool,
+    rows: &'a [Row],
+) -> Result<Vec<&'a Row>, NoMemory>
+    ensures { IfOk result (λ met. map (λ row. row.now) met.items ≡ filter (spec.is_row_met reaches.now.0 reaches.now.1 has_prefix) rows.now) }
+{
+    let mut met = Vec::new(alloc);
+    for row in rows {
+        if is_pattern_met(alloc, reaches, has_prefix, &row.pattern)? {
+            met.push(row)?;
+        }
+    }
+    Ok(met)
+}
+
+fn is_pattern_met(
+    alloc: Global,
+    reaches: &Reaches<'_>,
+    has_prefix: bool,
+    pattern: &Option<Text>,
+) -> Result<bool, NoMemory>
+    ensures { GivesAnswer result (spec.is_pattern_met reaches.now.0 reaches.now.1 has_prefix pattern.now) }
+{
+    match pattern {
+        Some(pattern) => is_met(alloc, reaches, has_prefix, pattern.as_str()),
+        None => Ok(false),
+    }
+}
+
+fn is_met(
+    alloc: Global,
+    reaches: &Reaches<'_>,
+    has_prefix: bool,
+    pattern: &str,
+) -> Result<bool, NoMemory>
+    ensures { GivesAnswer result (spec.is_met reaches.now.0 reaches.now.1 has_prefix pattern.now) }
+{
+    if decides_nothing(has_prefix, pattern) {
+        Ok(false)
+    } else {
+        reaches.is_reached(alloc, pattern)
+    }
+}
