@@ -53,13 +53,17 @@ class Browser:
         """What a script of the page gives."""
         return self.ask("POST", "/execute/sync", {"script": script, "args": []})
 
+    def control(self, name, **parameters):
+        """Runs a command of the DevTools protocol."""
+        self.ask("POST", "/goog/cdp/execute", {"cmd": name, "params": parameters})
+
+    def faults(self):
+        """Returns the warnings and errors of the pages since the last call, as of scripts and files that are not there."""
+        return [it["message"] for it in self.ask("POST", "/se/log", {"type": "browser"})]
+
     def forget_files(self):
         """Keeps no file from one page to the next."""
-        self.ask(
-            "POST",
-            "/goog/cdp/execute",
-            {"cmd": "Network.setCacheDisabled", "params": {"cacheDisabled": True}},
-        )
+        self.control("Network.setCacheDisabled", cacheDisabled=True)
 
     def title(self):
         return self.ask("GET", "/title")

@@ -266,10 +266,10 @@ def taken(element: Element) -> Element:
     return dataclasses.replace(element, children=kept)
 
 
-def shortened(text: str) -> str:
-    """A text in quotes, on one line and no longer than can be read at once."""
+def shortened(text: str, most: int = 60) -> str:
+    """A text in quotes, on one line and with at most this many characters between the quotes."""
     words = " ".join(text.split())
-    return f'"{words}"' if len(words) <= 60 else f'"{words[:57]}..."'
+    return f'"{words}"' if len(words) <= most else f'"{words[: most - 3]}..."'
 
 
 def _named(element: Element, named_by: str) -> str:

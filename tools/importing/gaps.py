@@ -7,7 +7,7 @@ import re
 from typing import Iterator, NamedTuple
 
 from .elements import shortened
-from .limits import is_name
+from .role_names import imported_role
 from .told import Rank, Told
 from .tree import Element
 from .words import Table
@@ -76,11 +76,10 @@ def tell_readings(root: Element, constraints: list[Table], told: Told) -> None:
 
 def _tell_undeclared_roles(root: Element, told: Told) -> None:
     constraints = [element.first("auth-constraint") for element in root.all("security-constraint")]
-    named = [list(element.all("role-name")) for element in constraints if element is not None]
-    roles = {role.text for elements in named for role in elements if is_name(role.text)}
-    undeclared = roles - {"*", "**"} - {it.text_of("role-name") for it in root.all("security-role")}
-    for elements in named:
-        lines = {role.text: role.line for role in elements}
+    named = [_roles_of(element) for element in constraints if element is not None]
+    declared = [_roles_of(element) for element in root.all("security-role")]
+    undeclared = {role for lines in named for role in lines}.difference({"*", "**"}, *declared)
+    for lines in named:
         others = sorted(undeclared - lines.keys()) if "*" in lines and "**" not in lines else []
         if others:
             told.tell(
@@ -88,6 +87,11 @@ def _tell_undeclared_roles(root: Element, told: Told) -> None:
                 lines["*"],
                 f"role-name * is for the declared roles; Tomcat also admits {', '.join(others)}, which other constraints name",
             )
+
+
+def _roles_of(element: Element) -> dict[str, int]:
+    """The roles that an element names, each with a line."""
+    return {imported_role(role.text): role.line for role in element.all("role-name")}
 
 
 def _patterns_of(root: Element) -> Iterator[Element]:

@@ -7,14 +7,13 @@ from .elements import shortened
 from .gaps import tell_readings
 from .limits import (
     MAX_METHOD_BYTES,
-    MAX_NAME_BYTES,
     MAX_PATTERNS_OF_CONSTRAINT,
     is_location,
-    is_name,
     is_token,
     size,
 )
 from .patterns import is_pattern_told
+from .role_names import imported_role, renaming, shown_role
 from .told import Rank, Told
 from .tree import Element
 from .words import Table, words
@@ -54,8 +53,7 @@ def constraints(root: Element, told: Told) -> list[Located]:
                 )
             parts = [[{"url-pattern": [NO_PATH]}]]
         first, *others = [
-            Located({"web-resource-collection": list(part), **rest}, element.line)
-            for part in parts
+            Located({"web-resource-collection": list(part), **rest}, element.line) for part in parts
         ]
         found.append(first)
         behind += [(number, other) for other in others]
@@ -162,19 +160,22 @@ def _authorization(element: Element, told: Told) -> Table:
     constraint = element.first("auth-constraint")
     if constraint is None:
         return {}
-    roles: list[str] = []
-    for child in constraint.all("role-name"):
-        if is_name(child.text):
-            roles.append(child.text)
-        else:
-            told.tell(
-                Rank.SECURITY,
-                child.line,
-                f"role-name {shortened(child.text)} is no name of 1 to {MAX_NAME_BYTES} bytes: nobody has this role",
-            )
+    roles = [_role_told(child, child.text, told) for child in constraint.all("role-name")]
     return {
         "auth-constraint": {**({"role-name": list(roles)} if roles else {}), **words(constraint)}
     }
+
+
+def _role_told(element: Element, name: str, told: Told) -> str:
+    """The name under which the role that an element names is imported. Reports a new name."""
+    renamed = renaming(name)
+    if renamed:
+        told.tell(
+            Rank.SECURITY,
+            element.line,
+            f"{element.name} {shown_role(name)} {renamed}, which tools/new-user can give to a user",
+        )
+    return imported_role(name)
 
 
 def _transport(element: Element, told: Told) -> Table:
@@ -211,22 +212,24 @@ def roles(root: Element, told: Told) -> list[Located]:
     found: list[Located] = []
     seen: set[str] = set()
     for element in root.all("security-role"):
-        name = element.text_of("role-name")
-        if name in RESERVED_ROLES:
+        named = element.first("role-name")
+        if named is None:
             told.tell(
                 Rank.SECURITY,
                 element.line,
-                f"security-role {name} has a meaning of its own in a constraint, and cannot be declared",
+                "a security-role has no role-name, and so declares nothing",
             )
-        elif not is_name(name):
+        elif named.text in RESERVED_ROLES:
             told.tell(
                 Rank.SECURITY,
                 element.line,
-                f"security-role {shortened(name)} is no name of 1 to {MAX_NAME_BYTES} bytes, and is not declared",
+                f"security-role {named.text} has a meaning of its own in a constraint, and cannot be declared",
             )
-        elif name in seen:
-            told.tell(Rank.IGNORED, element.line, f"security-role {name} is declared again")
         else:
+            name = _role_told(element, named.text, told)
+            if name in seen:
+                told.tell(Rank.IGNORED, element.line, f"security-role {name} is declared again")
+                continue
             seen.add(name)
             found.append(Located({"role-name": name, **words(element)}, element.line))
     return found

@@ -8,6 +8,7 @@ import re
 from . import toml, tree
 from .elements import shortened
 from .limits import MAX_LIST_ITEMS, MAX_NAME_BYTES, is_name
+from .role_names import imported_role, renaming, shown_role
 from .told import Rank, Told
 from .tree import Element
 
@@ -142,19 +143,21 @@ def _user(element: Element, groups: dict[str, list[str]], told: Told) -> User | 
                 f"user {shortened(name)} is in the group {shortened(group)}, which does not exist",
             )
         names += groups.get(group, [])
-    roles = [role for role in dict.fromkeys(names) if _is_role_told(element, name, role, told)]
+    roles = [_role_told(element, name, role, told) for role in dict.fromkeys(names)]
     salt, digest = _credentials(element, name, told)
     return User(name, salt, digest, roles)
 
 
-def _is_role_told(element: Element, name: str, role: str, told: Told) -> bool:
-    if not is_name(role):
+def _role_told(element: Element, user: str, role: str, told: Told) -> str:
+    """The name under which a user's role is imported. Reports a new name."""
+    renamed = renaming(role)
+    if renamed:
         told.tell(
             Rank.SECURITY,
             element.line,
-            f"user {shortened(name)} has the role {shortened(role)}, which is no name of 1 to {MAX_NAME_BYTES} bytes: it is not read",
+            f"user {shortened(user)} has the role {shown_role(role)}, which {renamed}",
         )
-    return is_name(role)
+    return imported_role(role)
 
 
 def _credentials(element: Element, name: str, told: Told) -> tuple[str, str]:

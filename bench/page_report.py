@@ -1,0 +1,143 @@
+"""What the page of an audit should show, by its JSON report and docs/COMMANDS.md."""
+
+MAX_ROWS, MAX_FINDINGS = 2000, 2000
+# Who enters, by what a group has as `because`, and the kind of its cell.
+WHO = {
+    "open": ("everyone", "open"),
+    "no-constraint": ("everyone (no constraint)", "open"),
+    "uncovered": ("everyone (uncovered)", "uncovered"),
+    "login": ("any login", "login"),
+    "role": ("role {}", "login"),
+    "transport": ("needs TLS", "tls"),
+    "precluded": ("nobody (no role is allowed)", "nobody"),
+    "no-role": ("nobody (no such role)", "nobody"),
+    "no-login": ("nobody (no login)", "nobody"),
+    "uncovered-denied": ("nobody (uncovered, denied)", "nobody"),
+}
+FINDINGS = (
+    "opened",
+    "uncovered",
+    "read-otherwise",
+    "head-differs",
+    "dead",
+    "dead-pattern",
+    "unreached",
+    "unserved",
+    "escaped",
+    "login-needs",
+    "unknown-role",
+    "unheld-role",
+    "unused-role",
+)
+# What names a finding, by the first of its members that is there.
+SUBJECTS = "pattern", "role", "path", "constraint"
+
+
+def shown(text):
+    """A text as reports show it: control characters are visible, and backslashes double."""
+    return "".join(
+        "\\\\"
+        if it == "\\"
+        else f"\\x{ord(it):02x}"
+        if ord(it) < 32 or 127 <= ord(it) < 160
+        else it
+        for it in text
+    )
+
+
+def methods_of(group):
+    names = ", ".join(map(shown, group["methods"]))
+    return names if not group["others"] else "others" if names else "all"
+
+
+def entry_of(group):
+    """Who may enter or, for a viewer, whether the viewer may."""
+    who = WHO[group["because"]][0].format(", ".join(map(shown, group["roles"])))
+    if group["viewerEnters"] is None:
+        return who
+    why = who[len("nobody (") : -1] if who.startswith("nobody (") else who
+    return "yes" if group["viewerEnters"] else f"no ({why})"
+
+
+def cell_of(group):
+    """The cell of a group: its kind, its methods, what it shows, and how its explanation ends."""
+    methods, line = methods_of(group), group["line"]
+    number = "-" if group["constraint"] is None else str(group["constraint"])
+    ending = f" Constraint: {number}{'' if line is None else f', line {line}'}."
+    return WHO[group["because"]][1], methods, f"{methods} {entry_of(group)}", ending
+
+
+def fixed_cell(kind, methods, who):
+    return kind, methods, f"{methods} {who}", "."
+
+
+def hidden_cell(context):
+    return fixed_cell("hidden", "all", "no (hidden)" if context["viewer"] else "nobody (hidden)")
+
+
+def cells_of(context, row):
+    """The cells of a row."""
+    if row["reach"] == "hidden":
+        return [hidden_cell(context)]
+    if row["reach"] == "elsewhere":
+        return [fixed_cell("hidden", "all", f"context {shown(row['context'])}")]
+    return [cell_of(it) for it in row["groups"]]
+
+
+def pattern_of(row):
+    return "other paths" if row["pattern"] is None else shown(row["pattern"]) or '""'
+
+
+def answers_of(row):
+    """What answers the paths of a row, or its example if that is not listed."""
+    if row["reach"] != "reached":
+        return ""
+    if row["answers"] is None:
+        servlet = row["servlet"]
+        by = "files" if servlet is None else f"servlet {shown(servlet)}"
+        return "" if row["example"] is None else f"{by}, .."
+    names = [f"servlet {shown(it)}" for it in row["answers"]["servlets"]]
+    return ", ".join(names + ["files"] * row["answers"]["files"])
+
+
+def paths_of(row):
+    """The example of a row, and the patterns that are chosen before it."""
+    if row["reach"] != "reached":
+        return ""
+    parts = [] if row["example"] is None else [f"such as {row['example']}"]
+    narrower = [shown(it) or '""' for it in row["narrower"]]
+    if narrower:
+        parts.append("except " + ", ".join(narrower + [".."] * (not row["narrowerComplete"])))
+    return "; ".join(parts)
+
+
+def rows_of(context):
+    """The rows of a table: the pattern, the paths, what answers them, and the cells."""
+    for row in context["rows"][:MAX_ROWS]:
+        yield pattern_of(row), paths_of(row), answers_of(row), cells_of(context, row)
+    yield ", ".join(context["hidden"]), "", "", [hidden_cell(context)]
+    if context["loginPost"]:
+        yield "*/j_security_check", "", "", [fixed_cell("post", "POST", "login post")]
+    # Their paths are within the context, as patterns are.
+    own = context["context"].rstrip("/")
+    for other in context["otherContexts"]:
+        yield f"{other}/*", "", "", [fixed_cell("hidden", "all", f"context {shown(own + other)}")]
+
+
+def notes_of(context):
+    """The notes below a table."""
+    count = len(context["rows"])
+    return [f"Only the first 2,000 of {count} rows are shown."] if count > MAX_ROWS else []
+
+
+def findings_of(context):
+    """The findings: the class, and what the text has."""
+    path, findings = context["context"], context["findings"]
+    for it in findings[:MAX_FINDINGS]:
+        subject = next(it[name] for name in SUBJECTS if it.get(name) is not None)
+        words = [shown(subject) or '""' if isinstance(subject, str) else str(subject)]
+        if it["line"] is not None:
+            words.append(f" ({shown(context['file'])}:{it['line']})")
+        yield "accepted" if it["accepted"] else "finding", path, words
+    if len(findings) > MAX_FINDINGS:
+        yield "", path, [f"Only the first 2,000 of {len(findings)} findings of {path} are listed."]
