@@ -1,13 +1,7 @@
 -- The parts of a page.
-use Rattle.std.proofs.Common.{◌≡◌, ℕ, List, [], ◌∷◌, ◌∙◌, codes, refl, Result, Ok, Err}
-use Rattle.sv_text.specs.Gives.{GivesAnswer}
-use Rattle.sv_text.specs.declared.no_memory.NoMemory.{NoMemory}
+use Rattle.std.proofs.Common.{◌≡◌, ℕ, List, [], ◌∷◌, codes, refl}
 use Rattle.sv_page.specs.HtmlCells.{cell_html}
 use Rattle.sv_report.specs.Parts.{joined}
-
-pub given : (result : Result (List ℕ) NoMemory) (x y : List ℕ) → x ≡ y → GivesAnswer result x → GivesAnswer result y
-given (Ok a) x y e h = h ∙ e
-given (Err fault) x y e h = tt
 
 pub same_cell : (a b c d e f g h : List ℕ) → a ≡ e → b ≡ f → c ≡ g → d ≡ h → cell_html a b c d ≡ cell_html e f g h
 same_cell a b c d e f g h p q r s = rw p (rw q (rw r (rw s refl)))

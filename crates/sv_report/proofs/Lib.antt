@@ -1,3 +1,4 @@
 pub mod JsonLemmas
 pub mod JsonTexts
 pub mod FoldedLemmas
+pub mod Given

@@ -1,6 +1,7 @@
 use Rattle.std.proofs.Common.{◌∙◌}
 use Rattle.sv_page.specs.HtmlCells.{group_html}
-use Rattle.sv_page.proofs.HtmlLemmas.{given, same_cell}
+use Rattle.sv_page.proofs.HtmlLemmas.{same_cell}
+use Rattle.sv_report.proofs.Given.{given}
 use Rattle.sv_page.proofs.html_cells.group_html.Goals as goal
 
 pub returns : goal.returns

@@ -1,7 +1,7 @@
 use Rattle.std.proofs.Common.{ap₂, codes, [], ◌∷◌, ◌∙◌}
 use Rattle.sv_page.specs.HtmlTables.{heading_of}
 use Rattle.sv_report.specs.Parts.{joined}
-use Rattle.sv_page.proofs.HtmlLemmas.{given}
+use Rattle.sv_report.proofs.Given.{given}
 use Rattle.sv_page.proofs.html_tables.heading_of.Goals as goal
 
 pub returns : goal.returns

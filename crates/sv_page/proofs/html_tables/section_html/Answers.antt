@@ -1,6 +1,7 @@
 use Rattle.std.proofs.Common.{ap, length, ◌∙◌}
 use Rattle.sv_page.specs.HtmlTables.{note_html, section_html}
-use Rattle.sv_page.proofs.HtmlLemmas.{given, same_section}
+use Rattle.sv_page.proofs.HtmlLemmas.{same_section}
+use Rattle.sv_report.proofs.Given.{given}
 use Rattle.sv_page.proofs.html_tables.section_html.Goals as goal
 
 pub returns : goal.returns

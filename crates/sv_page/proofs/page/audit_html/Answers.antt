@@ -2,7 +2,7 @@ use Rattle.std.proofs.Common.{ap, ap₂, codes, [], ◌∷◌, ◌∙◌}
 use Rattle.sv_page.specs.Page.{list_html}
 use Rattle.sv_report.specs.Parts.{joined}
 use Rattle.sv_page.specs.declared.page.TheConstants.{PAGE_START}
-use Rattle.sv_page.proofs.HtmlLemmas.{given}
+use Rattle.sv_report.proofs.Given.{given}
 use Rattle.sv_page.proofs.page.audit_html.Goals as goal
 
 pub returns : goal.returns
