@@ -1,11 +1,13 @@
 -- What two configurations of a server decide differently (Jakarta Servlet 6.0, section 13.8).
-use Rattle.std.specs.Prelude.{ℕ, Bool, List, map, codes, is_some, Option, None, Some, Ok, if◌then◌else◌}
+use Rattle.std.specs.Prelude.{ℕ, ◌+◌, ◌-◌, ◌^◌, Bool, ◌||◌, List, map, codes, is_none, is_some, min, Option, None, Some, Ok, if◌then◌else◌}
+use Rattle.std.specs.List.{count_by}
 use Rattle.sv_text.specs.Steps.{◌>>=◌}
 use Rattle.sv_descriptor.specs.declared.web_app.WebApp.{WebApp}
 use Rattle.sv_difference.specs.DifferenceJson.{difference_json}
 use Rattle.sv_difference.specs.DifferenceText.{difference_text}
 use Rattle.sv_difference.specs.ServerDifference.{server_difference}
 use Rattle.sv_difference.specs.declared.contexts.ComparedContext.{ComparedContext}
+use Rattle.sv_difference.specs.declared.contexts.ContextDifference.{ContextDifference}
 use Rattle.sv_difference.specs.declared.contexts.ServerDifference.{ServerDifference}
 use Rattle.sv_program.specs.Configuration.{Step, descriptor_in, each, server_in, users_in}
 use Rattle.sv_program.specs.declared.configuration.ContextTexts.{ContextTexts}
@@ -62,9 +64,18 @@ written format.Json found = difference_json found
 written format.Html found = difference_text found
 written format.Keys found = difference_text found
 
--- The number of the opened differences, if the kinds list `opened`; none are asked for without kinds.
+-- Whether only one of the servers has the context. In the other one, another context serves its requests, or none does
+-- (section 12.1), so visitors may enter there who did not before.
+abbrev pub is_of_one : ContextDifference → Bool
+is_of_one context = is_none context.before || is_none context.after
+
+-- The number of the opened differences, and of the contexts that only one of the servers has.
+abbrev pub opened_or_of_one : ServerDifference → ℕ
+opened_or_of_one found = min (found.opened + count_by is_of_one found.contexts) (2 ^ 64 - 1)
+
+-- That number, if the kinds list `opened`; none are asked for without kinds.
 abbrev pub opened_among : List ℕ → ServerDifference → ℕ
-opened_among kinds found = if lists_kind kinds (codes "opened") then found.opened else 0
+opened_among kinds found = if lists_kind kinds (codes "opened") then opened_or_of_one found else 0
 
 abbrev pub opened_count : Option (List ℕ) → ServerDifference → ℕ
 opened_count None found = 0

@@ -1,6 +1,7 @@
 //! What two configurations of a server decide differently.
 
 ghost use Rattle.std.specs.Prelude.{◌≡◌, map, option_copied};
+ghost use Rattle.std.specs.List.{count_by};
 ghost use Rattle.sv_text.specs.Gives.{Gives, GivesAnswer};
 ghost use Rattle.sv_program.specs.CommandFault.{command_fault};
 ghost use Rattle.sv_program.specs.Configuration.{each};
@@ -13,7 +14,8 @@ use std::alloc::Global;
 use sv_audited_contexts::{AuditedContext, constraints_over};
 use sv_descriptor::WebApp;
 use sv_difference::{
-    ComparedContext, ServerDifference, difference_json, difference_text, server_difference,
+    ComparedContext, ContextDifference, ServerDifference, difference_json, difference_text,
+    server_difference,
 };
 use sv_program::{CommandFault, ContextTexts, descriptor_in, realm_in, server_in};
 use sv_text::{Listed, NoMemory, Text};
@@ -145,7 +147,8 @@ pub(crate) fn written(
     }
 }
 
-/// Returns the number of the opened differences, if the kinds list `opened`.
+/// Returns the number of the opened differences and of the contexts that only one server has, if the kinds list
+/// `opened`.
 pub(crate) fn opened_count(kinds: Option<&str>, found: &ServerDifference) -> u64
     ensures { result ≡ spec.opened_count (option_copied kinds.entry) found.now }
 {
@@ -159,8 +162,27 @@ fn opened_among(kinds: &str, found: &ServerDifference) -> u64
     ensures { result ≡ spec.opened_among kinds.now found.now }
 {
     if lists_kind(kinds, "opened") {
-        found.opened as u64
+        opened_or_of_one(found)
     } else {
         0
     }
+}
+
+fn opened_or_of_one(found: &ServerDifference) -> u64
+    ensures { result ≡ spec.opened_or_of_one found.now }
+{
+    (found.opened as u64).saturating_add(count_of_one(found.contexts.as_slice()) as u64)
+}
+
+/// Returns how many of the contexts only one of the servers has.
+fn count_of_one(contexts: &[ContextDifference]) -> usize
+    ensures { result ≡ count_by spec.is_of_one contexts.now }
+{
+    contexts.iter().filter(|context| is_of_one(context)).count()
+}
+
+fn is_of_one(context: &ContextDifference) -> bool
+    ensures { result ≡ spec.is_of_one context.now }
+{
+    context.before.is_none() || context.after.is_none()
 }
