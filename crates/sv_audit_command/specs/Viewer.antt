@@ -2,6 +2,8 @@
 use Rattle.std.specs.Prelude.{ℕ, List, [], ◌∷◌, ◌++◌, codes, Option, None, Some, Ok, Err, is_some, if◌then◌else◌}
 use Rattle.std.specs.List.{list_any}
 use Rattle.std.specs.Option.{option_map}
+use Rattle.sv_explanation.specs.declared.site_context.AskedCaller.{AskedCaller}
+use Rattle.sv_explanation.specs.declared.site_context.AskedCaller.TheVariants as callers
 use Rattle.sv_program.specs.Configuration.{Step}
 use Rattle.sv_program.specs.Shown.{quoted}
 use Rattle.sv_program.specs.declared.command_fault.CommandFault.TheVariants as fault
@@ -40,8 +42,13 @@ viewer_in (Some (asked.Role role)) users = Some (role_viewer role.now)
 abbrev pub role_caller : List ℕ → Caller
 role_caller role = record { number = 0; name = codes "role " ++ role; roles = role ∷ [] }
 
--- The caller of a request in a context with these users.
-abbrev pub caller_in : Option Asked → List User → Option Caller
-caller_in None users = None
-caller_in (Some (asked.User name)) users = caller_named users name.now
-caller_in (Some (asked.Role role)) users = Some (role_caller role.now)
+-- The user of this name, which the context may not have.
+abbrev pub user_caller : List ℕ → Option Caller → AskedCaller
+user_caller name None = callers.Unknown name
+user_caller name (Some caller) = callers.Known caller
+
+-- The caller that is asked for, in a context with these users.
+abbrev pub caller_in : Option Asked → List User → AskedCaller
+caller_in None users = callers.Nobody
+caller_in (Some (asked.User name)) users = user_caller name.now (caller_named users name.now)
+caller_in (Some (asked.Role role)) users = callers.Known (role_caller role.now)

@@ -18,7 +18,7 @@ use sv_program::{CommandFault, quoted};
 use sv_report::folded;
 use sv_text::{Listed, NoMemory, Text};
 
-/// Explains the request with this target, of the caller whose access is asked for.
+/// Explains the request with this target, by the caller that is asked for.
 ///
 /// # Errors
 /// [`CommandFault::Method`] if the method is not a token, or [`CommandFault::NoMemory`].

@@ -10,6 +10,7 @@ ghost use Rattle.sv_audit_command.specs.Viewer as spec;
 use crate::access_options::Asked;
 use std::alloc::Global;
 use sv_audited_contexts::AuditedContext;
+use sv_explanation::AskedCaller;
 use sv_program::{CommandFault, quoted};
 use sv_realm::{Caller, Realm};
 use sv_report::Viewer;
@@ -94,27 +95,28 @@ fn role_viewer(alloc: Global, role: &str) -> Result<Viewer, NoMemory>
     })
 }
 
-/// Returns the caller of a request in a context with these users. There is none if the context does not have the user.
+/// Returns the caller that is asked for, in a context with these users.
 pub(crate) fn caller_in(
     alloc: Global,
     asked: Option<Asked<'_>>,
     realm: &Realm,
-) -> Result<Option<Caller>, NoMemory>
+) -> Result<AskedCaller, NoMemory>
     ensures { GivesAnswer result (spec.caller_in asked.entry realm.now) }
 {
     match asked {
-        Some(Asked::User(name)) => user_caller(alloc, realm.find(name)),
-        Some(Asked::Role(role)) => Ok(Some(role_caller(alloc, role)?)),
-        None => Ok(None),
+        Some(Asked::User(name)) => user_caller(alloc, name, realm.find(name)),
+        Some(Asked::Role(role)) => Ok(AskedCaller::Known(role_caller(alloc, role)?)),
+        None => Ok(AskedCaller::Nobody),
     }
 }
 
-fn user_caller(alloc: Global, caller: Option<&Caller>) -> Result<Option<Caller>, NoMemory>
-    ensures { GivesAnswer result (option_copied caller.entry) }
+/// Returns the user of this name, which the context may not have.
+fn user_caller(alloc: Global, name: &str, caller: Option<&Caller>) -> Result<AskedCaller, NoMemory>
+    ensures { GivesAnswer result (spec.user_caller name.now (option_copied caller.entry)) }
 {
     match caller {
-        Some(caller) => Ok(Some(Caller::copy_of(alloc, caller)?)),
-        None => Ok(None),
+        Some(caller) => Ok(AskedCaller::Known(Caller::copy_of(alloc, caller)?)),
+        None => Ok(AskedCaller::Unknown(Text::copy_of(alloc, name)?)),
     }
 }
 

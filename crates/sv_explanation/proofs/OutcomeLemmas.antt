@@ -12,12 +12,15 @@ use Rattle.sv_descriptor.specs.declared.web_app.WebApp.{WebApp}
 use Rattle.sv_login.specs.Outcome.{login_outcome, outcome, verdict_outcome}
 use Rattle.sv_login.specs.declared.step.LoginOutcome.TheVariants.{NotLogin}
 use Rattle.sv_mapping.specs.Protected.{is_protected}
+use Rattle.sv_explanation.specs.Callers.{caller_by, caller_of}
 use Rattle.sv_explanation.specs.Laws.{findings, is_login_post, outcome_by, outcome_named}
 use Rattle.sv_explanation.specs.Treatment.{answer, by_login, error_page, is_post, judged, login_answer, treatment}
 use Rattle.sv_explanation.specs.declared.explanation.JudgedRequest.{JudgedRequest}
 use Rattle.sv_explanation.specs.declared.explanation.LoginAnswers.{LoginAnswers}
 use Rattle.sv_explanation.specs.declared.explanation.Treatment.{Treatment}
 use Rattle.sv_explanation.specs.declared.explanation.Treatment.TheVariants.{Hidden, LoginPost, Judged}
+use Rattle.sv_explanation.specs.declared.site_context.AskedCaller.{AskedCaller}
+use Rattle.sv_explanation.specs.declared.site_context.AskedCaller.TheVariants as asked
 use Rattle.sv_explanation.specs.declared.site_context.SiteContext.{SiteContext}
 use Rattle.sv_explanation.specs.declared.statuses.TheConstants.{NOT_FOUND}
 
@@ -41,6 +44,13 @@ verdict_decides : (login : Option FormLogin) (decided : OwnedDecision)
 verdict_decides None decided = refl
 verdict_decides (Some pages) decided = refl
 
+-- If nobody can log in, there is no caller.
+pub no_caller : (can_log_in : Bool) (caller : AskedCaller) → can_log_in ≡ false → caller_by can_log_in caller ≡ None
+no_caller can_log_in asked.Nobody is = refl
+no_caller true (asked.Known caller) is = cc
+no_caller false (asked.Known caller) is = refl
+no_caller can_log_in (asked.Unknown name) is = refl
+
 no_post : (b : Bool) (its_answers : LoginAnswers) (request : JudgedRequest) → b ≡ false → cond b (LoginPost its_answers) (Judged request) ≡ Judged request
 no_post true its_answers request is = cc
 no_post false its_answers request is = refl
@@ -61,7 +71,7 @@ shown false page treated login decided is = is ∙ ap Some (verdict_decides logi
 pub outcomes : (context : SiteContext) (method path : List ℕ) → (is_some context.descriptor.login && is_post method path) ≡ false
     → outcome_named (treatment context method path) ≡ Some (outcome (findings context method path))
 outcomes context method path is =
-    let decided = verdict context.constraints context.descriptor.rules method path context.caller in
+    let decided = verdict context.constraints context.descriptor.rules method path (caller_of context) in
     shown (is_protected path) (error_page context.descriptor NOT_FOUND) (by_login context method path context.descriptor.login) context.descriptor.login decided
     (ap outcome_named (is_judged context method path context.descriptor.login is) ∙ ap Some (answer_named context.descriptor method path decided))
 

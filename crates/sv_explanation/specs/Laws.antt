@@ -13,6 +13,7 @@ use Rattle.sv_login.specs.declared.outcome.Outcome.TheVariants as outcomes
 use Rattle.sv_login.specs.declared.step.LoginOutcome.TheVariants.{NotLogin}
 use Rattle.sv_mapping.specs.BestMatch.{best_pattern}
 use Rattle.sv_mapping.specs.Protected.{is_protected}
+use Rattle.sv_explanation.specs.Callers.{caller_of, can_log_in}
 use Rattle.sv_explanation.specs.Listed.{listed_constraint}
 use Rattle.sv_explanation.specs.Treatment.{judged, treatment}
 use Rattle.sv_explanation.specs.declared.explanation.Answer.{Answer}
@@ -45,7 +46,7 @@ abbrev pub findings : SiteContext → List ℕ → List ℕ → Findings
 findings context method path = record {
   is_protected = is_protected path;
   login = option_map (λ pages. NotLogin) context.descriptor.login;
-  verdict = verdict context.constraints context.descriptor.rules method path context.caller;
+  verdict = verdict context.constraints context.descriptor.rules method path (caller_of context);
 }
 
 -- Whether a message is a login post, whatever its body, and its context has form login.
@@ -57,6 +58,12 @@ abbrev pub OutcomesAreTheServers : Type 0
 OutcomesAreTheServers = (context : SiteContext) (method path : List ℕ) (content_type : Option (List ℕ)) (body : List ℕ)
     → takes_login context method path content_type body ≡ false
     → outcome_named (treatment context method path) ≡ Some (outcome (findings context method path))
+
+-- If nobody can log in, the constraints decide as on a request without a caller.
+abbrev pub CallersCanLogIn : Type 0
+CallersCanLogIn = (context : SiteContext) (method path : List ℕ)
+    → can_log_in context ≡ false
+    → (judged context method path).decision ≡ verdict context.constraints context.descriptor.rules method path None
 
 -- A message is explained as a login post exactly if it is one, its context has form login, and its path is not hidden.
 abbrev pub LoginPostsAreExplained : Type 0

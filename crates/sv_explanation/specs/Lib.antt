@@ -1,3 +1,4 @@
+pub mod Callers
 pub mod Listed
 pub mod Servlets
 pub mod Treatment

@@ -13,6 +13,8 @@ use Rattle.sv_report.specs.Escaped.{escaped}
 use Rattle.sv_report.specs.Parts.{joined}
 use Rattle.sv_report.specs.Places.{place_text}
 use Rattle.sv_report.specs.Words.{names_text, pattern_text}
+use Rattle.sv_explanation.specs.declared.explanation.JudgedCaller.{JudgedCaller}
+use Rattle.sv_explanation.specs.declared.explanation.JudgedCaller.TheVariants as callers
 use Rattle.sv_explanation.specs.declared.listed_constraint.Entrants.{Entrants}
 use Rattle.sv_explanation.specs.declared.listed_constraint.Entrants.TheVariants.{Everyone, AnyLogin, WithRole, Nobody}
 use Rattle.sv_explanation.specs.declared.listed_constraint.ListedConstraint.{ListedConstraint}
@@ -47,9 +49,18 @@ abbrev pub pattern_line : Option (List ℕ) → List ℕ
 pattern_line None = codes "No pattern of a constraint matches it.\n"
 pattern_line (Some pattern) = joined (codes "Its best matching pattern is " ∷ pattern_text (Some pattern) ∷ codes ".\n" ∷ [])
 
-abbrev pub caller_text : Option (List ℕ) → List ℕ
-caller_text None = codes "the caller"
-caller_text (Some name) = escaped name
+-- Why the request has no caller, if one is asked for.
+abbrev pub caller_line : JudgedCaller → List ℕ
+caller_line callers.Nobody = []
+caller_line (callers.Named name) = []
+caller_line (callers.NoSuchUser name) = joined (codes "The context has no user " ∷ escaped name ∷ codes ", so the request has no caller.\n" ∷ [])
+caller_line (callers.NoLogin name) = joined (escaped name ∷ codes " cannot log in: the context has no login configuration.\n" ∷ [])
+
+abbrev pub caller_text : JudgedCaller → List ℕ
+caller_text callers.Nobody = codes "the caller"
+caller_text (callers.Named name) = escaped name
+caller_text (callers.NoSuchUser name) = codes "the caller"
+caller_text (callers.NoLogin name) = codes "the caller"
 
 -- An uncovered request passes, or is denied.
 abbrev pub uncovered_text : OwnedDecision → List ℕ
@@ -65,11 +76,11 @@ abbrev pub decides : Option ℕ → List ℕ → List ℕ
 decides number what = joined (codes "Constraint " ∷ option_map_or decimal number (codes "-") ∷ codes " decides: " ∷ what ∷ codes ".\n" ∷ [])
 
 -- What it decides for the caller.
-abbrev pub decides_on : Option ℕ → Option (List ℕ) → List ℕ → List ℕ
+abbrev pub decides_on : Option ℕ → JudgedCaller → List ℕ → List ℕ
 decides_on number caller what = decides number (joined (caller_text caller ∷ what ∷ []))
 
 -- The reason of the decision, by its cause.
-abbrev pub reason_by : List ℕ → Option (List ℕ) → OwnedDecision → OwnedWhy → Cause → List ℕ
+abbrev pub reason_by : List ℕ → JudgedCaller → OwnedDecision → OwnedWhy → Cause → List ℕ
 reason_by method caller decision why causes.NoPattern = codes "Everyone may enter.\n"
 reason_by method caller decision why causes.Uncovered = uncovered_line method decision
 reason_by method caller decision why causes.Precluded = decides why.number (codes "nobody may enter")
@@ -79,5 +90,5 @@ reason_by method caller decision why causes.NeedsCaller = decides why.number (co
 reason_by method caller decision why causes.Role = decides_on why.number caller (codes " may enter")
 reason_by method caller decision why causes.NoRole = decides_on why.number caller (codes " has none of the roles")
 
-abbrev pub reason_line : List ℕ → Option (List ℕ) → OwnedDecision → List ℕ
+abbrev pub reason_line : List ℕ → JudgedCaller → OwnedDecision → List ℕ
 reason_line method caller decision = reason_by method caller decision (why_of decision) (why_of decision).cause

@@ -8,7 +8,7 @@ use Rattle.sv_uri.specs.ContextPath.{shown_context}
 use Rattle.sv_uri.specs.Fault as paths
 use Rattle.sv_wire.specs.WireFault.{fault_name, fault_status}
 use Rattle.sv_explanation.specs.AnswerLines.{answer_lines, error_line, login_lines}
-use Rattle.sv_explanation.specs.ReasonLines.{constraint_lines, pattern_line, reason_line}
+use Rattle.sv_explanation.specs.ReasonLines.{caller_line, constraint_lines, pattern_line, reason_line}
 use Rattle.sv_explanation.specs.declared.explanation.Explanation.{Explanation}
 use Rattle.sv_explanation.specs.declared.explanation.Explanation.TheVariants.{Unread, OfServer, BadPath, NoContext, InContext}
 use Rattle.sv_explanation.specs.declared.explanation.JudgedRequest.{JudgedRequest}
@@ -17,10 +17,11 @@ use Rattle.sv_explanation.specs.declared.explanation.Treatment.{Treatment}
 use Rattle.sv_explanation.specs.declared.explanation.Treatment.TheVariants.{Hidden, LoginPost, Judged}
 use Rattle.sv_explanation.specs.declared.statuses.TheConstants.{NOT_FOUND}
 
--- A request that the constraints decide: the best pattern, the constraints on it, the reason and the answer.
+-- A request that the constraints decide: the caller if there is none that is asked for, the best pattern, the constraints on it, the reason and the answer.
 abbrev pub judged_lines : List ℕ → List ℕ → JudgedRequest → List ℕ
 judged_lines file method request = joined (
-    pattern_line (why_of request.decision).pattern
+    caller_line request.caller
+    ∷ pattern_line (why_of request.decision).pattern
     ∷ constraint_lines file method request.constraints
     ∷ reason_line method request.caller request.decision
     ∷ answer_lines request.answer ∷ [])

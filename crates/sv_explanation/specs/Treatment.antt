@@ -1,7 +1,6 @@
 -- What the server does with a request in its context, and why (Jakarta Servlet 6.0, sections 10.5, 10.9, 13.6.3 and
 -- 13.8).
 use Rattle.std.specs.Prelude.{ℕ, Bool, ◌++◌, List, [], Option, None, Some, codes, bytes_eq, if◌then◌else◌}
-use Rattle.std.specs.Option.{option_map}
 use Rattle.sv_constraints.specs.Decision.{why_of}
 use Rattle.sv_constraints.specs.Verdict.{verdict}
 use Rattle.sv_constraints.specs.declared.owned_decision.OwnedDecision.{OwnedDecision}
@@ -12,6 +11,7 @@ use Rattle.sv_error_pages.specs.Choice.{page_for}
 use Rattle.sv_login.specs.Post.{is_login, post_of}
 use Rattle.sv_mapping.specs.Protected.{is_protected}
 use Rattle.sv_uri.specs.LocationField.{location}
+use Rattle.sv_explanation.specs.Callers.{caller_of, judged_caller}
 use Rattle.sv_explanation.specs.Listed.{listed_on}
 use Rattle.sv_explanation.specs.Servlets.{servlet_at}
 use Rattle.sv_explanation.specs.declared.explanation.Answer.{Answer}
@@ -41,7 +41,7 @@ answer app method path (Denied why) = answers.Denied (error_page app FORBIDDEN)
 -- The decision of the constraints, and what follows from it.
 abbrev pub judged_as : SiteContext → List ℕ → List ℕ → OwnedDecision → JudgedRequest
 judged_as context method path decided = record {
-  caller = option_map (λ caller. caller.name) context.caller;
+  caller = judged_caller context;
   constraints = listed_on context (why_of decided).pattern method;
   answer = answer context.descriptor method path decided;
   decision = decided;
@@ -49,7 +49,7 @@ judged_as context method path decided = record {
 
 abbrev pub judged : SiteContext → List ℕ → List ℕ → JudgedRequest
 judged context method path =
-    judged_as context method path (verdict context.constraints context.descriptor.rules method path context.caller)
+    judged_as context method path (verdict context.constraints context.descriptor.rules method path (caller_of context))
 
 -- The answers to a login post: the place to go if it passes and no target was saved, the page for a wrong name or
 -- password, and the page for the error that no session is available.

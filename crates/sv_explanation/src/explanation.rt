@@ -63,14 +63,27 @@ pub struct LoginAnswers {
 /// A request that the constraints decide.
 #[derive(Drop)]
 pub struct JudgedRequest {
-    /// The name of the caller, if there is one.
-    pub caller: Option<Text>,
+    /// The caller.
+    pub caller: JudgedCaller,
     /// The constraints on the best pattern of the path, in order.
     pub constraints: Listed<ListedConstraint>,
     /// The decision, with the best pattern and the number of the constraint that decides.
     pub decision: OwnedDecision,
     /// The answer.
     pub answer: Answer,
+}
+
+/// The caller of a request that the constraints decide.
+#[derive(Drop)]
+pub enum JudgedCaller {
+    /// There is none, and none is asked for.
+    Nobody,
+    /// The caller with this name.
+    Named(Text),
+    /// There is none, since the context does not have the user of this name.
+    NoSuchUser(Text),
+    /// There is none, since nobody can log in to the context, so neither can the caller with this name.
+    NoLogin(Text),
 }
 
 /// The answer to a request that the constraints decide.

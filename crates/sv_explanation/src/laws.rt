@@ -1,13 +1,18 @@
 //! The laws of explanations, each the contract of a function that at most cites laws of lower crates.
 
 ghost use Rattle.std.specs.Prelude.{◌≡◌};
-ghost use Rattle.sv_explanation.specs.Laws.{CoveringIsExact, DecidingIsListed, LoginPostsAreExplained, OutcomesAreTheServers, PatternsAreBest};
+ghost use Rattle.sv_explanation.specs.Laws.{CallersCanLogIn, CoveringIsExact, DecidingIsListed, LoginPostsAreExplained, OutcomesAreTheServers, PatternsAreBest};
 
 use crate::statuses::{FORBIDDEN, NOT_FOUND, SERVICE_UNAVAILABLE};
 
 /// The explanation of each message that is no login post names the outcome that the server's definition gives.
 pub fn outcomes_are_the_servers()
     ensures { OutcomesAreTheServers }
+{}
+
+/// In a context without a login configuration the constraints decide as on a request without a caller.
+pub fn callers_can_log_in()
+    ensures { CallersCanLogIn }
 {}
 
 /// A message is explained as a login post exactly if it is one, its context has form login, and its path is not hidden.

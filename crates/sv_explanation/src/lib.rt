@@ -3,6 +3,7 @@
 #![tactic(auto)]
 
 mod answer_lines;
+mod callers;
 mod explanation;
 mod laws;
 mod listed_constraint;
@@ -16,13 +17,14 @@ mod statuses;
 mod treatments;
 
 pub use explanation::{
-    Answer, Explanation, JudgedRequest, LoginAnswers, MatchedServlet, ServedRequest, Treatment,
+    Answer, Explanation, JudgedCaller, JudgedRequest, LoginAnswers, MatchedServlet, ServedRequest,
+    Treatment,
 };
 pub use laws::{
-    covering_is_exact, deciding_is_listed, limits_are_as_stated, login_posts_are_explained,
-    outcomes_are_the_servers, patterns_are_best,
+    callers_can_log_in, covering_is_exact, deciding_is_listed, limits_are_as_stated,
+    login_posts_are_explained, outcomes_are_the_servers, patterns_are_best,
 };
 pub use listed_constraint::{Entrants, ListedConstraint};
 pub use requests::explain;
 pub use sentences::explanation_text;
-pub use site_context::{Asked, SiteContext};
+pub use site_context::{Asked, AskedCaller, SiteContext};

@@ -5,8 +5,10 @@ ghost use Rattle.std.specs.Fmt.{decimal};
 ghost use Rattle.std.specs.Option.{option_map_or};
 ghost use Rattle.sv_text.specs.Gives.{GivesAnswer};
 ghost use Rattle.sv_explanation.specs.ReasonLines as spec;
+ghost use Rattle.sv_explanation.specs.declared.explanation.JudgedCaller.TheVariants as callers;
 ghost use Rattle.sv_explanation.specs.declared.listed_constraint.Entrants.TheVariants as entrants;
 
+use crate::explanation::JudgedCaller;
 use crate::listed_constraint::{Entrants, ListedConstraint};
 use std::alloc::Global;
 use sv_constraints::{Cause, OwnedDecision, OwnedWhy};
@@ -135,11 +137,48 @@ fn roles_text(alloc: Global, roles: &[Text]) -> Result<Text, NoMemory>
     Ok(Text::from_string(text))
 }
 
+/// Returns the sentence on why the request has no caller, if one is asked for.
+pub fn caller_line(alloc: Global, caller: &JudgedCaller) -> Result<Text, NoMemory>
+    ensures { GivesAnswer result (spec.caller_line caller.now) }
+{
+    match caller {
+        JudgedCaller::Nobody => Text::copy_of(alloc, ""),
+        JudgedCaller::Named(_) => Text::copy_of(alloc, ""),
+        JudgedCaller::NoSuchUser(name) => no_such_user_line(alloc, name.as_str()),
+        JudgedCaller::NoLogin(name) => no_login_line(alloc, name.as_str()),
+    }
+}
+
+fn no_such_user_line(alloc: Global, name: &str) -> Result<Text, NoMemory>
+    ensures { GivesAnswer result (spec.caller_line (callers.NoSuchUser name.now)) }
+{
+    let name = escaped(alloc, name)?;
+    let text = [
+        "The context has no user ",
+        name.as_str(),
+        ", so the request has no caller.\n",
+    ]
+    .concat(alloc)?;
+    Ok(Text::from_string(text))
+}
+
+fn no_login_line(alloc: Global, name: &str) -> Result<Text, NoMemory>
+    ensures { GivesAnswer result (spec.caller_line (callers.NoLogin name.now)) }
+{
+    let name = escaped(alloc, name)?;
+    let text = [
+        name.as_str(),
+        " cannot log in: the context has no login configuration.\n",
+    ]
+    .concat(alloc)?;
+    Ok(Text::from_string(text))
+}
+
 /// Returns the sentence on the reason of a decision.
 pub fn reason_line(
     alloc: Global,
     method: &str,
-    caller: &Option<Text>,
+    caller: &JudgedCaller,
     decision: &OwnedDecision,
 ) -> Result<Text, NoMemory>
     ensures { GivesAnswer result (spec.reason_line method.now caller.now decision.now) }
@@ -151,7 +190,7 @@ pub fn reason_line(
 fn reason_by(
     alloc: Global,
     method: &str,
-    caller: &Option<Text>,
+    caller: &JudgedCaller,
     decision: &OwnedDecision,
     why: &OwnedWhy,
 ) -> Result<Text, NoMemory>
@@ -217,7 +256,7 @@ fn number_or_dash(alloc: Global, number: Option<u64>) -> Result<Text, NoMemory>
 fn decides_on(
     alloc: Global,
     number: Option<u64>,
-    caller: &Option<Text>,
+    caller: &JudgedCaller,
     what: &str,
 ) -> Result<Text, NoMemory>
     ensures { GivesAnswer result (spec.decides_on number caller.now what.now) }
@@ -227,11 +266,13 @@ fn decides_on(
     decides(alloc, number, what.as_str())
 }
 
-fn caller_text(alloc: Global, caller: &Option<Text>) -> Result<Text, NoMemory>
+fn caller_text(alloc: Global, caller: &JudgedCaller) -> Result<Text, NoMemory>
     ensures { GivesAnswer result (spec.caller_text caller.now) }
 {
     match caller {
-        None => Text::copy_of(alloc, "the caller"),
-        Some(name) => escaped(alloc, name.as_str()),
+        JudgedCaller::Nobody => Text::copy_of(alloc, "the caller"),
+        JudgedCaller::Named(name) => escaped(alloc, name.as_str()),
+        JudgedCaller::NoSuchUser(_) => Text::copy_of(alloc, "the caller"),
+        JudgedCaller::NoLogin(_) => Text::copy_of(alloc, "the caller"),
     }
 }

@@ -9,7 +9,7 @@ ghost use Rattle.sv_explanation.specs.declared.explanation.Explanation.TheVarian
 
 use crate::answer_lines::{answer_lines, error_line, login_lines};
 use crate::explanation::{Explanation, JudgedRequest, ServedRequest, Treatment};
-use crate::reason_lines::{constraint_lines, pattern_line, reason_line};
+use crate::reason_lines::{caller_line, constraint_lines, pattern_line, reason_line};
 use crate::site_context::Asked;
 use crate::statuses::NOT_FOUND;
 use std::alloc::Global;
@@ -208,11 +208,13 @@ fn judged_lines(
 ) -> Result<Text, NoMemory>
     ensures { GivesAnswer result (spec.judged_lines file.now method.now request.now) }
 {
+    let caller = caller_line(alloc, &request.caller)?;
     let pattern = pattern_line(alloc, &request.decision.why().pattern)?;
     let constraints = constraint_lines(alloc, file, method, request.constraints.as_slice())?;
     let reason = reason_line(alloc, method, &request.caller, &request.decision)?;
     let answer = answer_lines(alloc, &request.answer)?;
     let text = [
+        caller.as_str(),
         pattern.as_str(),
         constraints.as_str(),
         reason.as_str(),

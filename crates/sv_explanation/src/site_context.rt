@@ -19,8 +19,19 @@ pub struct SiteContext {
     pub constraints: Listed<Constraint>,
     /// The line of `file` on which constraint n begins, at place n - 1, if it is known.
     pub lines: Listed<Option<u64>>,
-    /// The caller of the request in this context, if there is one.
-    pub caller: Option<Caller>,
+    /// The caller that is asked for.
+    pub caller: AskedCaller,
+}
+
+/// The caller that is asked for, in one context.
+#[derive(Drop)]
+pub enum AskedCaller {
+    /// None is asked for.
+    Nobody,
+    /// A user of the context, or a caller with a role. It counts if the context has a login configuration.
+    Known(Caller),
+    /// The user of this name, which the context does not have.
+    Unknown(Text),
 }
 
 impl HasContextPath for SiteContext {

@@ -1,8 +1,8 @@
 //! What becomes of a request in its context.
 
 ghost use Rattle.std.specs.Prelude.{◌≡◌, ◌++◌, Some, codes};
-ghost use Rattle.std.specs.Option.{option_map};
 ghost use Rattle.sv_constraints.specs.Verdict.{verdict};
+ghost use Rattle.sv_explanation.specs.Callers as callers;
 ghost use Rattle.sv_explanation.specs.Servlets.{servlet_at};
 ghost use Rattle.sv_explanation.specs.declared.explanation.Answer.TheVariants as answers;
 ghost use Rattle.sv_explanation.specs.declared.statuses.TheConstants as declared;
@@ -11,6 +11,7 @@ ghost use Rattle.sv_text.specs.Gives.{GivesAnswer};
 ghost use Rattle.sv_uri.specs.LocationField as field;
 ghost use Rattle.sv_explanation.specs.Treatment as spec;
 
+use crate::callers::{caller_of, judged_caller};
 use crate::explanation::{Answer, JudgedRequest, LoginAnswers, Treatment};
 use crate::listing::listed_on;
 use crate::servlets::servlet_at;
@@ -21,7 +22,6 @@ use sv_constraints::{OwnedDecision, decide_plain};
 use sv_descriptor::{Descriptor, FormLogin};
 use sv_error_pages::page_for;
 use sv_mapping::is_protected;
-use sv_realm::Caller;
 use sv_text::{NoMemory, Text};
 use sv_uri::location;
 
@@ -125,7 +125,7 @@ fn judged(
     let answer = answer(alloc, &context.descriptor, method, path, &decision)?;
     let constraints = listed_on(alloc, context, &decision.why().pattern, method)?;
     Ok(JudgedRequest {
-        caller: caller_name(alloc, &context.caller)?,
+        caller: judged_caller(alloc, context)?,
         constraints,
         decision,
         answer,
@@ -138,21 +138,12 @@ fn decided(
     method: &str,
     path: &str,
 ) -> Result<OwnedDecision, NoMemory>
-    ensures { GivesAnswer result (verdict context.now.constraints context.now.descriptor.rules method.now path.now context.now.caller) }
+    ensures { GivesAnswer result (verdict context.now.constraints context.now.descriptor.rules method.now path.now (callers.caller_of context.now)) }
 {
     let rules = &context.descriptor.web_app().rules;
-    let caller = context.caller.as_ref();
+    let caller = caller_of(context);
     let decision = decide_plain(context.constraints.as_slice(), rules, method, path, caller);
     OwnedDecision::copy_of(alloc, decision)
-}
-
-fn caller_name(alloc: Global, caller: &Option<Caller>) -> Result<Option<Text>, NoMemory>
-    ensures { GivesAnswer result (option_map (λ caller. caller.name) caller.now) }
-{
-    match caller {
-        Some(caller) => Ok(Some(Text::copy_of(alloc, caller.name.as_str())?)),
-        None => Ok(None),
-    }
 }
 
 /// Returns the answer to a request that the constraints decide.

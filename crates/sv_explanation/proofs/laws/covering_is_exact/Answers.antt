@@ -1,6 +1,7 @@
 use Rattle.std.proofs.Common.{ap, ◌∙◌}
 use Rattle.sv_constraints.specs.Covering.{all_patterns, covering}
 use Rattle.sv_mapping.specs.BestMatch.{best_pattern}
+use Rattle.sv_explanation.specs.Callers.{caller_of}
 use Rattle.sv_explanation.specs.Laws.{covering_listed}
 use Rattle.sv_explanation.specs.Listed.{listed_on}
 use Rattle.sv_explanation.proofs.ListingLemmas.{at_pattern, listed_exactly}
@@ -9,5 +10,5 @@ use Rattle.sv_explanation.proofs.laws.covering_is_exact.Goals as goal
 pub returns : goal.returns
 returns c context method path =
     let pattern = best_pattern (all_patterns context.constraints) path in
-    ap (λ found. covering_listed (listed_on context found method)) (at_pattern context.descriptor.rules context.caller pattern (covering context.constraints pattern method))
+    ap (λ found. covering_listed (listed_on context found method)) (at_pattern context.descriptor.rules (caller_of context) pattern (covering context.constraints pattern method))
     ∙ listed_exactly context method pattern
