@@ -66,7 +66,7 @@ written format.Keys found = difference_text found
 
 -- Whether only one of the servers has the context. In the other one, another context serves its requests, or none does
 -- (section 12.1), so visitors may enter there who did not before.
-abbrev pub is_of_one : ContextDifference → Bool
+unfoldable pub is_of_one : ContextDifference → Bool
 is_of_one context = is_none context.before || is_none context.after
 
 -- The number of the opened differences, and of the contexts that only one of the servers has.

@@ -181,6 +181,7 @@ fn count_of_one(contexts: &[ContextDifference]) -> usize
     contexts.iter().filter(|context| is_of_one(context)).count()
 }
 
+#[tactic(auto, unfolding(crate::specs::ComparedServers::is_of_one))]
 fn is_of_one(context: &ContextDifference) -> bool
     ensures { result ≡ spec.is_of_one context.now }
 {
