@@ -1,7 +1,7 @@
 """What the page of an audit should show, by its JSON report and docs/COMMANDS.md."""
 
 MAX_ROWS, MAX_FINDINGS = 2000, 2000
-# Who enters, by what a group has as `because`, and the kind of its cell.
+# The text on callers and the kind of a cell, by the word that its group has as `because`.
 WHO = {
     "open": ("everyone", "open"),
     "no-constraint": ("everyone (no constraint)", "open"),

@@ -60,7 +60,7 @@ return [...document.querySelectorAll('details')].map((it) => {
 });
 """
 
-# What the scripts below share: the texts that are not within closed cells, and the colors of a text and of what is below it.
+# Shared by the scripts below: the texts that are not within closed cells, and the colors of a text and of its background.
 TEXTS = """
 const texts = [];
 const walk = document.createTreeWalker(document.body, NodeFilter.SHOW_TEXT);
