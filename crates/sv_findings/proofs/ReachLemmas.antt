@@ -18,7 +18,7 @@ use Rattle.sv_audit.proofs.Names.{below_above}
 use Rattle.sv_audit.proofs.Equal.{and_left, both}
 use Rattle.sv_findings.specs.Reach.{ElsewhereIsForeign, HiddenIsProtected, ServedIsReached, chosen_path, front_of, own_reach, reach_against, reach_below, reach_of}
 use Rattle.sv_findings.specs.declared.reach.Reach.{Reach}
-use Rattle.sv_findings.specs.declared.reach.Reach.TheVariants.{Reached, Hidden, Elsewhere}
+use Rattle.sv_findings.specs.declared.reach.Reach.TheVariants.{Reached, Hidden, Elsewhere, Unmatched}
 
 -- ---- The first segment of what lies below a front.
 abbrev Below : List ℕ → List ℕ → Type 0
@@ -177,6 +177,23 @@ module _ (contexts : List (List ℕ)) (context path : List ℕ) (served : is_at_
 pub elsewhere_foreign : ElsewhereIsForeign
 elsewhere_foreign contexts context pattern path other is served matched = elsewhere_from contexts context path served pattern other (front_of (form pattern)) refl is matched
 
+-- ---- Some path matches the pattern, as far as contexts and folders tell.
+own_matched : (protected : Bool) → cond protected Hidden Reached ≡ Unmatched → ⊥
+own_matched true is = cc
+own_matched false is = cc
+
+against_matched : (front chosen : List ℕ) (longer : Bool) → cond longer (Elsewhere chosen) (own_reach front) ≡ Unmatched → ⊥
+against_matched front chosen true is = cc
+against_matched front chosen false is = own_matched (is_protected front) is
+
+below_matched : (context front : List ℕ) (chosen : Option (List ℕ)) → option_map_or (reach_against context front) chosen (own_reach front) ≡ Unmatched → ⊥
+below_matched context front None is = own_matched (is_protected front) is
+below_matched context front (Some chosen) is = against_matched front chosen (nat_lt (length context) (length chosen)) is
+
+always_matched : (contexts : List (List ℕ)) (context : List ℕ) (front : Option (List ℕ)) → option_map_or (reach_below contexts context) front Reached ≡ Unmatched → ⊥
+always_matched contexts context None is = cc
+always_matched contexts context (Some front) is = below_matched context front (chosen_path contexts (context ++ front)) is
+
 -- ---- What the context serves.
 pub served_reached : ServedIsReached
 served_reached contexts context pattern path chosen shown matched = by_reach (reach_of contexts context pattern) refl
@@ -185,6 +202,7 @@ served_reached contexts context pattern path chosen shown matched = by_reach (re
     by_reach Reached is = is
     by_reach Hidden is = absurd (false≢true (sym shown ∙ hidden_protected contexts context pattern (path_within context path) is matched))
     by_reach (Elsewhere other) is = absurd (false≢true (sym (elsewhere_foreign contexts context pattern path other is (and_left _ _ chosen) matched) ∙ chosen))
+    by_reach Unmatched is = absurd (always_matched contexts context (front_of (form pattern)) is)
 
 -- ---- The chosen context path by its place.
 pub path_at : (index contexts : List (List ℕ)) (path : List ℕ) (place : Option ℕ) (found : Option (List ℕ)) → index ≡ contexts → place ≡ position (is_chosen index path) index → found ≡ option_and_then (λ i. slice_get contexts i) place → found ≡ chosen_path contexts path

@@ -7,7 +7,7 @@ use Rattle.sv_mapping.specs.Pattern.{Form, Root, Default, Extension, Prefix, Exa
 use Rattle.sv_mapping.specs.Protected.{is_protected}
 use Rattle.sv_mapping.specs.Within.{path_within}
 use Rattle.sv_findings.specs.declared.reach.Reach.{Reach}
-use Rattle.sv_findings.specs.declared.reach.Reach.TheVariants.{Reached, Hidden, Elsewhere}
+use Rattle.sv_findings.specs.declared.reach.Reach.TheVariants.{Reached, Hidden, Elsewhere, Unmatched}
 
 -- The text, unless it is that of the root.
 abbrev pub unless_root : List ℕ → Option (List ℕ)
@@ -49,6 +49,7 @@ abbrev pub has_requests : Reach → Bool
 has_requests Reached = true
 has_requests Hidden = false
 has_requests (Elsewhere context) = false
+has_requests Unmatched = false
 
 abbrev pub is_reached : List (List ℕ) → List ℕ → List ℕ → Bool
 is_reached contexts context pattern = has_requests (reach_of contexts context pattern)

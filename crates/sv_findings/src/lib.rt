@@ -17,12 +17,14 @@ mod surroundings;
 mod unreached;
 mod unserved;
 
+pub use dead::lists_prefix;
 pub use finding::Finding;
 pub use findings::findings_of;
 pub use laws::{
     best_patterns_decide, findings_are_complete, findings_are_right, limits_are_as_stated,
     reach_is_right,
 };
+pub use met_rows::{is_met, row_reach};
 pub use reach::{Reach, Reaches, reach_of};
 pub use surroundings::{LoginPage, Surroundings};
 pub use unserved::MAX_SERVED_PATTERNS;

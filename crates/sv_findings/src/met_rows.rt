@@ -5,7 +5,7 @@ ghost use Rattle.sv_text.specs.Gives.{GivesAnswer};
 ghost use Rattle.sv_findings.specs.MetRows as spec;
 
 use crate::dead::decides_nothing;
-use crate::reach::Reaches;
+use crate::reach::{Reach, Reaches};
 use std::alloc::Global;
 use sv_audit::Row;
 use sv_text::{NoMemory, Text};
@@ -43,7 +43,12 @@ fn is_pattern_met(
     }
 }
 
-fn is_met(
+/// Returns whether some requests may reach a pattern of a context and have it as their best match, given whether `/*` is
+/// among the patterns.
+///
+/// # Errors
+/// `NoMemory` if memory runs out.
+pub fn is_met(
     alloc: Global,
     reaches: &Reaches<'_>,
     has_prefix: bool,
@@ -55,5 +60,25 @@ fn is_met(
         Ok(false)
     } else {
         reaches.is_reached(alloc, pattern)
+    }
+}
+
+/// Returns whether requests meet a pattern of a context, given whether `/*` is among the patterns. They do unless no
+/// canonical path has it as its best match, or the pattern is not reached.
+///
+/// # Errors
+/// `NoMemory` if memory runs out.
+pub fn row_reach(
+    alloc: Global,
+    reaches: &Reaches<'_>,
+    has_prefix: bool,
+    pattern: &str,
+) -> Result<Reach, NoMemory>
+    ensures { GivesAnswer result (spec.row_reach reaches.now.0 reaches.now.1 has_prefix pattern.now) }
+{
+    if decides_nothing(has_prefix, pattern) {
+        Ok(Reach::Unmatched)
+    } else {
+        reaches.reach(alloc, pattern)
     }
 }

@@ -22,6 +22,8 @@ pub enum Reach {
     /// None does: all targets of the pattern belong to the context with this path, or to contexts below it (section
     /// 12.1).
     Elsewhere(Text),
+    /// None does: the pattern is the best match of no canonical path (sections 3.5.2 and 12.1).
+    Unmatched,
 }
 
 /// Returns whether requests reach a pattern of the context with this path, given the paths of all contexts. The context

@@ -9,6 +9,8 @@ pub struct Surroundings {
     pub contexts: Listed<Text>,
     /// The path of the context with the constraints.
     pub path: Text,
+    /// Whether the context has a login configuration. Without one nobody can log in.
+    pub has_login: bool,
     /// The roles that users have, or none if no users are known.
     pub held: Option<Listed<Text>>,
     /// The URL patterns of servlets.
