@@ -28,6 +28,7 @@ site_with asked context app = record {
   constraints = context.constraints;
   lines = context.source.lines.constraints;
   caller = caller_in asked context.realm;
+  files = context.surroundings.files;
 }
 
 abbrev pub site_of : Option Asked → AuditedContext → Option SiteContext

@@ -12,13 +12,13 @@ use crate::accepted::{accepted_lines, is_accepted};
 use crate::access_options::Asked;
 use crate::context_patterns::{ContextPatterns, context_patterns};
 use crate::key::{constraint_of, key_of};
-use crate::row_paths::reported_rows;
+use crate::row_paths::{RowPlace, reported_rows};
 use crate::viewer::viewer_in;
 use std::alloc::Global;
 use sv_audit::{Row, Table, table_of};
 use sv_audited_contexts::{AuditedContext, Source};
 use sv_descriptor::Names;
-use sv_findings::{Finding, Reaches, Surroundings, findings_of};
+use sv_findings::{Finding, Reaches, Surroundings, findings_of, lists_prefix};
 use sv_mapping::{PatternTable, is_at_or_below, path_within};
 use sv_policy::{Groups, grouped};
 use sv_report::{ContextReport, ReportedFinding, ReportedRow, Viewer, line_at, line_of};
@@ -110,11 +110,12 @@ fn audit_with(
     ensures { GivesAnswer result (spec.audit_with asking.entry.viewer asking.entry.accepted.now context.now patterns.now table) }
 {
     let accepted = asking.accepted;
+    let others = others_in(alloc, &context.surroundings)?;
     Ok(Audit {
         viewer: viewer_in(alloc, asking.viewer, &context.realm)?,
-        others: others_in(alloc, &context.surroundings)?,
         findings: findings_in(alloc, context, &patterns.constraints, accepted, &table)?,
-        rows: rows_in(alloc, context, patterns, table.rows)?,
+        rows: rows_in(alloc, context, patterns, others.as_slice(), table.rows)?,
+        others,
     })
 }
 
@@ -122,14 +123,22 @@ fn rows_in(
     alloc: Global,
     context: &AuditedContext,
     patterns: &ContextPatterns,
+    nested: &[Text],
     rows: Listed<Row>,
 ) -> Result<Listed<ReportedRow>, NoMemory>
-    ensures { GivesAnswer result (spec.rows_in context.now patterns.now rows) }
+    ensures { GivesAnswer result (spec.rows_in context.now patterns.now nested.now rows) }
 {
     let surroundings = &context.surroundings;
-    let paths = surroundings.contexts.as_slice();
-    let reaches = Reaches::of(alloc, paths, surroundings.path.as_str())?;
-    reported_rows(alloc, patterns, &reaches, rows)
+    let place = RowPlace {
+        reaches: Reaches::of(
+            alloc,
+            surroundings.contexts.as_slice(),
+            surroundings.path.as_str(),
+        )?,
+        has_prefix: lists_prefix(alloc, context.constraints.as_slice())?,
+        nested,
+    };
+    reported_rows(alloc, patterns, &place, rows)
 }
 
 fn others_in(alloc: Global, surroundings: &Surroundings) -> Result<Listed<Text>, NoMemory>

@@ -73,6 +73,7 @@ fn push_site(
         source,
         constraints,
         descriptor,
+        surroundings,
         ..
     } = context;
     let Some(descriptor) = descriptor else {
@@ -86,6 +87,7 @@ fn push_site(
         constraints,
         lines: lines.constraints,
         caller,
+        files: surroundings.files,
     })?;
     Ok(())
 }

@@ -29,10 +29,17 @@ fn is_kind(part: &[u8]) -> bool
     is_kind_of_access(part) || is_kind_of_pattern(part) || is_kind_of_role(part)
 }
 
+/// Returns whether the text names what lets everyone in. In a list of kinds both words mean both.
+fn is_opening(part: &[u8]) -> bool
+    ensures { result ≡ spec.is_opening part.now }
+{
+    part == "open".as_bytes() || part == "opened".as_bytes()
+}
+
 fn is_kind_of_access(part: &[u8]) -> bool
     ensures { result ≡ spec.is_kind_of_access part.now }
 {
-    part == "opened".as_bytes()
+    is_opening(part)
         || part == "uncovered".as_bytes()
         || part == "read-otherwise".as_bytes()
         || part == "head-differs".as_bytes()
@@ -61,11 +68,20 @@ fn is_kind_of_role(part: &[u8]) -> bool
 pub(crate) fn lists_kind(word: &str, kind: &str) -> bool
     ensures { result ≡ spec.lists_kind word.now kind.now }
 {
-    word == "any" || has_part(word.as_bytes(), kind.as_bytes())
+    word == "any"
+        || has_part(word.as_bytes(), kind.as_bytes())
+        || lists_opening(word.as_bytes(), kind.as_bytes())
 }
 
 fn has_part(word: &[u8], kind: &[u8]) -> bool
     ensures { result ≡ spec.has_part word.now kind.now }
 {
     word.split(|byte| *byte == b',').any(|part| part == kind)
+}
+
+/// Returns whether the kind lets everyone in, and the word lists such a kind.
+fn lists_opening(word: &[u8], kind: &[u8]) -> bool
+    ensures { result ≡ spec.lists_opening word.now kind.now }
+{
+    is_opening(kind) && word.split(|byte| *byte == b',').any(is_opening)
 }

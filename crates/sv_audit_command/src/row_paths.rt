@@ -11,7 +11,7 @@ use crate::context_patterns::{ContextPatterns, servlet_at};
 use crate::row_answers::{AnsweredPaths, answered_paths, answers_at, borrowed};
 use std::alloc::Global;
 use sv_audit::{Narrower, Row, example_of, narrower};
-use sv_findings::{Reach, Reaches};
+use sv_findings::{Reach, Reaches, row_reach};
 use sv_mapping::PatternTable;
 use sv_report::ReportedRow;
 use sv_text::{Listed, NoMemory, Text};
@@ -22,19 +22,30 @@ pub(crate) const MAX_COMPARED_PATTERNS: usize = 2000;
 /// The greatest number of patterns that a row lists.
 pub(crate) const MAX_NARROWER: usize = 3;
 
+/// The context of rows, next to the other contexts.
+#[derive(Drop)]
+pub(crate) struct RowPlace<'a> {
+    /// The patterns that requests reach.
+    pub(crate) reaches: Reaches<'a>,
+    /// Whether `/*` is among the patterns of its constraints.
+    pub(crate) has_prefix: bool,
+    /// The paths of the other contexts within this one, without the path of this one.
+    pub(crate) nested: &'a [Text],
+}
+
 /// Returns the rows with these additions, given the patterns of the context.
 pub(crate) fn reported_rows(
     alloc: Global,
     patterns: &ContextPatterns,
-    reaches: &Reaches<'_>,
+    place: &RowPlace<'_>,
     rows: Listed<Row>,
 ) -> Result<Listed<ReportedRow>, NoMemory>
-    ensures { GivesAnswer result (spec.reported_rows patterns.now reaches.now rows) }
+    ensures { GivesAnswer result (spec.reported_rows patterns.now place.now.reaches place.now.has_prefix place.now.nested.now rows) }
 {
     let answered = answered_paths(alloc, patterns)?;
     let texts = row_patterns(alloc, rows.as_slice())?;
     let others = borrowed(alloc, texts.as_slice())?;
-    rows_with(alloc, patterns, &answered, others.as_slice(), reaches, rows)
+    rows_with(alloc, patterns, &answered, others.as_slice(), place, rows)
 }
 
 fn rows_with(
@@ -42,14 +53,14 @@ fn rows_with(
     patterns: &ContextPatterns,
     answered: &Option<AnsweredPaths>,
     others: &[&str],
-    reaches: &Reaches<'_>,
+    place: &RowPlace<'_>,
     rows: Listed<Row>,
 ) -> Result<Listed<ReportedRow>, NoMemory>
-    ensures { GivesAnswer result (map (spec.reported_row patterns.now answered.now (map (λ other. other.now) others.now) reaches.now) rows) }
+    ensures { GivesAnswer result (map (spec.reported_row patterns.now answered.now (map (λ other. other.now) others.now) place.now.reaches place.now.has_prefix place.now.nested.now) rows) }
 {
     let mut reported = Vec::new(alloc);
     for row in rows.into_vec() {
-        let row = reported_row(alloc, patterns, answered, others, reaches, row)?;
+        let row = reported_row(alloc, patterns, answered, others, place, row)?;
         reported.push(row)?;
     }
     Ok(Listed::from_vec(reported))
@@ -60,16 +71,16 @@ fn reported_row(
     patterns: &ContextPatterns,
     answered: &Option<AnsweredPaths>,
     others: &[&str],
-    reaches: &Reaches<'_>,
+    place: &RowPlace<'_>,
     row: Row,
 ) -> Result<ReportedRow, NoMemory>
-    ensures { GivesAnswer result (spec.reported_row patterns.now answered.now (map (λ other. other.now) others.now) reaches.now row) }
+    ensures { GivesAnswer result (spec.reported_row patterns.now answered.now (map (λ other. other.now) others.now) place.now.reaches place.now.has_prefix place.now.nested.now row) }
 {
-    let example = row_example(alloc, &patterns.constraints, &row.pattern)?;
+    let example = row_example(alloc, &patterns.constraints, place.nested, &row.pattern)?;
     let servlet = servlet_of(alloc, patterns, &example)?;
     let answers = answers_at(alloc, answered, &row.pattern)?;
     let narrower = row_narrower(alloc, others, &row.pattern)?;
-    let reach = row_reach(alloc, reaches, &row.pattern)?;
+    let reach = reach_at(alloc, place, &row.pattern)?;
     Ok(ReportedRow {
         row,
         example,
@@ -80,16 +91,12 @@ fn reported_row(
     })
 }
 
-/// Returns whether requests reach a pattern. Without a pattern they do.
-fn row_reach(
-    alloc: Global,
-    reaches: &Reaches<'_>,
-    pattern: &Option<Text>,
-) -> Result<Reach, NoMemory>
-    ensures { GivesAnswer result (spec.reach_at reaches.now pattern.now) }
+/// Returns whether requests meet a pattern. Without a pattern they do.
+fn reach_at(alloc: Global, place: &RowPlace<'_>, pattern: &Option<Text>) -> Result<Reach, NoMemory>
+    ensures { GivesAnswer result (spec.reach_at place.now.reaches place.now.has_prefix pattern.now) }
 {
     match pattern {
-        Some(pattern) => reaches.reach(alloc, pattern.as_str()),
+        Some(pattern) => row_reach(alloc, &place.reaches, place.has_prefix, pattern.as_str()),
         None => Ok(Reach::Reached),
     }
 }
@@ -97,13 +104,14 @@ fn row_reach(
 fn row_example(
     alloc: Global,
     patterns: &PatternTable,
+    nested: &[Text],
     pattern: &Option<Text>,
 ) -> Result<Option<Text>, NoMemory>
-    ensures { GivesAnswer result (examples.example patterns.now pattern.now) }
+    ensures { GivesAnswer result (examples.example patterns.now nested.now pattern.now) }
 {
     match pattern {
-        Some(pattern) => example_of(alloc, patterns, Some(pattern.as_str())),
-        None => example_of(alloc, patterns, None),
+        Some(pattern) => example_of(alloc, patterns, Some(pattern.as_str()), nested),
+        None => example_of(alloc, patterns, None, nested),
     }
 }
 

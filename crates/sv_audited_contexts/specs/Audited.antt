@@ -59,6 +59,7 @@ abbrev pub surroundings_of : List (List ℕ) → FoundContext → WebApp → Opt
 surroundings_of paths found app its_held = record {
   contexts = paths;
   path = found.texts.context.path;
+  has_login = is_some app.login;
   held = its_held;
   servlets = mapped_patterns app.servlet_mappings;
   files = (its_files found app).paths;

@@ -202,6 +202,7 @@ fn surroundings_of(
     Ok(Surroundings {
         contexts: copied_texts(alloc, paths)?,
         path: Text::copy_of(alloc, found.texts.context.path.as_str())?,
+        has_login: web_app.login.is_some(),
         held,
         servlets,
         files: files.paths,

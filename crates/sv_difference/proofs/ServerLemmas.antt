@@ -2,7 +2,7 @@
 use Rattle.std.proofs.lemmas.Bool.{and_from, and_parts, false≢true}
 use Rattle.std.proofs.lemmas.List.Elements.{All-head, All-tail}
 use Rattle.std.proofs.Common.{◌≡◌, ℕ, Bool, true, false, not, ◌&&◌, ◌||◌, List, [], ◌∷◌, length, refl, ap, ap₂, sym, ◌∙◌, cond, inl, inr, Option, None, Some, is_none, is_some}
-use Rattle.std.specs.Prelude.{◌≢◌, All, filter, find, nat_lt}
+use Rattle.std.specs.Prelude.{◌≢◌, All, Ok, codes, filter, find, nat_lt}
 use Rattle.std.specs.Cmp.{both_ways}
 use Rattle.std.specs.List.{list_any}
 use Rattle.std.specs.Option.{option_map, option_map_or}
@@ -24,8 +24,14 @@ use Rattle.sv_audit.proofs.Represented.{in_listed}
 use Rattle.sv_audit.specs.DifferenceLaws.{Configuration, DifferencesAreComplete, DifferencesAreRight, IsRight, best_of, differences_of, fate_of, is_of}
 use Rattle.sv_audit.specs.Reading.{Kind, Passes, ServedPathsAreRooted, is_same}
 use Rattle.sv_audit.specs.declared.difference.Difference.{Difference}
-use Rattle.sv_findings.specs.Reach.{ServedIsReached, chosen_path}
-use Rattle.sv_difference.specs.ServerDifference.{compared_paths, context_at, difference_at, differences_between, is_reached, paths_of, row_is_reached, rows_are_reached, server_difference, shown_side}
+use Rattle.sv_constraints.specs.declared.constraint.Constraint.{Constraint}
+use Rattle.sv_uri.specs.Canonical.{canonical}
+use Rattle.sv_uri.specs.declared.path.Canon.{Canon}
+use Rattle.sv_audit.specs.Shapes.{IsServed}
+use Rattle.sv_findings.specs.Dead.{decides_nothing}
+use Rattle.sv_findings.specs.FindingLaws.{BestDecides}
+use Rattle.sv_findings.specs.Reach.{ServedIsReached, chosen_path, has_requests, is_reached}
+use Rattle.sv_difference.specs.ServerDifference.{compared_paths, context_at, difference_at, differences_between, has_prefix, paths_of, row_is_met, rows_are_met, server_difference, shown_side}
 use Rattle.sv_difference.specs.ServerLaws.{ChangesOutcomes, HasFate, HaveUrlPatterns, IsHidden, IsUnchanged, LoginTest, LoginsChangeOutcomes, LogsIn, NoContext, Outcome, ReportedDifferencesAreRight, UnchangedHaveSameOutcomes, configuration_of, outcome, outcome_at, outcome_in}
 use Rattle.sv_difference.specs.declared.contexts.ComparedContext.{ComparedContext}
 use Rattle.sv_difference.specs.declared.contexts.ContextSide.{ContextSide}
@@ -81,12 +87,14 @@ listed_at (context ∷ contexts) path = go (bytes_eq context.path path) (listed_
     go true below = refl
     go false below = below
 
--- ---- Rows that a served path is in are reached.
-row_reached : BestIsAMatch → ServedIsReached → (contexts patterns : List (List ℕ)) (context path : List ℕ) → is_chosen contexts path context ≡ true → is_protected (path_within context path) ≡ false
-    → (best : Option (List ℕ)) → best_pattern patterns (path_within context path) ≡ best → row_is_reached contexts context best ≡ true
-row_reached matched reached contexts patterns context path chosen shown None is = refl
-row_reached matched reached contexts patterns context path chosen shown (Some pattern) is =
-    ap is_reached (reached contexts context pattern path chosen shown (matched patterns (path_within context path) pattern is).1)
+-- ---- Rows that a served path is in are met.
+row_met : BestIsAMatch → BestDecides → ServedIsReached → (contexts : List (List ℕ)) (constraints : List Constraint) (context path : List ℕ) → IsServed (path_within context path) → is_chosen contexts path context ≡ true
+    → is_protected (path_within context path) ≡ false → (best : Option (List ℕ)) → best_pattern (all_patterns constraints) (path_within context path) ≡ best
+    → row_is_met contexts context (lists (all_patterns constraints) (codes "/*")) best ≡ true
+row_met matched decides reached contexts constraints context path served chosen shown None is = refl
+row_met matched decides reached contexts constraints context path served chosen shown (Some pattern) is =
+    and_from (not (decides_nothing (lists (all_patterns constraints) (codes "/*")) pattern)) (is_reached contexts context pattern) (ap not (decides constraints (path_within context path) pattern served is))
+    (ap has_requests (reached contexts context pattern path chosen shown (matched (all_patterns constraints) (path_within context path) pattern is).1))
 
 module _ (befores afters : List ComparedContext) (its_path : List ℕ) (before after : ComparedContext) (at : context_at befores its_path ≡ Some before) (there : context_at afters its_path ≡ Some after) where
   abbrev one : Configuration
@@ -96,13 +104,13 @@ module _ (befores afters : List ComparedContext) (its_path : List ℕ) (before a
   other = configuration_of after
 
   abbrev kept : List Difference
-  kept = filter (rows_are_reached (paths_of befores) (paths_of afters) its_path) (differences_of one other)
+  kept = filter (rows_are_met (paths_of befores) (paths_of afters) its_path before after) (differences_of one other)
 
   are_kept : (difference_at befores afters its_path).differences ≡ kept
   are_kept = ap₂ (λ a b. differences_between befores afters its_path a b) at there
 
 -- ---- If nothing differs by the report.
-module _ (complete : DifferencesAreComplete) (matched : BestIsAMatch) (reached : ServedIsReached) (rooted : ServedPathsAreRooted) (unique : IsUnique) (befores afters : List ComparedContext) (befores_url : HaveUrlPatterns befores)
+module _ (complete : DifferencesAreComplete) (matched : BestIsAMatch) (decides : BestDecides) (reached : ServedIsReached) (rooted : ServedPathsAreRooted) (unique : IsUnique) (befores afters : List ComparedContext) (befores_url : HaveUrlPatterns befores)
     (afters_url : HaveUrlPatterns afters) (unchanged : All IsUnchanged (server_difference befores afters).contexts) where
   is_unchanged : (path : List ℕ) → In path (compared_paths befores afters) → IsUnchanged (difference_at befores afters path)
   is_unchanged path there =
@@ -136,7 +144,7 @@ module _ (complete : DifferencesAreComplete) (matched : BestIsAMatch) (reached :
       ∙ found_alike (is_chosen (paths_of befores) path) (is_chosen (paths_of afters) path)
       (λ x. ap (λ b. is_at_or_below x path && not b) (any_listed (λ it. is_at_or_below it path && nat_lt (length x) (length it)) (paths_of befores) (paths_of afters) same_paths)) (paths_of afters)
 
-  module _ (logs_in : LoginTest) (method path : List ℕ) (visitor : Option Caller) where
+  module _ (logs_in : LoginTest) (target method path : List ℕ) (visitor : Option Caller) (canon : Canon) (given : canonical target ≡ Ok canon) (of : path ≡ canon.path) where
     module _ (its_path : List ℕ) (before after : ComparedContext) (is_before : context_at befores its_path ≡ Some before) (is_after : context_at afters its_path ≡ Some after)
         (chosen : is_chosen (paths_of befores) path its_path ≡ true) (taken : is_chosen (paths_of afters) path its_path ≡ true) (its : IsUnchanged (difference_at befores afters its_path)) where
       abbrev within : List ℕ
@@ -152,15 +160,18 @@ module _ (complete : DifferencesAreComplete) (matched : BestIsAMatch) (reached :
       same_login =
           ap login_in (sym (ap (option_map shown_side) is_before) ∙ its.was) ∙ (its.login ∙ ap login_in (sym its.becomes ∙ ap (option_map shown_side) is_after))
 
+      is_served : IsServed within
+      is_served = (target, its_path, canon, given, ap (is_at_or_below its_path) (sym of) ∙ (and_parts _ _ chosen).0, ap (path_within its_path) of)
+
       none_missed : is_protected within ≡ false → (difference : Difference) → In difference (differences_of first second) → is_of first second method within difference ≡ true → ⊥
       none_missed shown difference there of =
           let outer = and_parts (is_same difference.before (best_of first within) && is_same difference.after (best_of second within)) (covers_method difference.methods method) of in
           let rows = and_parts (is_same difference.before (best_of first within)) (is_same difference.after (best_of second within)) outer.0 in
           let kept_there : In difference (kept befores afters its_path before after is_before is_after) =
-          in_kept (rows_are_reached (paths_of befores) (paths_of afters) its_path) difference (differences_of first second) there
-          (and_from (row_is_reached (paths_of befores) its_path difference.before) (row_is_reached (paths_of afters) its_path difference.after)
-          (row_reached matched reached (paths_of befores) (all_patterns before.constraints) its_path path chosen shown difference.before (sym (same_decides difference.before (best_of first within) rows.0)))
-          (row_reached matched reached (paths_of afters) (all_patterns after.constraints) its_path path taken shown difference.after (sym (same_decides difference.after (best_of second within) rows.1)))) in
+          in_kept (rows_are_met (paths_of befores) (paths_of afters) its_path before after) difference (differences_of first second) there
+          (and_from (row_is_met (paths_of befores) its_path (has_prefix before) difference.before) (row_is_met (paths_of afters) its_path (has_prefix after) difference.after)
+          (row_met matched decides reached (paths_of befores) before.constraints its_path path is_served chosen shown difference.before (sym (same_decides difference.before (best_of first within) rows.0)))
+          (row_met matched decides reached (paths_of afters) after.constraints its_path path is_served taken shown difference.after (sym (same_decides difference.after (best_of second within) rows.1)))) in
           in_along (kept befores afters its_path before after is_before is_after) [] difference (sym (are_kept befores afters its_path before after is_before is_after) ∙ its.none) kept_there
 
       same_fate : is_protected within ≡ false → fate_of first method within visitor ≡ fate_of second method within visitor
@@ -206,9 +217,9 @@ module _ (complete : DifferencesAreComplete) (matched : BestIsAMatch) (reached :
         go None is = refl
         go (Some its_path) is = same_at its_path is
 
-pub same_outcomes : DifferencesAreComplete → BestIsAMatch → ServedIsReached → ServedPathsAreRooted → IsUnique → UnchangedHaveSameOutcomes
-same_outcomes complete matched reached rooted unique befores afters befores_url afters_url unchanged logs_in target canon method visitor given =
-    same_outcome complete matched reached rooted unique befores afters befores_url afters_url unchanged logs_in method canon.path visitor
+pub same_outcomes : DifferencesAreComplete → BestIsAMatch → BestDecides → ServedIsReached → ServedPathsAreRooted → IsUnique → UnchangedHaveSameOutcomes
+same_outcomes complete matched decides reached rooted unique befores afters befores_url afters_url unchanged logs_in target canon method visitor given =
+    same_outcome complete matched decides reached rooted unique befores afters befores_url afters_url unchanged logs_in target method canon.path visitor canon given refl
 
 -- ---- Each reported difference.
 abbrev fate_in : Outcome → Kind
@@ -280,7 +291,7 @@ module _ (right : DifferencesAreRight) (befores afters : List ComparedContext) (
   right_at difference found =
       let is : IsRight first_side second_side difference =
       all_in (IsRight first_side second_side) difference (differences_of first_side second_side) (right first_side second_side (befores_url before its_path at) (afters_url after its_path there))
-      (kept_in (rows_are_reached (paths_of befores) (paths_of afters) its_path) difference (differences_of first_side second_side)
+      (kept_in (rows_are_met (paths_of befores) (paths_of afters) its_path before after) difference (differences_of first_side second_side)
       (in_along (difference_at befores afters its_path).differences (kept befores afters its_path before after at there) difference (are_kept befores afters its_path before after at there) found)) in
       (is, changes difference is)
 

@@ -1,5 +1,5 @@
 -- What two configurations of a server decide differently (Jakarta Servlet 6.0, sections 12.1, 13.6 and 13.8).
-use Rattle.std.specs.Prelude.{ℕ, Bool, true, false, ◌&&◌, List, [], ◌++◌, filter, find, length, map, is_none, Option, None, Some}
+use Rattle.std.specs.Prelude.{ℕ, Bool, true, ◌&&◌, List, [], ◌++◌, codes, filter, find, length, map, is_none, Option, None, Some}
 use Rattle.std.specs.List.{flat_map}
 use Rattle.std.specs.Option.{option_map}
 use Rattle.std.specs.Str.{bytes_eq}
@@ -8,9 +8,8 @@ use Rattle.sv_audit.specs.Rows.{table_of}
 use Rattle.sv_audit.specs.declared.difference.Difference.{Difference}
 use Rattle.sv_audit.specs.declared.difference.DifferenceKind.TheVariants.{Opened}
 use Rattle.sv_audit.specs.declared.difference.Side.{Side}
-use Rattle.sv_findings.specs.Reach.{reach_of}
-use Rattle.sv_findings.specs.declared.reach.Reach.{Reach}
-use Rattle.sv_findings.specs.declared.reach.Reach.TheVariants.{Elsewhere, Hidden, Reached}
+use Rattle.sv_constraints.specs.Covering.{all_patterns, lists}
+use Rattle.sv_findings.specs.MetRows.{is_met}
 use Rattle.sv_difference.specs.declared.contexts.ComparedContext.{ComparedContext}
 use Rattle.sv_difference.specs.declared.contexts.ContextDifference.{ContextDifference}
 use Rattle.sv_difference.specs.declared.contexts.ContextSide.{ContextSide}
@@ -33,26 +32,26 @@ shown_side context = record { file = context.file; has_login = context.has_login
 abbrev pub side_of : ComparedContext → Side
 side_of context = record { table = table_of context.constraints context.rules; has_login = context.has_login }
 
-abbrev pub is_reached : Reach → Bool
-is_reached Reached = true
-is_reached Hidden = false
-is_reached (Elsewhere path) = false
+-- Whether `/*` is among the patterns of a context. Then other patterns for all paths decide nothing (section 12.1).
+abbrev pub has_prefix : ComparedContext → Bool
+has_prefix context = lists (all_patterns context.constraints) (codes "/*")
 
--- Whether requests may reach the row of a pattern in the context with this path, or that of other paths.
-abbrev pub row_is_reached : List (List ℕ) → List ℕ → Option (List ℕ) → Bool
-row_is_reached contexts context None = true
-row_is_reached contexts context (Some pattern) = is_reached (reach_of contexts context pattern)
+-- Whether some requests may meet the row of a pattern in the context with this path, or that of other paths, given
+-- whether the context has `/*`.
+abbrev pub row_is_met : List (List ℕ) → List ℕ → Bool → Option (List ℕ) → Bool
+row_is_met contexts path with_prefix None = true
+row_is_met contexts path with_prefix (Some pattern) = is_met contexts path with_prefix pattern
 
--- Whether requests may reach both rows of a difference, given the context paths of both servers.
-abbrev pub rows_are_reached : List (List ℕ) → List (List ℕ) → List ℕ → Difference → Bool
-rows_are_reached befores afters context difference = row_is_reached befores context difference.before && row_is_reached afters context difference.after
+-- Whether some requests may meet both rows of a difference, given the context paths of both servers.
+abbrev pub rows_are_met : List (List ℕ) → List (List ℕ) → List ℕ → ComparedContext → ComparedContext → Difference → Bool
+rows_are_met befores afters path before after difference = row_is_met befores path (has_prefix before) difference.before && row_is_met afters path (has_prefix after) difference.after
 
--- The differences of two contexts that requests may reach, if both sides have such a context.
+-- The differences of two contexts whose rows requests may meet, if both sides have such a context.
 abbrev pub differences_between : List ComparedContext → List ComparedContext → List ℕ → Option ComparedContext → Option ComparedContext → List Difference
 differences_between befores afters path None after = []
 differences_between befores afters path (Some before) None = []
 differences_between befores afters path (Some before) (Some after) =
-    filter (rows_are_reached (paths_of befores) (paths_of afters) path) (differences (side_of before) (side_of after))
+    filter (rows_are_met (paths_of befores) (paths_of afters) path before after) (differences (side_of before) (side_of after))
 
 -- What differs at a context path.
 abbrev pub difference_at : List ComparedContext → List ComparedContext → List ℕ → ContextDifference

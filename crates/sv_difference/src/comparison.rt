@@ -9,7 +9,7 @@ ghost use Rattle.sv_audit.specs.declared.difference.DifferenceKind.TheVariants.{
 ghost use Rattle.sv_difference.specs.ServerDifference as spec;
 
 use crate::contexts::{ComparedContext, ContextDifference, ContextSide, ServerDifference};
-use crate::reached_rows::{only_reached, paths_of};
+use crate::met_rows::{SidePatterns, only_met, paths_of};
 use std::alloc::Global;
 use sv_audit::{Difference, DifferenceKind, Side, differences, table_of};
 use sv_text::{Listed, NoMemory, Text};
@@ -111,7 +111,7 @@ fn shown_side(
     }
 }
 
-/// Returns the differences of two contexts that requests may reach, if both sides have such a context.
+/// Returns the differences of two contexts whose rows requests may meet, if both sides have such a context.
 fn differences_between(
     alloc: Global,
     befores: &[ComparedContext],
@@ -131,13 +131,9 @@ fn differences_between(
     let found = found_between(alloc, before, after)?;
     let before_paths = paths_of(alloc, befores)?;
     let after_paths = paths_of(alloc, afters)?;
-    only_reached(
-        alloc,
-        before_paths.as_slice(),
-        after_paths.as_slice(),
-        path,
-        found,
-    )
+    let before = SidePatterns::of(alloc, before_paths.as_slice(), path, before)?;
+    let after = SidePatterns::of(alloc, after_paths.as_slice(), path, after)?;
+    only_met(alloc, &before, &after, found)
 }
 
 /// Returns the differences of two contexts.

@@ -3,7 +3,7 @@
 ghost use Rattle.sv_difference.specs.ServerLaws.{LoginsChangeOutcomes, ReportedDifferencesAreRight, UnchangedHaveSameOutcomes};
 
 use sv_audit::{differences_are_complete, differences_are_right, served_paths_are_rooted};
-use sv_findings::reach_is_right;
+use sv_findings::{best_patterns_decide, reach_is_right};
 use sv_mapping::laws::{best_is_a_match, the_chosen_context_path_is_unique};
 
 /// If a report says that nothing differs, each request of each visitor has the same outcome with both servers: the same
@@ -12,6 +12,7 @@ pub fn unchanged_have_same_outcomes()
     ensures { UnchangedHaveSameOutcomes }
 {
     best_is_a_match();
+    best_patterns_decide();
     differences_are_complete();
     reach_is_right();
     served_paths_are_rooted();
@@ -20,8 +21,8 @@ pub fn unchanged_have_same_outcomes()
 
 /// Each difference of a report says what the constraints of both contexts decide. There is a visitor for whom each of
 /// its requests has another outcome before than after, if the contexts serve the request, it does not log in, and it is
-/// not for a hidden folder. Whether clients can send such a request is not part of this theorem: only a row that is
-/// hidden, or belongs to another context, is known to have none. If only one of two contexts with the same path has a
+/// not for a hidden folder. Whether clients can send such a request is not part of this theorem: rows that are hidden, that
+/// belong to another context, or whose pattern no canonical path matches are left out. If only one of two contexts with the same path has a
 /// login configuration, requests log in only there.
 pub fn reported_differences_are_right()
     ensures differences { ReportedDifferencesAreRight }

@@ -6,7 +6,7 @@ mod comparison;
 mod contexts;
 mod laws;
 mod lines;
-mod reached_rows;
+mod met_rows;
 mod values;
 
 pub use comparison::server_difference;

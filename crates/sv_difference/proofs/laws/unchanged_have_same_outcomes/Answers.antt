@@ -2,4 +2,4 @@ use Rattle.sv_difference.proofs.ServerLemmas.{same_outcomes}
 use Rattle.sv_difference.proofs.laws.unchanged_have_same_outcomes.Goals as goal
 
 pub returns : goal.returns
-returns c = same_outcomes c.differences_are_complete.ensures.complete c.best_is_a_match.ensures c.reach_is_right.ensures.reached c.served_paths_are_rooted.ensures c.the_chosen_context_path_is_unique.ensures
+returns c = same_outcomes c.differences_are_complete.ensures.complete c.best_is_a_match.ensures c.best_patterns_decide.ensures c.reach_is_right.ensures.reached c.served_paths_are_rooted.ensures c.the_chosen_context_path_is_unique.ensures
