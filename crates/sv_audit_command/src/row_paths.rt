@@ -110,8 +110,8 @@ fn row_example(
     ensures { GivesAnswer result (examples.example patterns.now nested.now pattern.now) }
 {
     match pattern {
-        Some(pattern) => example_of(alloc, patterns, Some(pattern.as_str()), nested),
-        None => example_of(alloc, patterns, None, nested),
+        Some(pattern) => example_of(alloc, patterns, nested, Some(pattern.as_str())),
+        None => example_of(alloc, patterns, nested, None),
     }
 }
 
