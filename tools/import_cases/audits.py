@@ -36,7 +36,7 @@ files = ""
 SHOP = SERVER.replace('path = ""', 'path = "/shop"')
 LINES = f"{NAME}\n3\n7\nrole 12\n"
 USAGE = """sv audit WEB.XML [OPTION ..]
-    imports the web.xml, and shows who may enter where by it; sets --lines, and has three more options:
+    imports the web.xml, and shows who may enter where by it; sets --lines, except with --diff, and has three more options:
     --users FILE            the users: a tomcat-users.xml, or a users file
     --context PATH          the context path; the root without it
     --files FOLDER          the folder of the application, which has its files and its login page
@@ -98,19 +98,28 @@ def audits_that_pass() -> Iterator[tuple[list[str], str]]:
             {**web, "FOLDER/web/server.toml": SERVER.replace('files = ""', 'files = "ROOM/app"')},
         ),
     )
-    diff = ["--secure", "--diff", "FOLDER/other/server.toml", "--as", "ann"]
+    diff = ["--secure", "--diff", "FOLDER/other/server.toml", "--format", "json"]
     yield (
-        [NAME, "--secure", "--diff", OTHER, "--as", "ann", "--context", "/shop"],
+        [NAME, "--secure", "--diff", OTHER, "--format", "json", "--context", "/shop"],
         shown(
-            [*words, *diff],
-            {
-                "FOLDER/web/server.toml": SHOP,
-                "FOLDER/web/web.lines": LINES,
-                "FOLDER/other/server.toml": SHOP,
-            },
+            ["audit", "FOLDER/web/server.toml", *diff],
+            {"FOLDER/web/server.toml": SHOP, "FOLDER/other/server.toml": SHOP},
         ),
     )
-    yield [NAME, "--diff", "old.toml"], shown([*words, "--diff", "old.toml"], web)
+    yield (
+        [NAME, "--diff", "old.toml"],
+        shown(
+            ["audit", "FOLDER/web/server.toml", "--diff", "old.toml"],
+            {"FOLDER/web/server.toml": SERVER},
+        ),
+    )
+    yield (
+        [NAME, "--lines", "our.lines", "--diff", "old.toml"],
+        shown(
+            ["audit", "FOLDER/web/server.toml", "--lines", "our.lines", "--diff", "old.toml"],
+            {"FOLDER/web/server.toml": SERVER},
+        ),
+    )
     yield (
         ["old.toml", "--diff", OTHER],
         shown(

@@ -111,7 +111,7 @@ pub ask_for_one : AskForOne
 ask_for_one arguments one other (s, is, proper, gives) (t, same, own, others) =
     let both = same_heads one.config.now other.config.now (words_of s) (words_of t) (sym is ∙ same) in
     let Give : List Setting → Type 0 = λ settings. GiveRun settings one in
-    run_one t one other both.0 (subst Give (one_settings set.Run set.Run s t proper.0 own.0 both.1) gives) others
+    run_one t one other both.0 (subst Give (one_settings set.Run set.Run s t proper.0.0 own.0.0 both.1) gives) others
 
 access_one : (settings : List Setting) (one other : AccessOptions) → GiveAccess settings one → GiveAccess settings other → SameAccess one other
 access_one settings one other a b = (
@@ -130,4 +130,4 @@ pub audits_one : AuditsOne
 audits_one arguments one other (s, is, proper, gives) (t, same, own, others) =
     let both = same_heads one.config.now other.config.now (words_of s) (words_of t) (sym is ∙ same) in
     let Give : List Setting → Type 0 = λ settings. GiveAccess settings one.access in
-    (both.0, access_one t one.access other.access (subst Give (one_settings set.Audit set.Audit s t proper.0 own.0 both.1) gives) others)
+    (both.0, access_one t one.access other.access (subst Give (one_settings set.Audit set.Audit s t proper.0.0 own.0.0 both.1) gives) others)

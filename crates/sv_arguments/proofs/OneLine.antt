@@ -3,17 +3,19 @@ use Rattle.std.proofs.Common.{◌≡◌, ◌≢◌, ℕ, ◌⊎◌, List, [], �
 use Rattle.std.proofs.lemmas.List.Elements.{All-head, All-tail}
 use Rattle.std.specs.Prelude.{All, codes}
 use Rattle.sv_arguments.proofs.Decoding.{first_same, key_word_injective, same_heads, some_word}
+use Rattle.sv_arguments.proofs.Going.{needs_target}
 use Rattle.sv_arguments.proofs.OneTopic.{called_one, finds_one, named_one}
-use Rattle.sv_arguments.proofs.Wrong.{IsStopped, not_next}
+use Rattle.sv_arguments.proofs.Setting.{some_none}
+use Rattle.sv_arguments.proofs.Wrong.{IsLacking, IsStopped, not_next, stopped_not_read}
 use Rattle.sv_arguments.specs.OptionFault.{IsFree, IsRefused, IsWrong}
 use Rattle.sv_arguments.specs.Options.{AreProper, IsProper}
-use Rattle.sv_arguments.specs.Settings.{Setting, Keyed, IsKey, key_word, rival, set_of, setting_words, values, words_of}
+use Rattle.sv_arguments.specs.Settings.{Setting, Keyed, IsKey, given_rival, key_word, set_of, setting_words, values, words_of}
 use Rattle.sv_arguments.specs.Topics.{IsCalled, topic_name}
 use Rattle.sv_arguments.specs.Usage.{IsHelpLine, IsLineAfter, IsOptionLine, IsUsageLine, about_line, needs_line, option_fault_line, unknown_option}
 use Rattle.sv_program.specs.Shown.{quoted}
 use Rattle.sv_arguments.specs.declared.key.Key.{Key}
 use Rattle.sv_arguments.specs.declared.option_fault.OptionFault.{OptionFault}
-use Rattle.sv_arguments.specs.declared.option_fault.OptionFault.TheVariants.{NoServer, Unknown, Twice, Excluded, NoValue, BadValue}
+use Rattle.sv_arguments.specs.declared.option_fault.OptionFault.TheVariants.{NoServer, Unknown, Twice, Excluded, NoValue, BadValue, Alone}
 use Rattle.sv_arguments.specs.declared.option_set.OptionSet.{OptionSet}
 use Rattle.sv_arguments.specs.declared.option_set.OptionSet.TheVariants as set
 use Rattle.sv_arguments.specs.declared.topic.Topic.{Topic}
@@ -36,23 +38,25 @@ module _ (its : OptionSet) (settings : List Setting) (words : List (List ℕ)) w
 
   -- an option that excludes a given one is not free
   excluded_free : (a b other : Key) (after rest : List (List ℕ)) → words ≡ key_word a ∷ after → words ≡ key_word b ∷ rest
-      → rival a ≡ Some other → values other settings ≢ [] → IsFree its settings b → ⊥
-  excluded_free a b other after rest is same are given free =
-      given (free.2 other (sym (ap rival (one_key a b after rest is same).0) ∙ are))
+      → given_rival settings a ≡ Some other → IsFree its settings b → ⊥
+  excluded_free a b other after rest is same are free =
+      some_none other (sym are ∙ ap (given_rival settings) (one_key a b after rest is same).0 ∙ free.2)
 
-  one_rival : (a b other another : Key) → a ≡ b → rival a ≡ Some other → rival b ≡ Some another → other ≡ another
-  one_rival a b other another same one two = let e : Some other ≡ Some another = sym one ∙ ap rival same ∙ two in cc
+  one_rival : (a b other another : Key) → a ≡ b → given_rival settings a ≡ Some other → given_rival settings b ≡ Some another → other ≡ another
+  one_rival a b other another same one two = let e : Some other ≡ Some another = sym one ∙ ap (given_rival settings) same ∙ two in cc
 
   -- words after some settings have only one fault
   one_wrong : (one other : OptionFault) → IsWrong its settings words one → IsWrong its settings words other
       → option_fault_line its one ≡ option_fault_line its other
   one_wrong one NoServer a b = absurd b
   one_wrong NoServer other a b = absurd a
+  one_wrong one (Alone key by) a b = absurd b
+  one_wrong (Alone key by) other a b = absurd a
   one_wrong (Unknown word) (Unknown next) (after, is, other) (rest, same, none) =
       ap (unknown_option its) (same_heads word.now next.now after rest (sym is ∙ same)).0
   one_wrong (Unknown word) (Twice key) (after, is, other) (rest, same, has, given) =
       absurd (unknown_known word.now key after rest is other has same)
-  one_wrong (Unknown word) (Excluded key by) (after, is, other) (rest, same, has, free, are, given) =
+  one_wrong (Unknown word) (Excluded key by) (after, is, other) (rest, same, has, free, are) =
       absurd (unknown_known word.now key after rest is other has same)
   one_wrong (Unknown word) (NoValue key) (after, is, other) (same, free, some) =
       absurd (unknown_known word.now key after [] is other free.0 same)
@@ -60,7 +64,7 @@ module _ (its : OptionSet) (settings : List Setting) (words : List (List ℕ)) w
       absurd (unknown_known word.now key after (value.now ∷ rest) is other free.0 same)
   one_wrong (Twice key) (Unknown word) (rest, same, has, given) (after, is, other) =
       absurd (unknown_known word.now key after rest is other has same)
-  one_wrong (Excluded key by) (Unknown word) (rest, same, has, free, are, given) (after, is, other) =
+  one_wrong (Excluded key by) (Unknown word) (rest, same, has, free, are) (after, is, other) =
       absurd (unknown_known word.now key after rest is other has same)
   one_wrong (NoValue key) (Unknown word) (same, free, some) (after, is, other) =
       absurd (unknown_known word.now key after [] is other free.0 same)
@@ -68,30 +72,30 @@ module _ (its : OptionSet) (settings : List Setting) (words : List (List ℕ)) w
       absurd (unknown_known word.now key after (value.now ∷ rest) is other free.0 same)
   one_wrong (Twice key) (Twice next) (after, is, has, given) (rest, same, own, more) =
       ap (λ (own : Key). option_fault_line its (Twice own)) (one_key key next after rest is same).0
-  one_wrong (Twice key) (Excluded next by) (after, is, has, given) (rest, same, own, free, are, more) =
+  one_wrong (Twice key) (Excluded next by) (after, is, has, given) (rest, same, own, free, are) =
       absurd (given_free key next after rest is same given free)
   one_wrong (Twice key) (NoValue next) (after, is, has, given) (same, free, some) =
       absurd (given_free key next after [] is same given free.1)
   one_wrong (Twice key) (BadValue next value) (after, is, has, given) (rest, same, free, some, bad) =
       absurd (given_free key next after (value.now ∷ rest) is same given free.1)
-  one_wrong (Excluded key by) (Twice next) (rest, same, own, free, are, more) (after, is, has, given) =
+  one_wrong (Excluded key by) (Twice next) (rest, same, own, free, are) (after, is, has, given) =
       absurd (given_free next key after rest is same given free)
   one_wrong (NoValue key) (Twice next) (same, free, some) (after, is, has, given) =
       absurd (given_free next key after [] is same given free.1)
   one_wrong (BadValue key value) (Twice next) (rest, same, free, some, bad) (after, is, has, given) =
       absurd (given_free next key after (value.now ∷ rest) is same given free.1)
-  one_wrong (Excluded key by) (Excluded next from) (after, is, has, free, are, given) (rest, same, own, unset, rivals, more) =
+  one_wrong (Excluded key by) (Excluded next from) (after, is, has, free, are) (rest, same, own, unset, others) =
       let keys = (one_key key next after rest is same).0 in
       ap (λ (own : Key). option_fault_line its (Excluded own by)) keys
-      ∙ ap (λ (other : Key). option_fault_line its (Excluded next other)) (one_rival key next by from keys are rivals)
-  one_wrong (Excluded key by) (NoValue next) (after, is, has, free, are, given) (same, own, some) =
-      absurd (excluded_free key next by after [] is same are given own)
-  one_wrong (Excluded key by) (BadValue next value) (after, is, has, free, are, given) (rest, same, own, some, bad) =
-      absurd (excluded_free key next by after (value.now ∷ rest) is same are given own)
-  one_wrong (NoValue next) (Excluded key by) (same, own, some) (after, is, has, free, are, given) =
-      absurd (excluded_free key next by after [] is same are given own)
-  one_wrong (BadValue next value) (Excluded key by) (rest, same, own, some, bad) (after, is, has, free, are, given) =
-      absurd (excluded_free key next by after (value.now ∷ rest) is same are given own)
+      ∙ ap (λ (other : Key). option_fault_line its (Excluded next other)) (one_rival key next by from keys are others)
+  one_wrong (Excluded key by) (NoValue next) (after, is, has, free, are) (same, own, some) =
+      absurd (excluded_free key next by after [] is same are own)
+  one_wrong (Excluded key by) (BadValue next value) (after, is, has, free, are) (rest, same, own, some, bad) =
+      absurd (excluded_free key next by after (value.now ∷ rest) is same are own)
+  one_wrong (NoValue next) (Excluded key by) (same, own, some) (after, is, has, free, are) =
+      absurd (excluded_free key next by after [] is same are own)
+  one_wrong (BadValue next value) (Excluded key by) (rest, same, own, some, bad) (after, is, has, free, are) =
+      absurd (excluded_free key next by after (value.now ∷ rest) is same are own)
   one_wrong (NoValue key) (NoValue next) (is, free, some) (same, none, more) = ap needs_line (one_key key next [] [] is same).0
   one_wrong (NoValue key) (BadValue next value) (is, free, some) (rest, same, none, more, bad) =
       absurd (some_word value.now rest (one_key key next [] (value.now ∷ rest) is same).1)
@@ -151,22 +155,50 @@ one_stopped its arguments one other (o, a, x, is, proper, wrong) (p, b, y, same,
     (fork its a b x y proper.0 own.0 (same_heads o p (words_of a ++ x) (words_of b ++ y) (sym is ∙ same)).1)
     proper wrong own bad
 
+-- there are no arguments
+abbrev pub IsMissing : List (List ℕ) → OptionFault → Type 0
+IsMissing arguments fault = (arguments ≡ []) × (fault ≡ NoServer)
+
+-- an option lacks another
+abbrev pub IsLone : OptionSet → List (List ℕ) → OptionFault → Type 0
+IsLone its arguments fault = (key other : Key) × (fault ≡ Alone key other) × IsLacking its arguments key other
+
 refused_how : (its : OptionSet) (arguments : List (List ℕ)) (fault : OptionFault) → IsRefused its arguments fault
-    → ((arguments ≡ []) × (fault ≡ NoServer)) ⊎ IsStopped its arguments fault
+    → IsMissing arguments fault ⊎ (IsStopped its arguments fault ⊎ IsLone its arguments fault)
 refused_how its arguments NoServer refused = inl (refused, refl)
-refused_how its arguments (Unknown word) refused = inr refused
-refused_how its arguments (Twice key) refused = inr refused
-refused_how its arguments (Excluded key other) refused = inr refused
-refused_how its arguments (NoValue key) refused = inr refused
-refused_how its arguments (BadValue key value) refused = inr refused
+refused_how its arguments (Unknown word) refused = inr (inl refused)
+refused_how its arguments (Twice key) refused = inr (inl refused)
+refused_how its arguments (Excluded key other) refused = inr (inl refused)
+refused_how its arguments (NoValue key) refused = inr (inl refused)
+refused_how its arguments (BadValue key value) refused = inr (inl refused)
+refused_how its arguments (Alone key other) refused = inr (inr (key, other, refl, refused))
+
+lone_not_stopped : (its : OptionSet) (arguments : List (List ℕ)) (one other : OptionFault) → IsStopped its arguments one → IsLone its arguments other → ⊥
+lone_not_stopped its arguments one other stopped (key, by, is, (config, settings, same, proper, alone)) =
+    stopped_not_read its arguments one stopped (config, settings, same, proper)
+
+-- only one option needs another
+one_lone : (its : OptionSet) (arguments : List (List ℕ)) (one other : OptionFault) → IsLone its arguments one → IsLone its arguments other
+    → option_fault_line its one ≡ option_fault_line its other
+one_lone its arguments one other (a, b, is, (config, settings, at, proper, (needs, given, missing))) (c, d, same, (name, others, from, own, (more, rest, none))) =
+    let first = needs_target a b needs in
+    let second = needs_target c d more in
+    ap (option_fault_line its)
+    (is ∙ ap (λ (key : Key). Alone key b) (first.0 ∙ sym second.0) ∙ ap (λ (key : Key). Alone c key) (first.1 ∙ sym second.1) ∙ sym same)
 
 one_refused : (its : OptionSet) (arguments : List (List ℕ)) (one other : OptionFault)
-    → ((arguments ≡ []) × (one ≡ NoServer)) ⊎ IsStopped its arguments one → ((arguments ≡ []) × (other ≡ NoServer)) ⊎ IsStopped its arguments other
+    → IsMissing arguments one ⊎ (IsStopped its arguments one ⊎ IsLone its arguments one)
+    → IsMissing arguments other ⊎ (IsStopped its arguments other ⊎ IsLone its arguments other)
     → option_fault_line its one ≡ option_fault_line its other
 one_refused its arguments one other (inl (none, a)) (inl (same, b)) = ap (option_fault_line its) (a ∙ sym b)
-one_refused its arguments one other (inl (none, a)) (inr (p, settings, rest, is, proper, wrong)) = absurd (some_word p (words_of settings ++ rest) (sym none ∙ is))
-one_refused its arguments one other (inr (p, settings, rest, is, proper, wrong)) (inl (none, a)) = absurd (some_word p (words_of settings ++ rest) (sym none ∙ is))
-one_refused its arguments one other (inr a) (inr b) = one_stopped its arguments one other a b
+one_refused its arguments one other (inl (none, a)) (inr (inl (p, settings, rest, is, proper, wrong))) = absurd (some_word p (words_of settings ++ rest) (sym none ∙ is))
+one_refused its arguments one other (inl (none, a)) (inr (inr (key, by, is, (p, settings, same, proper, alone)))) = absurd (some_word p (words_of settings) (sym none ∙ same))
+one_refused its arguments one other (inr (inl (p, settings, rest, is, proper, wrong))) (inl (none, a)) = absurd (some_word p (words_of settings ++ rest) (sym none ∙ is))
+one_refused its arguments one other (inr (inr (key, by, is, (p, settings, same, proper, alone)))) (inl (none, a)) = absurd (some_word p (words_of settings) (sym none ∙ same))
+one_refused its arguments one other (inr (inl a)) (inr (inl b)) = one_stopped its arguments one other a b
+one_refused its arguments one other (inr (inl a)) (inr (inr b)) = absurd (lone_not_stopped its arguments one other a b)
+one_refused its arguments one other (inr (inr a)) (inr (inl b)) = absurd (lone_not_stopped its arguments other one b a)
+one_refused its arguments one other (inr (inr a)) (inr (inr b)) = one_lone its arguments one other a b
 
 one_option_line : (its : OptionSet) (arguments : List (List ℕ)) (a b : List ℕ) → IsOptionLine its arguments a → IsOptionLine its arguments b → a ≡ b
 one_option_line its arguments a b (one, refused, is) (other, wrong, same) =

@@ -1,7 +1,7 @@
 -- The search for an option among the words of settings.
-use Rattle.std.proofs.Common.{◌≡◌, ◌≢◌, ℕ, Bool, true, false, List, [], ◌∷◌, ◌++◌, Option, Some, None, length, map, refl, sym, ap, subst, arith, ◌∙◌, is_some}
+use Rattle.std.proofs.Common.{◌≡◌, ℕ, Bool, true, false, List, [], ◌∷◌, ◌++◌, Option, Some, None, length, map, refl, sym, ap, subst, arith, ◌∙◌, is_some}
 use denote.Ref.{Bor}
-use Rattle.std.proofs.lemmas.Bool.{false≢true, true≢false}
+use Rattle.std.proofs.lemmas.Bool.{true≢false}
 use Rattle.std.proofs.lemmas.List.{length-append, length-map, map-append}
 use Rattle.std.proofs.lemmas.List.Elements.{All-head, All-tail}
 use Rattle.std.specs.Prelude.{All}
@@ -9,7 +9,7 @@ use Rattle.sv_arguments.proofs.Decoding.{flag_empty, key_word_injective, same_he
 use Rattle.sv_arguments.proofs.Setting.{other_value, own_value}
 use Rattle.sv_arguments.specs.Given.{IsFirst, IsSplit}
 use Rattle.sv_arguments.specs.Options.{IsProper}
-use Rattle.sv_arguments.specs.Settings.{Setting, Keyed, key_word, own_words, setting_words, takes_word, value_in, values, words_of}
+use Rattle.sv_arguments.specs.Settings.{Setting, Keyed, has_word, key_word, own_words, setting_words, takes_word, value_in, values, words_of}
 use Rattle.sv_arguments.specs.declared.key.Key.{Key}
 use Rattle.sv_arguments.specs.declared.option_set.OptionSet.{OptionSet}
 
@@ -123,7 +123,8 @@ unset [] found is none = refl
 unset (word ∷ words) (Some value) is none = absurd (true≢false none)
 unset (word ∷ words) None is none = absurd is
 
-pub was_set : (words : List (List ℕ)) (found : Option (Bor (List ℕ))) → IsFirst words found → is_some found ≡ true → words ≢ []
-was_set [] None is some = absurd (false≢true some)
-was_set [] (Some value) is some = absurd is
-was_set (word ∷ words) found is some = λ none. cc
+pub is_set : (words : List (List ℕ)) (found : Option (Bor (List ℕ))) → IsFirst words found → is_some found ≡ has_word words
+is_set [] None is = refl
+is_set [] (Some value) is = absurd is
+is_set (word ∷ words) (Some value) is = refl
+is_set (word ∷ words) None is = absurd is

@@ -1,20 +1,21 @@
 -- Arguments with a fault are no valid arguments.
-use Rattle.std.proofs.Common.{◌≡◌, ℕ, ◌≤◌, ◌⊎◌, inl, inr, List, [], ◌∷◌, ◌++◌, Some, true, length, arith, sym, ap, subst, refl, ◌∙◌}
+use Rattle.std.proofs.Common.{◌≡◌, ℕ, ◌≤◌, List, [], ◌∷◌, ◌++◌, None, true, false, length, arith, sym, ap, subst, refl, ◌∙◌}
+use Rattle.std.proofs.lemmas.Bool.{false≢true, true≢false}
 use Rattle.std.proofs.lemmas.Grind.{flat_map-append}
 use Rattle.std.proofs.lemmas.List.{length-append}
-use Rattle.std.proofs.lemmas.List.Elements.{All-head, All-tail}
+use Rattle.std.proofs.lemmas.List.Elements.{All-head, All-tail, All-weaker}
 use Rattle.std.specs.Prelude.{All, Bool}
-use Rattle.sv_arguments.proofs.Decoding.{key_word_injective, same_heads, some_word, split}
-use Rattle.sv_arguments.proofs.Setting.{own_value}
+use Rattle.sv_arguments.proofs.Decoding.{key_word_injective, one_settings, same_heads, some_word, split}
+use Rattle.sv_arguments.proofs.Setting.{finds_none, none_passes, own_value, some_none}
 use Rattle.sv_arguments.specs.AuditOptions.{IsAudit}
-use Rattle.sv_arguments.specs.OptionFault.{IsRefused, IsWrong}
-use Rattle.sv_arguments.specs.Options.{AreProper, IsProper, IsValue}
+use Rattle.sv_arguments.specs.OptionFault.{Lacks, IsRefused, IsWrong}
+use Rattle.sv_arguments.specs.Options.{AreComplete, AreProper, IsProper, IsValue}
 use Rattle.sv_arguments.specs.RunOptions.{IsAsked}
-use Rattle.sv_arguments.specs.Settings.{Setting, Keyed, key_word, own_words, rival, setting_words, takes_word, value_in, values, words_of}
+use Rattle.sv_arguments.specs.Settings.{Setting, Keyed, given_rival, has_word, is_given, key_word, own_words, rivals, setting_words, takes_word, value_in, values, words_of}
 use Rattle.sv_arguments.specs.declared.audit_options.AuditOptions.{AuditOptions}
 use Rattle.sv_arguments.specs.declared.key.Key.{Key}
 use Rattle.sv_arguments.specs.declared.option_fault.OptionFault.{OptionFault}
-use Rattle.sv_arguments.specs.declared.option_fault.OptionFault.TheVariants.{NoServer, Unknown, Twice, Excluded, NoValue, BadValue}
+use Rattle.sv_arguments.specs.declared.option_fault.OptionFault.TheVariants.{NoServer, Unknown, Twice, Excluded, NoValue, BadValue, Alone}
 use Rattle.sv_arguments.specs.declared.option_set.OptionSet.{OptionSet}
 use Rattle.sv_arguments.specs.declared.option_set.OptionSet.TheVariants as set
 use Rattle.sv_arguments.specs.declared.run_options.RunOptions.{RunOptions}
@@ -23,13 +24,13 @@ only_one : (xs ys : List (List ℕ)) (x : List ℕ) → length (xs ++ x ∷ ys) 
 only_one [] ys x few = refl
 only_one (h ∷ xs) ys x few = absurd (omega (arith, length-append xs (x ∷ ys), few))
 
-front_none : (xs ys : List (List ℕ)) → xs ++ ys ≡ [] → xs ≡ []
+front_none : (xs ys : List (List ℕ)) → has_word (xs ++ ys) ≡ false → has_word xs ≡ false
 front_none [] ys none = refl
-front_none (h ∷ xs) ys none = cc
+front_none (h ∷ xs) ys none = absurd (true≢false none)
 
-middle_some : (xs ys : List (List ℕ)) (x : List ℕ) → xs ++ x ∷ ys ≡ [] → ⊥
-middle_some [] ys x none = cc
-middle_some (h ∷ xs) ys x none = cc
+middle_some : (xs ys : List (List ℕ)) (x : List ℕ) → has_word (xs ++ x ∷ ys) ≡ true
+middle_some [] ys x = refl
+middle_some (h ∷ xs) ys x = refl
 
 all_after : (P : Setting → Type 0) (done : List Setting) (rest : List Setting) → All P (done ++ rest) → All P rest
 all_after P [] rest all = all
@@ -52,14 +53,18 @@ module _ (its : OptionSet) (done : List Setting) where
         let Few : List (List ℕ) → Type 0 = λ words. length words ≤ 1 in
         only_one (values key done) (values key more) value (subst Few (values_keyed key value done more) (proper.1 key))
 
-    no_rival : (other : Key) → rival key ≡ Some other → values other done ≡ []
-    no_rival other are = by (proper.2 key other are)
-      where
-        by : (values key (done ++ Keyed key value ∷ more) ≡ []) ⊎ (values other (done ++ Keyed key value ∷ more) ≡ []) → values other done ≡ []
-        by (inl none) = absurd (middle_some (values key done) (values key more) value (sym (values_keyed key value done more) ∙ none))
-        by (inr none) =
-            front_none (values other done) (values other (Keyed key value ∷ more))
-            (sym (flat_map-append (value_in other) done (Keyed key value ∷ more)) ∙ none)
+    given_before : (other : Key) → is_given (done ++ Keyed key value ∷ more) other ≡ false → is_given done other ≡ false
+    given_before other none =
+        front_none (values other done) (values other (Keyed key value ∷ more))
+        (sym (ap has_word (flat_map-append (value_in other) done (Keyed key value ∷ more))) ∙ none)
+
+    no_rival : given_rival done key ≡ None
+    no_rival =
+        let given : is_given (done ++ Keyed key value ∷ more) key ≡ true =
+        ap has_word (values_keyed key value done more) ∙ middle_some (values key done) (values key more) value in
+        finds_none (is_given done) (rivals key)
+        (All-weaker (λ k. is_given (done ++ Keyed key value ∷ more) k ≡ false) (λ k. is_given done k ≡ false) given_before (rivals key)
+        (none_passes (is_given (done ++ Keyed key value ∷ more)) (rivals key) (proper.2 key given)))
 
     -- words with a fault do not begin with one more setting
     module _ (words rest : List (List ℕ)) (same : words ≡ setting_words (Keyed key value) ++ rest) where
@@ -78,22 +83,24 @@ module _ (its : OptionSet) (done : List Setting) where
       not_next NoServer wrong = wrong
       not_next (Unknown word) (after, is, other) = other key (own.0, (named word.now after is).0)
       not_next (Twice k) (after, is, has, given) = given (ap (λ (any : Key). values any done) (same_key k after is) ∙ once)
-      not_next (Excluded k other) (after, is, has, free, are, given) =
-          given (no_rival other (sym (ap rival (same_key k after is)) ∙ are))
+      not_next (Excluded k other) (after, is, has, free, are) =
+          some_none other (sym are ∙ ap (given_rival done) (same_key k after is) ∙ no_rival)
       not_next (NoValue k) (is, free, some) = some_word value rest (taken k [] is some)
       not_next (BadValue k text) (after, is, free, some, bad) =
           let heads = same_heads text.now value after rest (taken k (text.now ∷ after) is some) in
           let Is : Key → Type 0 = λ any. IsValue any value in
           let At : List ℕ → Type 0 = λ word. IsValue k word in
           bad (subst At (sym heads.0) (subst Is (sym (same_key k (text.now ∷ after) is)) own.1))
+      not_next (Alone k other) wrong = wrong
 
   none_wrong : (words : List (List ℕ)) (fault : OptionFault) → IsWrong its done words fault → words ≡ [] → ⊥
   none_wrong words NoServer wrong none = wrong
   none_wrong words (Unknown word) (after, is, other) none = some_word word.now after (sym none ∙ is)
   none_wrong words (Twice key) (after, is, has, given) none = some_word (key_word key) after (sym none ∙ is)
-  none_wrong words (Excluded key other) (after, is, has, free, are, given) none = some_word (key_word key) after (sym none ∙ is)
+  none_wrong words (Excluded key other) (after, is, has, free, are) none = some_word (key_word key) after (sym none ∙ is)
   none_wrong words (NoValue key) (is, free, some) none = some_word (key_word key) [] (sym none ∙ is)
   none_wrong words (BadValue key value) (after, is, free, some, bad) none = some_word (key_word key) (value.now ∷ after) (sym none ∙ is)
+  none_wrong words (Alone key other) wrong none = wrong
 
   -- words with a fault are not those of further settings
   not_more : (words : List (List ℕ)) (fault : OptionFault) → IsWrong its done words fault → (more : List Setting) → words ≡ words_of more
@@ -106,16 +113,36 @@ IsStopped its arguments fault =
     (config : List ℕ) × (settings : List Setting) × (rest : List (List ℕ))
     × (arguments ≡ config ∷ (words_of settings ++ rest)) × AreProper its settings × IsWrong its settings rest fault
 
--- the arguments are a name and the words of proper settings
-abbrev pub AreValid : OptionSet → List (List ℕ) → Type 0
-AreValid its arguments = (config : List ℕ) × (settings : List Setting) × (arguments ≡ config ∷ words_of settings) × AreProper its settings
+-- the arguments are a name and the words of proper settings, which have an option without another
+abbrev pub IsLacking : OptionSet → List (List ℕ) → Key → Key → Type 0
+IsLacking its arguments key other =
+    (config : List ℕ) × (settings : List Setting) × (arguments ≡ config ∷ words_of settings) × AreProper its settings × Lacks settings key other
 
-stopped_not_valid : (its : OptionSet) (arguments : List (List ℕ)) (fault : OptionFault) → IsStopped its arguments fault → AreValid its arguments → ⊥
-stopped_not_valid its arguments fault (config, settings, rest, same, proper, wrong) (name, all, is, valid) =
+-- the arguments are a name and the words of proper settings
+abbrev pub AreRead : OptionSet → List (List ℕ) → Type 0
+AreRead its arguments = (config : List ℕ) × (settings : List Setting) × (arguments ≡ config ∷ words_of settings) × AreProper its settings
+
+-- the arguments are a name and the words of complete settings
+abbrev pub AreValid : OptionSet → List (List ℕ) → Type 0
+AreValid its arguments = (config : List ℕ) × (settings : List Setting) × (arguments ≡ config ∷ words_of settings) × AreComplete its settings
+
+pub stopped_not_read : (its : OptionSet) (arguments : List (List ℕ)) (fault : OptionFault) → IsStopped its arguments fault → AreRead its arguments → ⊥
+stopped_not_read its arguments fault (config, settings, rest, same, proper, wrong) (name, all, is, valid) =
     let heads = same_heads name config (words_of all) (words_of settings ++ rest) (sym is ∙ same) in
     let cut = split its its settings all rest valid.0 proper.0 heads.1 in
     let Are : List Setting → Type 0 = λ others. AreProper its others in
     not_more its settings rest fault wrong cut.0 cut.2 (subst Are cut.1 valid)
+
+stopped_not_valid : (its : OptionSet) (arguments : List (List ℕ)) (fault : OptionFault) → IsStopped its arguments fault → AreValid its arguments → ⊥
+stopped_not_valid its arguments fault stopped (name, all, is, valid) = stopped_not_read its arguments fault stopped (name, all, is, valid.0)
+
+lacking_not_valid : (its : OptionSet) (arguments : List (List ℕ)) (key other : Key) → IsLacking its arguments key other → AreValid its arguments → ⊥
+lacking_not_valid its arguments key other (config, settings, same, proper, (needs, given, missing)) (name, all, is, valid) =
+    let heads = same_heads config name (words_of settings) (words_of all) (sym same ∙ is) in
+    let one = one_settings its its settings all proper.0 valid.0.0 heads.1 in
+    false≢true
+    (sym missing ∙ ap (λ (any : List Setting). is_given any other) one
+    ∙ valid.1 key other needs (sym (ap (λ (any : List Setting). is_given any key) one) ∙ given))
 
 not_valid : (its : OptionSet) (arguments : List (List ℕ)) (fault : OptionFault) → IsRefused its arguments fault → AreValid its arguments → ⊥
 not_valid its arguments NoServer none (name, all, is, valid) = some_word name (words_of all) (sym none ∙ is)
@@ -124,6 +151,7 @@ not_valid its arguments (Twice key) refused valid = stopped_not_valid its argume
 not_valid its arguments (Excluded key other) refused valid = stopped_not_valid its arguments (Excluded key other) refused valid
 not_valid its arguments (NoValue key) refused valid = stopped_not_valid its arguments (NoValue key) refused valid
 not_valid its arguments (BadValue key value) refused valid = stopped_not_valid its arguments (BadValue key value) refused valid
+not_valid its arguments (Alone key other) refused valid = lacking_not_valid its arguments key other refused valid
 
 pub not_asked : (arguments : List (List ℕ)) (fault : OptionFault) → IsRefused set.Run arguments fault → (asked : RunOptions) → IsAsked arguments asked → ⊥
 not_asked arguments fault refused asked (settings, is, proper, give) =

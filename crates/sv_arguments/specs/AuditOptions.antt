@@ -1,7 +1,7 @@
 -- The meaning of the arguments of the command `audit`.
 use Rattle.std.specs.Prelude.{◌≡◌, ℕ, List, [], ◌∷◌, Option, Some, None}
 use Rattle.sv_arguments.specs.AuditWords.{IsFormat}
-use Rattle.sv_arguments.specs.Options.{AreProper}
+use Rattle.sv_arguments.specs.Options.{AreComplete}
 use Rattle.sv_arguments.specs.Settings.{Setting, values, words_of}
 use Rattle.sv_arguments.specs.Values.{IsGiven, IsName, Says, SaysOr}
 use Rattle.sv_arguments.specs.declared.audit_options.AuditOptions.{AuditOptions}
@@ -35,4 +35,4 @@ GiveAccess settings options =
 -- the arguments are the name of the server file, then the words of settings in any order, which give these options
 abbrev pub IsAudit : List (List ℕ) → AuditOptions → Type 0
 IsAudit arguments options =
-    (settings : List Setting) × (arguments ≡ options.config.now ∷ words_of settings) × AreProper Audit settings × GiveAccess settings options.access
+    (settings : List Setting) × (arguments ≡ options.config.now ∷ words_of settings) × AreComplete Audit settings × GiveAccess settings options.access

@@ -1,7 +1,7 @@
 -- The options of a command, as the words that give them.
 use Rattle.std.specs.Prelude.{◌≡◌, ℕ, List, [], ◌∷◌, ◌++◌, Option, Some, None, map}
 use denote.Ref.{Bor}
-use Rattle.sv_arguments.specs.Options.{AreProper}
+use Rattle.sv_arguments.specs.Options.{AreComplete, AreProper}
 use Rattle.sv_arguments.specs.Settings.{Setting, setting_words, words_of}
 use Rattle.sv_arguments.specs.declared.option_set.OptionSet.{OptionSet}
 
@@ -14,6 +14,10 @@ IsFirst words found = ⊥
 -- the words are those of proper settings
 abbrev pub AreOf : OptionSet → List (List ℕ) → List Setting → Type 0
 AreOf set words settings = (words ≡ words_of settings) × AreProper set settings
+
+-- the words are those of complete settings
+abbrev pub AreAllOf : OptionSet → List (List ℕ) → List Setting → Type 0
+AreAllOf set words settings = (words ≡ words_of settings) × AreComplete set settings
 
 -- the words are a setting, which may follow these, and further words
 abbrev pub IsNext : OptionSet → List Setting → List (List ℕ) → List (List ℕ) → Type 0

@@ -1,8 +1,8 @@
 -- Which options the arguments of a command may have.
-use Rattle.std.specs.Prelude.{◌≡◌, ◌⊎◌, ℕ, ◌≤◌, List, [], length, All, Some}
+use Rattle.std.specs.Prelude.{◌≡◌, ℕ, ◌≤◌, true, List, [], length, All, Some, None}
 use Rattle.sv_audit_command.specs.Kinds.{AreKinds}
 use Rattle.sv_audit_command.specs.declared.access_options.Format as report
-use Rattle.sv_arguments.specs.Settings.{Setting, Keyed, rival, set_of, values}
+use Rattle.sv_arguments.specs.Settings.{Setting, Keyed, given_rival, is_given, needed, set_of, values}
 use Rattle.sv_arguments.specs.Values.{IsAddress, IsCount}
 use Rattle.sv_arguments.specs.AuditWords.{IsFormat}
 use Rattle.sv_arguments.specs.declared.key.Key.{Key}
@@ -31,4 +31,9 @@ abbrev pub AreProper : OptionSet → List Setting → Type 0
 AreProper set settings =
     All (IsProper set) settings
     × ((key : Key) → length (values key settings) ≤ 1)
-    × ((key other : Key) → rival key ≡ Some other → (values key settings ≡ []) ⊎ (values other settings ≡ []))
+    × ((key : Key) → is_given settings key ≡ true → given_rival settings key ≡ None)
+
+-- proper options, each with the option that it needs
+abbrev pub AreComplete : OptionSet → List Setting → Type 0
+AreComplete set settings =
+    AreProper set settings × ((key other : Key) → needed key ≡ Some other → is_given settings key ≡ true → is_given settings other ≡ true)

@@ -1,6 +1,6 @@
 -- The meaning of the arguments of the command `run`.
 use Rattle.std.specs.Prelude.{◌≡◌, ℕ, List, ◌∷◌}
-use Rattle.sv_arguments.specs.Options.{AreProper}
+use Rattle.sv_arguments.specs.Options.{AreComplete}
 use Rattle.sv_arguments.specs.Settings.{Setting, values, words_of}
 use Rattle.sv_arguments.specs.Values.{IsAddress, IsCount, IsGiven, IsName, Says}
 use Rattle.sv_arguments.specs.declared.key.Key.TheVariants.{Connections, Control, HeldMebibytes, IdleSeconds, Journal, Listen, SameSeed}
@@ -21,4 +21,4 @@ GiveRun settings options =
 -- the arguments are the name of the server file, then the words of settings in any order, which give these options
 abbrev pub IsAsked : List (List ℕ) → RunOptions → Type 0
 IsAsked arguments options =
-    (settings : List Setting) × (arguments ≡ options.config.now ∷ words_of settings) × AreProper Run settings × GiveRun settings options
+    (settings : List Setting) × (arguments ≡ options.config.now ∷ words_of settings) × AreComplete Run settings × GiveRun settings options

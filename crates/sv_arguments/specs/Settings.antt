@@ -1,6 +1,6 @@
 -- The options of the commands as words.
 use Rattle.std.specs.Prelude.{◌≡◌, ℕ, Bool, true, false, List, [], ◌∷◌, codes, map, Option, Some, None}
-use Rattle.std.specs.List.{flat_map}
+use Rattle.std.specs.List.{find, flat_map}
 use Rattle.std.specs.Str.{bytes_eq}
 use Rattle.sv_arguments.specs.declared.key.Key.{Key}
 use Rattle.sv_arguments.specs.declared.key.Key.TheVariants.{Control, Journal, Listen, SameSeed, Connections, IdleSeconds, HeldMebibytes, Secure, Format, As, Role, FailOn, Accept, Lines, Path, Method, Diff}
@@ -82,13 +82,23 @@ takes_word SameSeed = false
 takes_word Secure = false
 takes_word other = true
 
--- the option that cannot be given with this one
-abbrev pub rival : Key → Option Key
-rival As = Some Role
-rival Role = Some As
-rival Path = Some Diff
-rival Diff = Some Path
-rival other = None
+-- the options that cannot be given with this one, in the order of the help
+abbrev pub rivals : Key → List Key
+rivals Format = Path ∷ []
+rivals As = Role ∷ Diff ∷ []
+rivals Role = As ∷ Diff ∷ []
+rivals FailOn = Path ∷ []
+rivals Accept = Path ∷ Diff ∷ []
+rivals Lines = Diff ∷ []
+rivals Path = Format ∷ FailOn ∷ Accept ∷ Diff ∷ []
+rivals Method = Diff ∷ []
+rivals Diff = As ∷ Role ∷ Accept ∷ Lines ∷ Path ∷ Method ∷ []
+rivals other = []
+
+-- the option that must be given with this one
+abbrev pub needed : Key → Option Key
+needed Method = Some Path
+needed other = None
 
 -- the word after the option's own, if it takes one
 abbrev pub own_words : Bool → List ℕ → List (List ℕ)
@@ -108,3 +118,16 @@ value_in key (Keyed own word) = own_words (bytes_eq (key_word key) (key_word own
 -- the words after an option
 abbrev pub values : Key → List Setting → List (List ℕ)
 values key settings = flat_map (value_in key) settings
+
+-- there is a word
+abbrev pub has_word : List (List ℕ) → Bool
+has_word [] = false
+has_word (word ∷ words) = true
+
+-- the option is among these settings
+abbrev pub is_given : List Setting → Key → Bool
+is_given settings key = has_word (values key settings)
+
+-- the first of the options that cannot be given with this one and that is among these settings
+abbrev pub given_rival : List Setting → Key → Option Key
+given_rival settings key = find (is_given settings) (rivals key)

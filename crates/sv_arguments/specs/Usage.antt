@@ -8,7 +8,7 @@ use Rattle.sv_arguments.specs.Topics.{IsCalled, topic_name, topic_names, topic_u
 use Rattle.sv_arguments.specs.Values.{Finds}
 use Rattle.sv_arguments.specs.declared.key.Key.{Key}
 use Rattle.sv_arguments.specs.declared.option_fault.OptionFault.{OptionFault}
-use Rattle.sv_arguments.specs.declared.option_fault.OptionFault.TheVariants.{NoServer, Unknown, Twice, Excluded, NoValue, BadValue}
+use Rattle.sv_arguments.specs.declared.option_fault.OptionFault.TheVariants.{NoServer, Unknown, Twice, Excluded, NoValue, BadValue, Alone}
 use Rattle.sv_arguments.specs.declared.option_set.OptionSet.{OptionSet}
 use Rattle.sv_arguments.specs.declared.option_set.OptionSet.TheVariants as set
 use Rattle.sv_arguments.specs.declared.topic.Topic.{Topic}
@@ -64,6 +64,7 @@ option_fault_line its (Twice key) = codes "  " ++ key_word key ++ codes " is giv
 option_fault_line its (Excluded key other) = codes "  " ++ key_word key ++ codes " cannot be given with " ++ key_word other
 option_fault_line its (NoValue key) = needs_line key
 option_fault_line its (BadValue key value) = needs_line key ++ codes ", not " ++ quoted value.now
+option_fault_line its (Alone key other) = codes "  " ++ key_word key ++ codes " needs " ++ key_word other
 
 abbrev pub IsOptionLine : OptionSet → List (List ℕ) → List ℕ → Type 0
 IsOptionLine its arguments line = (fault : OptionFault) × IsRefused its arguments fault × (line ≡ option_fault_line its fault)

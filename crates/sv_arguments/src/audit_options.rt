@@ -27,11 +27,12 @@ pub struct AuditOptions<'a> {
 impl<'a> AuditOptions<'a> {
     /// Parses the arguments: the name of the server file, followed by options in any order, each at most once. The
     /// options are `--secure`, `--format FORMAT` (`text`, `json`, `html` or `keys`; `text` without it), `--as USER` or
-    /// `--role ROLE`, but not both, `--fail-on KINDS`, `--accept FILE`, `--lines FILE`, and `--path TARGET` with
-    /// `--method METHOD` or `--diff OTHER`, but not both.
+    /// `--role ROLE`, but not both, `--fail-on KINDS`, `--accept FILE`, `--lines FILE`, `--path TARGET`,
+    /// `--method METHOD`, which needs `--path`, and `--diff OTHER`. `--path` excludes `--format`, `--fail-on` and
+    /// `--accept`, and `--diff` excludes all but `--secure`, `--format` and `--fail-on`.
     ///
     /// # Errors
-    /// The first fault, from the left.
+    /// The first fault, from the left, or else an option without the one that it needs.
     pub fn parse(arguments: &'a [String]) -> Result<AuditOptions<'a>, OptionFault<'a>>
         ensures it { IfOk result (spec.IsAudit (map string_bytes arguments.now)) }
         ensures fault { IfErr result (IsRefused OptionSet.Audit (map string_bytes arguments.now)) }

@@ -1,10 +1,10 @@
 //! The options of a command as words.
 
-ghost use Rattle.std.specs.Prelude.{◌≡◌, ◌≢◌, ◌∷◌, ◌++◌, ◌≤◌, ℕ, List, [], Some, None, All, IfErr, IfOk, IfSome, false, is_some, length, map, string_bytes};
-ghost use Rattle.sv_arguments.specs.Given.{AreOf, IsFirst, IsNext, IsSplit};
+ghost use Rattle.std.specs.Prelude.{◌≡◌, ◌∷◌, ◌++◌, ◌≤◌, ◌&&◌, ℕ, List, All, IfErr, IfOk, IfSome, length, map, not, string_bytes};
+ghost use Rattle.sv_arguments.specs.Given.{AreAllOf, AreOf, IsFirst, IsNext, IsSplit};
 ghost use Rattle.sv_arguments.specs.OptionFault.{IsRefused, IsWrong};
 ghost use Rattle.sv_arguments.specs.Options.{AreProper, IsProper, IsValue};
-ghost use Rattle.sv_arguments.specs.Settings.{Keyed, Setting, rival, setting_words, values, words_of};
+ghost use Rattle.sv_arguments.specs.Settings.{Keyed, Setting, given_rival, is_given, setting_words, values, words_of};
 ghost use Rattle.sv_arguments.specs.Values.{IsAddress, IsCount, IsGiven, IsName, Says};
 
 use crate::count::{address_in, count_in};
@@ -14,7 +14,7 @@ use crate::option_set::OptionSet;
 use std::net::SocketAddr;
 
 /// The server file of a command, and its options as words: the options of its set in any order, each at most once,
-/// each with a value of it, and no two that exclude each other.
+/// each with a value of it and with the option that it needs, and no two that exclude each other.
 #[derive(Clone, Copy)]
 pub(crate) struct Given<'a> {
     /// The name of the server file.
@@ -27,13 +27,13 @@ impl<'a> Given<'a> {
     /// Parses the arguments: the name of the server file, followed by options.
     ///
     /// # Errors
-    /// The first fault, from the left.
+    /// The first fault, from the left, or else an option without the one that it needs.
     pub(crate) fn parse(
         set: OptionSet,
         arguments: &'a [String],
     ) -> Result<Given<'a>, OptionFault<'a>>
         ensures it { IfOk result (λ given. (given.set ≡ set) × (map string_bytes arguments.now ≡ given.config.now ∷ map string_bytes given.words.now)
-            × (settings : List Setting) × AreOf set (map string_bytes given.words.now) settings) }
+            × (settings : List Setting) × AreAllOf set (map string_bytes given.words.now) settings) }
         ensures fault { IfErr result (IsRefused set (map string_bytes arguments.now)) }
     {
         let Some((config, words)) = arguments.split_first() else {
@@ -44,6 +44,9 @@ impl<'a> Given<'a> {
             let done = before(words, rest);
             let others = rest_behind(set, done, word.as_str(), after)?;
             rest = others;
+        }
+        if lacks_target(set, words) {
+            return Err(OptionFault::Alone(Key::Method, Key::Path));
         }
         Ok(Given {
             config: config.as_str(),
@@ -129,18 +132,24 @@ fn rest_behind<'a>(
     Ok(rest)
 }
 
-/// Returns the option among these words that excludes this one.
+/// Returns the first of the options that exclude this one and that is among these words.
 fn rival_in(set: OptionSet, words: &[String], key: Key) -> Option<Key>
-    ensures it { IfSome result (λ other. (rival key ≡ Some other) × ((settings : List Setting) → AreOf set (map string_bytes words.now) settings → values other settings ≢ [])) }
-    ensures none { is_some result ≡ false → (settings : List Setting) → AreOf set (map string_bytes words.now) settings
-        → (other : Key) → rival key ≡ Some other → values other settings ≡ [] }
+    ensures { (settings : List Setting) → AreOf set (map string_bytes words.now) settings → result ≡ given_rival settings key }
 {
-    let other = key.rival()?;
-    if value_in(set, words, other).is_some() {
-        Some(other)
-    } else {
-        None
+    for other in key.rivals() {
+        if value_in(set, words, *other).is_some() {
+            return Some(*other);
+        }
     }
+    None
+}
+
+/// Returns whether the method of a request is among these words, and its target is not.
+fn lacks_target(set: OptionSet, words: &[String]) -> bool
+    ensures { (settings : List Setting) → AreOf set (map string_bytes words.now) settings
+        → result ≡ is_given settings Key.Method && not (is_given settings Key.Path) }
+{
+    value_in(set, words, Key::Method).is_some() && value_in(set, words, Key::Path).is_none()
 }
 
 /// Returns the word after the first option of this key.

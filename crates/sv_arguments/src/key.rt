@@ -2,7 +2,7 @@
 
 ghost use Rattle.std.specs.Prelude.{◌≡◌, ◌↔◌, true};
 ghost use Rattle.sv_arguments.specs.Options.{IsValue};
-ghost use Rattle.sv_arguments.specs.Settings.{key_word, rival, takes_word, value_name};
+ghost use Rattle.sv_arguments.specs.Settings.{key_word, rivals, takes_word, value_name};
 
 use crate::audit_options::format_named;
 use crate::count::{address_in, count_in};
@@ -132,28 +132,35 @@ impl Key {
         }
     }
 
-    /// Returns the option that cannot be given with this one, if there is one.
-    pub(crate) fn rival(self) -> Option<Key>
-        ensures { result ≡ rival self }
+    /// Returns the options that cannot be given with this one, in the order of the help.
+    pub(crate) fn rivals(self) -> &'static [Key]
+        ensures { result.now ≡ rivals self }
     {
         match self {
-            Key::Control => None,
-            Key::Journal => None,
-            Key::Listen => None,
-            Key::SameSeed => None,
-            Key::Connections => None,
-            Key::IdleSeconds => None,
-            Key::HeldMebibytes => None,
-            Key::Secure => None,
-            Key::Format => None,
-            Key::As => Some(Key::Role),
-            Key::Role => Some(Key::As),
-            Key::FailOn => None,
-            Key::Accept => None,
-            Key::Lines => None,
-            Key::Path => Some(Key::Diff),
-            Key::Method => None,
-            Key::Diff => Some(Key::Path),
+            Key::Control => &[],
+            Key::Journal => &[],
+            Key::Listen => &[],
+            Key::SameSeed => &[],
+            Key::Connections => &[],
+            Key::IdleSeconds => &[],
+            Key::HeldMebibytes => &[],
+            Key::Secure => &[],
+            Key::Format => &[Key::Path],
+            Key::As => &[Key::Role, Key::Diff],
+            Key::Role => &[Key::As, Key::Diff],
+            Key::FailOn => &[Key::Path],
+            Key::Accept => &[Key::Path, Key::Diff],
+            Key::Lines => &[Key::Diff],
+            Key::Path => &[Key::Format, Key::FailOn, Key::Accept, Key::Diff],
+            Key::Method => &[Key::Diff],
+            Key::Diff => &[
+                Key::As,
+                Key::Role,
+                Key::Accept,
+                Key::Lines,
+                Key::Path,
+                Key::Method,
+            ],
         }
     }
 

@@ -2,7 +2,7 @@
 
 use crate::key::Key;
 
-/// The first fault, from the left, of the arguments of a command.
+/// The fault of the arguments of a command: the first from the left, or else an option that lacks another.
 #[derive(Clone, Copy)]
 pub enum OptionFault<'a> {
     /// There is no server file.
@@ -11,10 +11,13 @@ pub enum OptionFault<'a> {
     Unknown(&'a str),
     /// The option is given twice.
     Twice(Key),
-    /// The first option cannot be given with the second, which was given before.
+    /// The first option cannot be given with the second, which was given before. If several such options were given
+    /// before, the second is the first of them in the order of the help.
     Excluded(Key, Key),
     /// The option is the last argument, and its word is missing.
     NoValue(Key),
     /// The word after the option is not a value of it.
     BadValue(Key, &'a str),
+    /// The first option is given, and the second, which it needs, is not.
+    Alone(Key, Key),
 }

@@ -227,6 +227,7 @@ fn option_fault_line(
         OptionFault::Excluded(key, other) => excluded_line(alloc, key, other),
         OptionFault::NoValue(key) => needs_line(alloc, key),
         OptionFault::BadValue(key, value) => bad_value_line(alloc, key, value),
+        OptionFault::Alone(key, other) => alone_line(alloc, key, other),
     }
 }
 
@@ -257,6 +258,13 @@ fn bad_value_line(alloc: Global, key: Key, value: &str) -> Result<Text, NoMemory
     let needs = needs_line(alloc, key)?;
     let value = quoted(alloc, value)?;
     Ok(Text::from_string(format!(in alloc; "{needs}, not {value}")?))
+}
+
+fn alone_line(alloc: Global, key: Key, other: Key) -> Result<Text, NoMemory>
+    ensures { GivesAnswer result (codes "  " ++ key_word key ++ codes " needs " ++ key_word other) }
+{
+    let (word, needed) = (key.word(), other.word());
+    Ok(Text::from_string(format!(in alloc; "  {word} needs {needed}")?))
 }
 
 /// Arguments that name no command have only one second line.

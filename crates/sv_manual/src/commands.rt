@@ -93,7 +93,7 @@ pub const OPTIONS: [OptionRow; 18] = [
         "--fail-on",
         "KINDS",
         "exits with status 4 if there are findings of these kinds, joined by commas, or any:
-opened, uncovered, read-otherwise, head-differs, dead, dead-pattern, unreached,
+open, uncovered, read-otherwise, head-differs, dead, dead-pattern, unreached,
 unserved, escaped, login-needs, unknown-role, unheld-role, unused-role",
     ),
     (
@@ -112,19 +112,21 @@ unserved, escaped, login-needs, unknown-role, unheld-role, unused-role",
         "audit",
         "--path",
         "TARGET",
-        "explains one request to that target, in sentences",
+        "explains one request to that target, in sentences;
+not with --format, --fail-on, --accept or --diff",
     ),
     (
         "audit",
         "--method",
         "METHOD",
-        "the method of that request; GET without it",
+        "the method of that request; GET without it; needs --path",
     ),
     (
         "audit",
         "--diff",
         "OTHER",
-        "shows what the server file OTHER decides differently; text or json; not with --path",
+        "shows what the server file OTHER decides differently; text or json;
+not with --as, --role, --accept, --lines, --path or --method",
     ),
     (
         "run",

@@ -1,4 +1,4 @@
-use Rattle.std.proofs.Common.{[], map, refl, string_bytes, sym, ◌∙◌}
+use Rattle.std.proofs.Common.{[], map, string_bytes, sym, ◌∙◌}
 use Rattle.std.proofs.lemmas.Bool.{false≢true}
 use Rattle.sv_arguments.proofs.Going.{behind_is}
 use Rattle.sv_arguments.proofs.Setting.{flag_value, flag_words, keyed_words, proper_more, taken_words}
@@ -12,7 +12,7 @@ returns-then-not-takes_word-clause-it c = λ settings are.
     let free = unset (values c.in-Some.key settings) c.value_in.result (c.value_in.ensures settings are.0 are.1.0) (sym c.is_some.ensures ∙ c.if-is_some.false) in (
       Keyed c.in-Some.key [],
       flag_words c.in-Some.key c.args.word.now (map string_bytes c.args.after.now) c.in-Some.ensures.0.1 none,
-      proper_more c.args.set settings c.in-Some.key [] are.1 (c.in-Some.ensures.0.0, free, c.in_default-rival_in.ensures.none refl settings are)
+      proper_more c.args.set settings c.in-Some.key [] are.1 (c.in-Some.ensures.0.0, free, sym (c.in_default-rival_in.ensures settings are))
           (flag_value c.in-Some.key none),
     )
 
@@ -24,7 +24,7 @@ returns-then-not-is_value-clause-fault c = λ settings are.
           c.in-Some.ensures.0.1
           (behind_is string_bytes c.args.after.now c.in-Some-split_first.value.now c.in-Some-split_first.rest.now c.as_str-value.result.now
           c.in-Some-split_first.ensures.cases.0 c.as_str-value.ensures.value),
-      (c.in-Some.ensures.0.0, free, c.in_default-rival_in.ensures.none refl settings are),
+      (c.in-Some.ensures.0.0, free, sym (c.in_default-rival_in.ensures settings are)),
       sym c.takes_word.ensures ∙ c.if-not-takes_word.false,
       λ is. false≢true (sym c.if-not-is_value.true ∙ c.is_value.ensures.1 is),
     )
@@ -39,5 +39,5 @@ returns-clause-it c = λ settings are.
           c.in-Some-split_first.ensures.cases.0 c.as_str-value.ensures.value)
           (sym c.takes_word.ensures ∙ c.if-not-takes_word.false),
       proper_more c.args.set settings c.in-Some.key c.as_str-value.result.now are.1
-          (c.in-Some.ensures.0.0, free, c.in_default-rival_in.ensures.none refl settings are) (c.is_value.ensures.0 c.if-not-is_value.false),
+          (c.in-Some.ensures.0.0, free, sym (c.in_default-rival_in.ensures settings are)) (c.is_value.ensures.0 c.if-not-is_value.false),
     )

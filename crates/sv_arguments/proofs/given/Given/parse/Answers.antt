@@ -1,5 +1,5 @@
 use Rattle.std.proofs.Common.{◌≤◌, arith, length, map, refl, string_bytes}
-use Rattle.sv_arguments.proofs.Going.{behind_is, goes_on, passed_on, refused_at}
+use Rattle.sv_arguments.proofs.Going.{all_complete, behind_is, goes_on, none_behind, passed_on, refused_at}
 use Rattle.sv_arguments.proofs.given.Given.parse.Goals as goal
 use Rattle.sv_arguments.specs.OptionFault.{IsRefused}
 use Rattle.sv_arguments.specs.Settings.{words_of}
@@ -26,4 +26,15 @@ loop-word-preserved c =
           (map string_bytes c.in_ok-others.others.now)
           (c.in_ok-others.ensures.it reached.0 (c.before-done.ensures (words_of reached.0) reached.1, reached.2)),
       less,
+    )
+
+pub returns-clause-it : goal.returns-clause-it
+returns-clause-it c =
+    let all =
+    all_complete c.args.set (map string_bytes c.in-Some.words.now) (map string_bytes c.loop-word.rest.now) c.loop-word.invariant.0
+    (none_behind string_bytes c.loop-word.rest.now c.in_default-split_first.ensures.cases) c.lacks_target.result c.lacks_target.ensures c.if-lacks_target.false in (
+      refl,
+      behind_is string_bytes c.args.arguments.now c.in-Some.config.now c.in-Some.words.now c.as_str-2.result.now c.in-Some.ensures.cases.0 c.as_str-2.ensures.value,
+      all.0,
+      all.1,
     )
