@@ -6,7 +6,7 @@ from dataclasses import dataclass, field
 # The sections that say what the program must give; a row may name others of these.
 RESULTS = {"stdout", "stderr", "status", "visited"}
 SECTIONS = RESULTS | {
-    *("args", "stdin", "entries", "taken", "limits", "visits", "steps"),
+    *("args", "stdin", "streams", "entries", "taken", "limits", "visits", "steps"),
     *("rows", "bytes", "generated", "forms"),
 }
 FLAGS = {"escaped", "repeated", "no newline"}

@@ -19,6 +19,11 @@ SECONDS = 60
 EXAMPLES = os.fsencode(os.path.dirname(os.path.dirname(os.path.realpath(__file__)))) + b"/examples"
 # How each limit is set in a shell.
 LIMITS = {"memory": "ulimit -v", "descriptors": "ulimit -n"}
+# The streams that fail: which, the file in its place, and how it is opened.
+STREAMS = {
+    "stdin folder": ("stdin", "/", os.O_RDONLY),
+    "stdout full": ("stdout", "/dev/full", os.O_WRONLY),
+}
 # How each line of `entries` is made.
 ENTRIES = {
     "file": lambda path: open(path, "xb").close(),
@@ -111,10 +116,23 @@ def answer_to(port, request):
     return re.sub(rb"(?m)^date: [^\r]*", b"date: DATE", answer)
 
 
-def run(command, room, stdin, visits):
+@contextlib.contextmanager
+def failing(lines):
+    """The descriptors of the streams that fail, by their names."""
+    streams = {}
+    try:
+        for name, path, mode in (STREAMS[line] for line in lines):
+            streams[name] = os.open(path, mode)
+        yield streams
+    finally:
+        for descriptor in streams.values():
+            os.close(descriptor)
+
+
+def run(command, room, stdin, visits, streams):
     """What the program prints, and what comes back on each visit. It is killed after SECONDS."""
     reads = subprocess.DEVNULL if visits else subprocess.PIPE
-    pipes = {"stdin": reads, "stdout": subprocess.PIPE, "stderr": subprocess.PIPE}
+    pipes = {"stdin": reads, "stdout": subprocess.PIPE, "stderr": subprocess.PIPE, **streams}
     with subprocess.Popen(command, cwd=room, **pipes) as process:
         stop = threading.Timer(SECONDS, process.kill)
         stop.start()
@@ -127,7 +145,8 @@ def run(command, room, stdin, visits):
                 answers = [answer_to(int(port), request) for request in visits]
         stdout, stderr = process.communicate(None if visits else stdin)
         stop.cancel()
-    given = {"stdout": first + stdout, "stderr": stderr, "status": b"%d\n" % process.returncode}
+    printed = first + (stdout or b"")
+    given = {"stdout": printed, "stderr": stderr, "status": b"%d\n" % process.returncode}
     return {**given, "visited": answers} if visits else given
 
 
@@ -142,7 +161,8 @@ def given_by(program, case, cells):
         with listening(case.section("taken")):
             if "steps" in case.sections:
                 return run_steps(command, room, steps, SECONDS)
-            return run(command, room, filled(case.section("stdin"), cells), visits)
+            with failing(case.lines("streams")) as streams:
+                return run(command, room, filled(case.section("stdin"), cells), visits, streams)
 
 
 def expected_of(case, row, cells):

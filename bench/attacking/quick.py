@@ -13,7 +13,7 @@ PIPELINE = 10_000
 CONNECTS = 2000
 LINES = 100_000
 FLOODS = 64
-# docs/OPERATION.md
+# docs/LIMITS.md
 ROOM = 1024
 AGAIN = 20
 # The server closes a connection whose head has no end after this many seconds.

@@ -10,7 +10,7 @@ HEADS = 200
 BODIES = 100
 BRISK = 20
 STOPPED = 100
-# docs/OPERATION.md: 10 seconds; the clock counts whole ones, and looks once a second.
+# docs/LIMITS.md: 10 seconds; the clock counts whole ones, and looks once a second.
 GIVEN_UP = (9, 12.5)
 # The system accepts the rest of the buffer when the first window of 10 seconds ends, so a second one follows.
 STOPPED_SECONDS = 24
