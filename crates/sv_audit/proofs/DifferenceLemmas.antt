@@ -165,10 +165,10 @@ pub decisions_apart : (one other : Kind) → same_decision one other ≡ false �
 decisions_apart one other differ same = false≢true (sym differ ∙ (ap (same_decision one) (sym same) ∙ decision_itself one))
 
 -- The fate by what an access says is that by the effective access.
-abbrev met_fate : Bool → Access → Option Caller → Kind
+abbrev pub met_fate : Bool → Access → Option Caller → Kind
 met_fate has_login access visitor = decided_by (effective has_login access) visitor
 
-fate_by : (it : Configuration) (method path : List ℕ) (visitor : Option Caller) (access : Access) → said_by it method path (known it.has_login visitor) ≡ said_to (known it.has_login visitor) access → fate_of it method path visitor ≡ met_fate it.has_login access visitor
+pub fate_by : (it : Configuration) (method path : List ℕ) (visitor : Option Caller) (access : Access) → said_by it method path (known it.has_login visitor) ≡ said_to (known it.has_login visitor) access → fate_of it method path visitor ≡ met_fate it.has_login access visitor
 fate_by it method path visitor access is = ap (λ (said : Kind × Cause). answered it.has_login said.0) is ∙ effective_is_met it.has_login access visitor
 
 module _ (right : TablesAreRight) (best_same : BestIsOfTexts) (one other : Configuration) (one_url : HasUrlPatterns one) (other_url : HasUrlPatterns other) where

@@ -1,16 +1,19 @@
--- The location of an example leads to it, and its best match is the pattern.
-use Rattle.std.proofs.lemmas.Bool.{and_from, and_parts, false≢true}
+-- The location of an example leads to it, in this context and in no hidden folder, and its best match is the pattern.
+use Rattle.std.proofs.lemmas.Bool.{and_from, and_parts, false≢true, not-true}
 use Rattle.std.proofs.lemmas.Slice.Eq.{bytes_eq-Decides}
-use Rattle.std.proofs.Common.{◌≡◌, ℕ, true, List, refl, ap, ap₂, sym, ◌∙◌, is_none, Option, None, Some, Result, Ok, Err}
+use Rattle.std.proofs.Common.{◌≡◌, ℕ, Bool, true, not, ◌&&◌, List, refl, ap, ap₂, sym, ◌∙◌, is_none, Option, None, Some, Result, Ok, Err}
 use Rattle.std.specs.Str.{bytes_eq}
 use Rattle.sv_mapping.proofs.FirstBest.{found_passes}
 use Rattle.sv_mapping.specs.BestMatch.{best_pattern}
+use Rattle.sv_mapping.specs.Pattern.{is_at_or_below}
+use Rattle.sv_mapping.specs.Protected.{is_protected}
 use Rattle.sv_uri.specs.Canonical.{canonical}
 use Rattle.sv_uri.specs.LocationField.{LocationIsReadBack, location}
 use Rattle.sv_uri.specs.Shape.{CanonicalHasShape, IsCanonicalPath}
 use Rattle.sv_uri.specs.declared.fault.PathFault.{PathFault}
 use Rattle.sv_uri.specs.declared.path.Canon.{Canon}
-use Rattle.sv_audit.specs.Examples.{CanonicalIsReadBack, ExamplesAreRight, candidates, gives_only, is_example, is_read_back}
+use Rattle.sv_audit.proofs.Filters.{all_fail}
+use Rattle.sv_audit.specs.Examples.{CanonicalIsReadBack, ExamplesAreRight, candidates, gives_only, is_elsewhere, is_example, is_read_back}
 use Rattle.sv_audit.specs.Reading.{is_same}
 
 abbrev plain : List ℕ → Canon
@@ -44,9 +47,12 @@ same_is None (Some other) is = absurd (false≢true is)
 same_is (Some pattern) None is = absurd (false≢true is)
 
 pub examples_right : CanonicalHasShape → ExamplesAreRight
-examples_right shapes patterns pattern path is =
-    let parts : (is_read_back path ≡ true) × (is_same pattern (best_pattern patterns path) ≡ true) =
-    and_parts (is_read_back path) (is_same pattern (best_pattern patterns path)) (found_passes (is_example patterns pattern) (candidates pattern) path is) in
-    let given : canonical (location path) ≡ Ok (plain path) = own path parts.0 in
+examples_right shapes patterns others pattern path is =
+    let best : Bool = is_same pattern (best_pattern patterns path) in
+    let parts : ((is_read_back path && not (is_elsewhere others path) && not (is_protected path)) ≡ true) × (best ≡ true) =
+    and_parts (is_read_back path && not (is_elsewhere others path) && not (is_protected path)) best (found_passes (is_example patterns others pattern) (candidates pattern) path is) in
+    let own_parts : ((is_read_back path && not (is_elsewhere others path)) ≡ true) × (not (is_protected path) ≡ true) = and_parts (is_read_back path && not (is_elsewhere others path)) (not (is_protected path)) parts.0 in
+    let read : (is_read_back path ≡ true) × (not (is_elsewhere others path) ≡ true) = and_parts (is_read_back path) (not (is_elsewhere others path)) own_parts.0 in
+    let given : canonical (location path) ≡ Ok (plain path) = own path read.0 in
     let shape : IsCanonicalPath path = shapes (location path) (plain path) given in
-    (given, same_is pattern (best_pattern patterns path) parts.1, shape.rooted)
+    (given, same_is pattern (best_pattern patterns path) parts.1, shape.rooted, all_fail (λ other. is_at_or_below other path) others (not-true (is_elsewhere others path) read.1), not-true (is_protected path) own_parts.1)

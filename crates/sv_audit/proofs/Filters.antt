@@ -1,6 +1,9 @@
--- Filters of mapped and filtered lists.
+-- Filters of mapped and filtered lists, and lists of which no item passes.
+use Rattle.std.proofs.lemmas.Bool.{or_parts}
+use Rattle.std.proofs.lemmas.List.Elements.{All-cons, All-nil}
 use Rattle.std.proofs.Common.{◌≡◌, Bool, true, false, ◌&&◌, List, [], ◌∷◌, map, refl, ap, sym, ◌∙◌, cond}
-use Rattle.std.specs.Prelude.{filter}
+use Rattle.std.specs.Prelude.{All, filter}
+use Rattle.std.specs.List.{list_any}
 
 map_cond : {A B : Type 0} (f : A → B) (b : Bool) (x : A) (xs : List A) (ys : List B) → map f xs ≡ ys → map f (cond b (x ∷ xs) xs) ≡ cond b (f x ∷ ys) ys
 map_cond f true x xs ys is = ap (λ rest. f x ∷ rest) is
@@ -32,3 +35,9 @@ filter_cond test false x xs = refl
 pub filter_twice : {A : Type 0} (p q : A → Bool) (xs : List A) → filter p (filter q xs) ≡ filter (λ x. q x && p x) xs
 filter_twice p q [] = refl
 filter_twice p q (x ∷ xs) = filter_cond p (q x) x (filter q xs) ∙ ap (λ rest. cond (q x && p x) (x ∷ rest) rest) (filter_twice p q xs)
+
+-- If no item passes, each fails.
+pub all_fail : {A : Type 0} (test : A → Bool) (xs : List A) → list_any test xs ≡ false → All (λ x. test x ≡ false) xs
+all_fail test [] none = All-nil (λ x. test x ≡ false)
+all_fail test (x ∷ xs) none =
+    All-cons (λ y. test y ≡ false) x xs ((or_parts (test x) (list_any test xs) none).0) (all_fail test xs ((or_parts (test x) (list_any test xs) none).1))

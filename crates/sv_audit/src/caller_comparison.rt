@@ -10,7 +10,7 @@ use sv_constraints::lists;
 use sv_text::Text;
 
 /// Returns whether the same callers pass.
-pub fn same_callers(access: &Access, other: &Access) -> bool
+pub(crate) fn same_callers(access: &Access, other: &Access) -> bool
     ensures { result ≡ spec.same_callers access.now other.now }
 {
     is_open(access) && is_open(other)
@@ -18,8 +18,8 @@ pub fn same_callers(access: &Access, other: &Access) -> bool
         || same_logins(access, other)
 }
 
-/// Returns whether everyone passes, without a caller.
-pub(crate) fn is_open(access: &Access) -> bool
+/// Returns whether everyone passes, without a caller (Jakarta Servlet 6.0, sections 13.8.1 and 13.8.4).
+pub fn is_open(access: &Access) -> bool
     ensures { result ≡ spec.is_open access.now }
 {
     matches!(

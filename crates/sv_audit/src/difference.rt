@@ -14,11 +14,13 @@ pub struct Side {
     pub has_login: bool,
 }
 
-/// Whether visitors can log in, before and after.
+/// Whether visitors can log in, at each of two accesses (Jakarta Servlet 6.0, section 13.6).
 #[derive(Clone, Copy, Drop)]
-pub(crate) struct Logins {
-    pub(crate) before: bool,
-    pub(crate) after: bool,
+pub struct Logins {
+    /// Whether they can at the first access.
+    pub before: bool,
+    /// Whether they can at the second access.
+    pub after: bool,
 }
 
 /// How the fate of visitors differs. A visitor is a caller who logs in wherever the context has a login configuration,

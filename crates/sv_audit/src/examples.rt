@@ -10,41 +10,58 @@ ghost use Rattle.sv_audit.specs.Reading.{is_same};
 
 use crate::forms::form_of;
 use std::alloc::Global;
-use sv_mapping::{Form, PatternTable};
+use sv_mapping::{Form, PatternTable, is_at_or_below, is_protected};
 use sv_text::{Listed, NoMemory, Text};
 use sv_uri::fault::CanonFault;
 use sv_uri::{canon, location};
 
 /// The paths to try for patterns that match every path, and for the paths that no pattern matches.
-const PLAIN_PATHS: [&str; 3] = ["/page", "/page.html", "/a/page"];
+const PLAIN_PATHS: [&str; 6] = [
+    "/page",
+    "/page.html",
+    "/a/page",
+    "/b/page",
+    "/index",
+    "/a/b/page",
+];
 
-/// Returns a path whose best match among the patterns is this one, or a path that no pattern matches (Jakarta Servlet
-/// 6.0, section 12.1). The path is decoded: a request whose target is the location of the path has this canonical path.
-/// Only a few paths are tried, so there may be others if there is no result.
+/// The paths to try for an extension pattern, without the extension.
+const EXTENSION_FRONTS: [&str; 5] = ["/page.", "/a/page.", "/b/page.", "/index.", "/a/b/page."];
+
+/// The paths to try for a prefix pattern, without the prefix.
+const PREFIX_ENDS: [&str; 5] = ["/page", "/page.html", "/", "/b/page", "/index"];
+
+/// Returns a path of this context whose best match among the patterns is this one, or a path that no pattern matches
+/// (Jakarta Servlet 6.0, section 12.1). The others are the paths of the other contexts within this one, relative to it.
+/// The path is at or below none of them, and in no hidden folder (section 10.5). It is decoded: a request whose target is
+/// the location of the path has this canonical path. Only a few paths are tried, so there may be others if there is no
+/// result.
 ///
 /// # Errors
 /// `NoMemory` if memory runs out.
 pub fn example_of(
     alloc: Global,
     patterns: &PatternTable,
+    others: &[Text],
     pattern: Option<&str>,
 ) -> Result<Option<Text>, NoMemory>
-    ensures { GivesAnswer result (spec.example patterns.now (option_copied pattern.entry)) }
+    ensures { GivesAnswer result (spec.example patterns.now others.now (option_copied pattern.entry)) }
 {
     let candidates = candidates(alloc, pattern)?;
-    first_example(alloc, patterns, pattern, candidates.as_slice())
+    first_example(alloc, patterns, others, pattern, candidates.as_slice())
 }
 
 fn first_example(
     alloc: Global,
     patterns: &PatternTable,
+    others: &[Text],
     pattern: Option<&str>,
     candidates: &[Text],
 ) -> Result<Option<Text>, NoMemory>
-    ensures { GivesAnswer result (find (spec.is_example patterns.now (option_copied pattern.entry)) candidates.now) }
+    ensures { GivesAnswer result (find (spec.is_example patterns.now others.now (option_copied pattern.entry)) candidates.now) }
 {
     for candidate in candidates {
-        if is_example(alloc, patterns, pattern, candidate.as_str())? {
+        if is_example(alloc, patterns, others, pattern, candidate.as_str())? {
             return Ok(Some(Text::copy_of(alloc, candidate.as_str())?));
         }
     }
@@ -54,13 +71,28 @@ fn first_example(
 fn is_example(
     alloc: Global,
     patterns: &PatternTable,
+    others: &[Text],
     pattern: Option<&str>,
     path: &str,
 ) -> Result<bool, NoMemory>
-    ensures { GivesAnswer result (spec.is_example patterns.now (option_copied pattern.entry) path.now) }
+    ensures { GivesAnswer result (spec.is_example patterns.now others.now (option_copied pattern.entry) path.now) }
 {
     let is_read_back = is_read_back(alloc, path)?;
-    Ok(is_read_back && is_same(pattern, best_text(patterns, path)))
+    Ok(
+        is_read_back
+            && !is_elsewhere(others, path)
+            && !is_protected(path)
+            && is_same(pattern, best_text(patterns, path)),
+    )
+}
+
+/// Returns whether another context takes the path, given the paths of the other contexts within this one.
+fn is_elsewhere(others: &[Text], path: &str) -> bool
+    ensures { result ≡ spec.is_elsewhere others.now path.now }
+{
+    others
+        .iter()
+        .any(|other| is_at_or_below(other.as_str(), path))
 }
 
 /// Returns whether reading the location of the path gives the same path, without a query.
@@ -112,8 +144,8 @@ fn candidates_of(alloc: Global, form: Form<'_>) -> Result<Listed<Text>, NoMemory
     match form {
         Form::Root => around(alloc, "", &["/"], ""),
         Form::Default => around(alloc, "", &PLAIN_PATHS, ""),
-        Form::Extension(wanted) => around(alloc, "", &["/page.", "/a/page."], wanted),
-        Form::Prefix(prefix) => around(alloc, prefix, &["/page", "/page.html", "/"], ""),
+        Form::Extension(wanted) => around(alloc, "", &EXTENSION_FRONTS, wanted),
+        Form::Prefix(prefix) => around(alloc, prefix, &PREFIX_ENDS, ""),
         Form::Exact(text) => around(alloc, text, &[""], ""),
     }
 }

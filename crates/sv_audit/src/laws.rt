@@ -35,8 +35,9 @@ pub fn served_paths_are_rooted()
     ensures { ServedPathsAreRooted }
 {}
 
-/// The location of an example leads to it; it begins with a slash, and has the pattern as its best match, or none. The
-/// location of each path that a request can have leads to it.
+/// The location of an example leads to it. It begins with a slash, is at or below none of the paths of other contexts and
+/// in no hidden folder, and has the pattern as its best match, or none. The location of each path that a request can have
+/// leads to it.
 pub fn examples_are_right()
     ensures right { ExamplesAreRight }
     ensures reachable { CanonicalIsReadBack }

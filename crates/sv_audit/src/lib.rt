@@ -31,10 +31,10 @@ mod tables;
 mod visitors;
 
 pub use access::{Access, Cell};
-pub use caller_comparison::same_callers;
+pub use caller_comparison::is_open;
 pub use cells::{copied_access, covering_findings};
 pub use coverage::covering;
-pub use difference::{Difference, DifferenceKind, Side};
+pub use difference::{Difference, DifferenceKind, Logins, Side};
 pub use examples::{best_text, example_of};
 pub use focus::focused;
 pub use forms::form_of;
@@ -55,3 +55,4 @@ pub use row_differences::differences;
 pub use rows::{Group, Row, Table};
 pub use secure::without_transport;
 pub use tables::table_of;
+pub use visitors::same_fates;

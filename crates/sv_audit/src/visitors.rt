@@ -28,8 +28,9 @@ fn effective<'a>(has_login: bool, access: &'a Access, nobody: &'a Access) -> &'a
     }
 }
 
-/// Returns whether the fate of each visitor is the same by both accesses.
-pub(crate) fn same_fates(logins: Logins, before: &Access, after: &Access) -> bool
+/// Returns whether the fate of each visitor is the same by both accesses: whether a visitor passes, is asked to log in or
+/// is denied. Without a login configuration nobody can log in (Jakarta Servlet 6.0, section 13.6).
+pub fn same_fates(logins: Logins, before: &Access, after: &Access) -> bool
     ensures { result ≡ same_callers (spec.effective logins.before before.now) (spec.effective logins.after after.now) }
 {
     let nobody = Access::Precluded;

@@ -31,8 +31,10 @@ use Rattle.sv_policy.specs.Patterns.{different}
 use Rattle.sv_policy.specs.Uncovered.{is_uncovered}
 use Rattle.std.proofs.lemmas.List.Folds.{list_any-append}
 use Rattle.sv_uri.specs.Shape.{CanonicalHasShape}
-use Rattle.sv_audit.proofs.Callers.{apart}
+use Rattle.sv_audit.proofs.Callers.{apart, opens}
+use Rattle.sv_audit.proofs.DifferenceLemmas.{fate_by}
 use Rattle.sv_audit.proofs.Equal.{and_left, and_right, both}
+use Rattle.sv_audit.proofs.Filters.{all_fail}
 use Rattle.sv_audit.proofs.Found.{any_of, in_texts, root_matches}
 use Rattle.sv_audit.proofs.RowCells.{row_cell}
 use Rattle.sv_audit.proofs.Said.{said}
@@ -42,16 +44,16 @@ use Rattle.sv_findings.proofs.OpenedLemmas.{AreOpen, AreOpenFor, are_open, fresh
 use Rattle.sv_audit.proofs.Shapes.{IsShaped, nothing_matches, served_shaped}
 use Rattle.sv_findings.specs.Dead.{is_tried_late, dead_among, dead_patterns, dead_patterns_in, decides_nothing, escaped, escaped_in, is_beaten, is_dead, is_escaped}
 use Rattle.sv_audit.specs.Shapes.{matches_nothing}
-use Rattle.sv_findings.specs.FindingLaws.{BestDecides, FindingsAreRight, IsMeant, IsNeverBest, IsOpen, IsRestricted, IsRight, names_in}
+use Rattle.sv_findings.specs.FindingLaws.{BestDecides, FindingsAreRight, IsMeant, IsNeverBest, IsOpen, IsRestricted, IsRight, IsShut, configuration_of, names_in}
 use Rattle.sv_audit.specs.Shapes.{IsServed}
 use Rattle.sv_findings.specs.Opened.{opened_at, opened_for, opened_methods, opened_pair}
 use Rattle.sv_findings.specs.RoleFindings.{is_role, is_unheld, is_unknown, is_unused, named_roles, role_findings, unheld_roles, unknown_among, unknown_roles, unused_roles}
-use Rattle.sv_audit.specs.Callers.{has_method, same_callers}
+use Rattle.sv_audit.specs.Callers.{has_method, is_open, same_callers}
 use Rattle.sv_findings.specs.Findings.{findings_of, met_rows, pattern_findings, row_findings}
 use Rattle.sv_findings.specs.Uncovered.{is_left_open, is_left_out, uncovered_at}
 use Rattle.sv_findings.specs.MetRows.{is_row_met}
 use Rattle.sv_findings.specs.Reach.{is_reached}
-use Rattle.sv_findings.specs.Readings.{covers_one, covers_part, first_covering, is_covered, is_late, is_prefix, read_as, read_at, read_otherwise, share_method}
+use Rattle.sv_findings.specs.Readings.{first_restricting, is_late, is_prefix, read_as, read_at, read_otherwise, restricts_one, restricts_part, share_method}
 use Rattle.sv_findings.proofs.MeetingForms.{none_held, none_meets}
 use Rattle.sv_findings.specs.LoginNeeds.{bars, is_barred, is_loaded, login_needs, needed_at, needed_of, needed_paths, parts, references_after, target_of}
 use Rattle.sv_findings.specs.declared.surroundings.LoginPage.{LoginPage}
@@ -66,6 +68,8 @@ use Rattle.sv_findings.specs.Unserved.{are_many, is_unserved, may_answer, may_be
 use Rattle.sv_findings.specs.Unreached.{is_unreached, unreached, unreached_in}
 use Rattle.sv_findings.specs.declared.surroundings.Surroundings.{Surroundings}
 use Rattle.sv_findings.specs.Heads.{head_at, head_on, straying, strays}
+use Rattle.sv_audit.specs.DifferenceLaws.{fate_of}
+use Rattle.sv_audit.specs.Visitors.{decided_by, effective, known}
 use Rattle.sv_audit.specs.Reading.{IsDenied, Kind, NeedsLogin, Passes, kind_and_cause, said_to}
 use Rattle.sv_audit.specs.Rows.{in_row_order, match_every_path, other_paths, row_at, table_of}
 use Rattle.sv_audit.specs.declared.access.Access.{Access}
@@ -80,12 +84,6 @@ use Rattle.sv_audit.specs.declared.rows.Row.{Row}
 joined : {A X : Type 0} (P : X → Type 0) (f : A → List X) (xs : List A) → All (λ a. All P (f a)) xs → All P (flat_map f xs)
 joined P f [] all = All-nil P
 joined P f (x ∷ xs) all = All-append P (f x) (flat_map f xs) (All-head (λ a. All P (f a)) x xs all) (joined P f xs (All-tail (λ a. All P (f a)) x xs all))
-
--- If no item passes, each fails.
-all_fail : {X : Type 0} (test : X → Bool) (xs : List X) → list_any test xs ≡ false → All (λ x. test x ≡ false) xs
-all_fail test [] none = All-nil (λ x. test x ≡ false)
-all_fail test (x ∷ xs) none =
-    All-cons (λ y. test y ≡ false) x xs ((or_parts (test x) (list_any test xs) none).0) (all_fail test xs ((or_parts (test x) (list_any test xs) none).1))
 
 -- ---- The groups of a row that have a method have its cell.
 module _ (method : List ℕ) (cell : Cell) where
@@ -164,28 +162,38 @@ module _ (constraints : List Constraint) (rules : Rules) (surroundings : Surroun
       sym (says constraints rules pattern method path caller (slice_index_or its_groups k d).cell best (in_row constraints rules pattern method k d within has))
       ∙ left_out_passes caller (slice_index_or its_groups k d).cell.access left))
 
-  apart_here : (get head : Cell) → get ≡ cell_for constraints rules pattern (codes "GET") → head ≡ cell_for constraints rules pattern (codes "HEAD") → not (same_callers get.access head.access) ≡ true → IsRight constraints rules surroundings (finding.HeadDiffers pattern get.access head.access)
+  abbrev pub met_with : Access → Access
+  met_with access = effective surroundings.has_login access
+
+  -- The cell decides the fate of a visitor.
+  pub fate_at : (method path : List ℕ) (visitor : Option Caller) (cell : Cell) → best_pattern (all_patterns constraints) path ≡ Some pattern → cell ≡ cell_for constraints rules pattern method
+      → fate_of (configuration_of constraints rules surroundings) method path visitor ≡ decided_by (met_with cell.access) visitor
+  fate_at method path visitor cell best is =
+      fate_by (configuration_of constraints rules surroundings) method path visitor cell.access (sym (says constraints rules pattern method path (known surroundings.has_login visitor) cell best is))
+
+  apart_here : (get head : Cell) → get ≡ cell_for constraints rules pattern (codes "GET") → head ≡ cell_for constraints rules pattern (codes "HEAD") → not (same_callers (met_with get.access) (met_with head.access)) ≡ true
+      → IsRight constraints rules surroundings (finding.HeadDiffers pattern get.access head.access)
   apart_here get head is was differ =
-      let it : (caller : Option Caller) × ((said_to caller get.access).0 ≡ (said_to caller head.access).0 → ⊥) = apart get.access head.access differ in (
+      let it : (visitor : Option Caller) × (decided_by (met_with get.access) visitor ≡ decided_by (met_with head.access) visitor → ⊥) = apart (met_with get.access) (met_with head.access) differ in (
         λ path caller best. says constraints rules pattern (codes "GET") path caller get best is,
         λ path caller best. says constraints rules pattern (codes "HEAD") path caller head best was,
         it.0,
-        λ path best same. it.1 (ap (λ (x : Kind × Cause). x.0) (says constraints rules pattern (codes "GET") path it.0 get best is) ∙ same ∙ sym (ap (λ (x : Kind × Cause). x.0) (says constraints rules pattern (codes "HEAD") path it.0 head best was))),
+        λ path best same. it.1 (sym (fate_at (codes "GET") path it.0 get best is) ∙ same ∙ fate_at (codes "HEAD") path it.0 head best was),
       )
 
-  straying_right : (get : Group) → get.cell ≡ cell_for constraints rules pattern (codes "GET") → All (IsRight constraints rules surroundings) (straying pattern its_groups get.cell.access)
+  straying_right : (get : Group) → get.cell ≡ cell_for constraints rules pattern (codes "GET") → All (IsRight constraints rules surroundings) (straying surroundings.has_login pattern its_groups get.cell.access)
   straying_right get is =
-      All-map (IsRight constraints rules surroundings) (λ (head : Group). finding.HeadDiffers pattern get.cell.access head.cell.access) (filter (strays get.cell.access) its_groups)
-      (kept_all (λ (head : Group). IsRight constraints rules surroundings (finding.HeadDiffers pattern get.cell.access head.cell.access)) (strays get.cell.access) its_groups
+      All-map (IsRight constraints rules surroundings) (λ (head : Group). finding.HeadDiffers pattern get.cell.access head.cell.access) (filter (strays surroundings.has_login get.cell.access) its_groups)
+      (kept_all (λ (head : Group). IsRight constraints rules surroundings (finding.HeadDiffers pattern get.cell.access head.cell.access)) (strays surroundings.has_login get.cell.access) its_groups
       (λ k d within strays_here.
       let head : Group = slice_index_or its_groups k d in
-      apart_here get.cell head.cell is (in_row constraints rules pattern (codes "HEAD") k d within (and_left (has_method (codes "HEAD") head) (not (same_callers get.cell.access head.cell.access)) strays_here))
-      (and_right (has_method (codes "HEAD") head) (not (same_callers get.cell.access head.cell.access)) strays_here)))
+      let differs : Bool = not (same_callers (met_with get.cell.access) (met_with head.cell.access)) in
+      apart_here get.cell head.cell is (in_row constraints rules pattern (codes "HEAD") k d within (and_left (has_method (codes "HEAD") head) differs strays_here)) (and_right (has_method (codes "HEAD") head) differs strays_here)))
 
-  head_right : All (IsRight constraints rules surroundings) (head_on pattern its_groups)
+  head_right : All (IsRight constraints rules surroundings) (head_on surroundings.has_login pattern its_groups)
   head_right =
-      joined (IsRight constraints rules surroundings) (λ (get : Group). straying pattern its_groups get.cell.access) (filter (has_method (codes "GET")) its_groups)
-      (kept_all (λ (get : Group). All (IsRight constraints rules surroundings) (straying pattern its_groups get.cell.access)) (has_method (codes "GET")) its_groups
+      joined (IsRight constraints rules surroundings) (λ (get : Group). straying surroundings.has_login pattern its_groups get.cell.access) (filter (has_method (codes "GET")) its_groups)
+      (kept_all (λ (get : Group). All (IsRight constraints rules surroundings) (straying surroundings.has_login pattern its_groups get.cell.access)) (has_method (codes "GET")) its_groups
       (λ k d within has. straying_right (slice_index_or its_groups k d) (in_row constraints rules pattern (codes "GET") k d within has)))
 
 -- ---- A pattern that decides nothing is the best match of no path of a request.
@@ -410,42 +418,53 @@ open_uncovered false denied false false true any names is = absurd (false≢true
 open_uncovered false denied false false false true names is = absurd (false≢true is)
 open_uncovered false denied false false false false names is = absurd (false≢true is)
 
-covered_some : (none denied : Bool) (rest : Access) → is_covered (cond none (cond denied UncoveredDenied Uncovered) rest) ≡ true → none ≡ false
-covered_some true true rest is = absurd (false≢true is)
-covered_some true false rest is = absurd (false≢true is)
-covered_some false denied rest is = refl
+covered_some : (none denied : Bool) (rest : Access) → denied ≡ false → not (is_open (cond none (cond denied UncoveredDenied Uncovered) rest)) ≡ true → none ≡ false
+covered_some true true rest open_to_all is = absurd (false≢true (sym open_to_all))
+covered_some true false rest open_to_all is = absurd (false≢true is)
+covered_some false denied rest open_to_all is = refl
 
 module _ (constraints : List Constraint) (rules : Rules) (pattern : List ℕ) where
   left_uncovered : (method : List ℕ) → is_left_open (cell_for constraints rules pattern method).access ≡ true → (is_uncovered constraints pattern method ≡ true) × (rules.deny_uncovered ≡ false)
   unfolding cell_at
   left_uncovered method is = open_uncovered (length (covering constraints (Some pattern) method) == 0) rules.deny_uncovered _ _ _ _ _ is
 
-  is_not_uncovered : (method : List ℕ) → is_covered (cell_for constraints rules pattern method).access ≡ true → is_uncovered constraints pattern method ≡ false
+  is_not_uncovered : (method : List ℕ) → rules.deny_uncovered ≡ false → not (is_open (cell_for constraints rules pattern method).access) ≡ true → is_uncovered constraints pattern method ≡ false
   unfolding cell_at
-  is_not_uncovered method is = covered_some (length (covering constraints (Some pattern) method) == 0) rules.deny_uncovered _ is
+  is_not_uncovered method open_to_all is = covered_some (length (covering constraints (Some pattern) method) == 0) rules.deny_uncovered _ open_to_all is
+
+  is_shut : (method : List ℕ) → not (is_open (cell_for constraints rules pattern method).access) ≡ true → IsShut constraints rules pattern method
+  unfolding cell_at
+  is_shut method is passes =
+      let access : Access = (cell_for constraints rules pattern method).access in
+      false≢true (sym (not-true (is_open access) is) ∙ opens access (ap (λ (x : Kind × Cause). x.0) (said rules None (Some pattern) (covering constraints (Some pattern) method)) ∙ passes))
 
 module _ (constraints : List Constraint) (rules : Rules) (surroundings : Surroundings) where
   abbrev pub late : List Row
   late = filter is_late (the_rows constraints rules surroundings)
 
-  -- A row that is tried late and covers one of the methods.
-  abbrev Covers : Methods → List ℕ → Type 0
-  Covers methods other = IsTrue (is_tried_late other) × ((method : List ℕ) × IsTrue (covers_method methods method) × (is_uncovered constraints other method ≡ false))
+  -- One of the methods is not open to everyone at the pattern.
+  abbrev HasRestricted : Methods → List ℕ → Type 0
+  HasRestricted methods other = (method : List ℕ) × IsTrue (covers_method methods method) × (not (is_open (cell_for constraints rules other method).access) ≡ true)
 
-  part_covers : (other : List ℕ) (methods : Methods) (shown : List Group) → shown ≡ (row_at constraints rules other).groups → list_any (covers_part methods) shown ≡ true → (method : List ℕ) × IsTrue (covers_method methods method) × (is_uncovered constraints other method ≡ false)
-  part_covers other methods shown made some =
+  -- The pattern is tried late and restricts one of the methods.
+  abbrev Restricts : Methods → List ℕ → Type 0
+  Restricts methods other = IsTrue (is_tried_late other) × HasRestricted methods other
+
+  part_restricts : (other : List ℕ) (methods : Methods) (shown : List Group) → shown ≡ (row_at constraints rules other).groups → list_any (restricts_part methods) shown ≡ true → HasRestricted methods other
+  part_restricts other methods shown made some =
       let its : List Group = (row_at constraints rules other).groups in
-      found ((method : List ℕ) × IsTrue (covers_method methods method) × (is_uncovered constraints other method ≡ false)) (covers_part methods) its (ap (list_any (covers_part methods)) (sym made) ∙ some)
+      found (HasRestricted methods other) (restricts_part methods) its (ap (list_any (restricts_part methods)) (sym made) ∙ some)
       (λ k d within part.
-      let it : IsShared methods (slice_index_or its k d).methods = shared methods (slice_index_or its k d).methods (and_right (is_covered (slice_index_or its k d).cell.access) _ part) in (
+      let shut : Bool = not (is_open (slice_index_or its k d).cell.access) in
+      let it : IsShared methods (slice_index_or its k d).methods = shared methods (slice_index_or its k d).methods (and_right shut _ part) in (
         it.0,
         it.1,
-        is_not_uncovered constraints rules other it.0 (ap (λ (c : Cell). is_covered c.access) (sym (in_row constraints rules other it.0 k d within it.2)) ∙ and_left (is_covered (slice_index_or its k d).cell.access) _ part),
+        ap (λ (c : Cell). not (is_open c.access)) (sym (in_row constraints rules other it.0 k d within it.2)) ∙ and_left shut _ part,
       ))
 
-  row_covers : (row : Row) (pattern : Option (List ℕ)) (other : List ℕ) (methods : Methods) → row.pattern ≡ pattern → pattern ≡ Some other → IsMade constraints rules surroundings row → is_late row ≡ true → covers_one methods row ≡ true → Covers methods other
-  row_covers row pattern other methods is at made tried covers_it =
-      (sym (ap (λ p. option_map_or is_tried_late p false) (is ∙ at)) ∙ tried, part_covers other methods row.groups (made other (is ∙ at)) covers_it)
+  row_restricts : (row : Row) (pattern : Option (List ℕ)) (other : List ℕ) (methods : Methods) → row.pattern ≡ pattern → pattern ≡ Some other → IsMade constraints rules surroundings row → is_late row ≡ true → restricts_one methods row ≡ true → Restricts methods other
+  row_restricts row pattern other methods is at made tried it =
+      (sym (ap (λ p. option_map_or is_tried_late p false) (is ∙ at)) ∙ tried, part_restricts other methods row.groups (made other (is ∙ at)) it)
 
   found_at : (test : Row → Bool) (P : Row → Type 0) (x row : Row) (rows : List Row) (b : Bool) → test x ≡ b → P x → cond b (Some x) (find test rows) ≡ Some row → (find test rows ≡ Some row → P row × (test row ≡ true)) → P row × (test row ≡ true)
   found_at test P x row rows true passes holds is rest = let same : row ≡ x = cc in rw same (holds, passes)
@@ -455,12 +474,12 @@ module _ (constraints : List Constraint) (rules : Rules) (surroundings : Surroun
   found_row test P [] row all is = cc
   found_row test P (x ∷ rows) row all is = found_at test P x row rows (test x) refl (All-head P x rows all) is (found_row test P rows row (All-tail P x rows all))
 
-  first_covers : (rows : List Row) (methods : Methods) (found_one : Option Row) (other : List ℕ) → All (λ (row : Row). IsMade constraints rules surroundings row × (is_late row ≡ true)) rows → find (covers_one methods) rows ≡ found_one
-      → option_and_then (λ (row : Row). row.pattern) found_one ≡ Some other → Covers methods other
-  first_covers rows methods None other all is at = cc
-  first_covers rows methods (Some row) other all is at =
-      let it : (IsMade constraints rules surroundings row × (is_late row ≡ true)) × (covers_one methods row ≡ true) = found_row (covers_one methods) (λ (one : Row). IsMade constraints rules surroundings one × (is_late one ≡ true)) rows row all is in
-      row_covers row row.pattern other methods refl at it.0.0 it.0.1 it.1
+  first_restricts : (rows : List Row) (methods : Methods) (found_one : Option Row) (other : List ℕ) → All (λ (row : Row). IsMade constraints rules surroundings row × (is_late row ≡ true)) rows → find (restricts_one methods) rows ≡ found_one
+      → option_and_then (λ (row : Row). row.pattern) found_one ≡ Some other → Restricts methods other
+  first_restricts rows methods None other all is at = cc
+  first_restricts rows methods (Some row) other all is at =
+      let it : (IsMade constraints rules surroundings row × (is_late row ≡ true)) × (restricts_one methods row ≡ true) = found_row (restricts_one methods) (λ (one : Row). IsMade constraints rules surroundings one × (is_late one ≡ true)) rows row all is in
+      row_restricts row row.pattern other methods refl at it.0.0 it.0.1 it.1
 
   late_made : All (λ (row : Row). IsMade constraints rules surroundings row × (is_late row ≡ true)) late
   late_made =
@@ -474,19 +493,26 @@ module _ (constraints : List Constraint) (rules : Rules) (surroundings : Surroun
     each_uncovered : (k : ℕ) (d : Group) → k < length its → is_left_out (slice_index_or its k d) ≡ true → (method : List ℕ) → covers_method (slice_index_or its k d).methods method ≡ true → (is_uncovered constraints pattern method ≡ true) × (rules.deny_uncovered ≡ false)
     each_uncovered k d within left method has = left_uncovered constraints rules pattern method (ap (λ (c : Cell). is_left_open c.access) (sym (in_row constraints rules pattern method k d within has)) ∙ left)
 
-    reading_at : (methods : Methods) → ((method : List ℕ) → covers_method methods method ≡ true → (is_uncovered constraints pattern method ≡ true) × (rules.deny_uncovered ≡ false)) → (other : Option (List ℕ)) → first_covering late methods ≡ other
+    reading_at : (methods : Methods) → ((method : List ℕ) → covers_method methods method ≡ true → (is_uncovered constraints pattern method ≡ true) × (rules.deny_uncovered ≡ false)) → (other : Option (List ℕ)) → first_restricting late methods ≡ other
         → All (IsRight constraints rules surroundings) (map (finding.ReadOtherwise pattern methods) (option_to_list other))
     reading_at methods bare None is = All-nil (IsRight constraints rules surroundings)
     reading_at methods bare (Some other) is =
-        let it : Covers methods other = first_covers late methods (find (covers_one methods) late) other late_made refl is in
-        All-cons (IsRight constraints rules surroundings) (finding.ReadOtherwise pattern methods other) []
-        (prefixed, it.0, (bare it.1.0 it.1.1).1, λ method has. (bare method has).0, it.1) (All-nil (IsRight constraints rules surroundings))
+        let it : Restricts methods other = first_restricts late methods (find (restricts_one methods) late) other late_made refl is in
+        let open_to_all : rules.deny_uncovered ≡ false = (bare it.1.0 it.1.1).1 in
+        All-cons (IsRight constraints rules surroundings) (finding.ReadOtherwise pattern methods other) [] (
+          prefixed,
+          it.0,
+          open_to_all,
+          λ method has. (bare method has).0,
+          (it.1.0, it.1.1, is_not_uncovered constraints rules other it.1.0 open_to_all it.1.2, is_shut constraints rules other it.1.0 it.1.2),
+        )
+        (All-nil (IsRight constraints rules surroundings))
 
     readings_right : All (IsRight constraints rules surroundings) (flat_map (λ (group : Group). read_as late pattern group.methods) (filter is_left_out its))
     readings_right =
         joined (IsRight constraints rules surroundings) (λ (group : Group). read_as late pattern group.methods) (filter is_left_out its)
         (kept_all (λ (group : Group). All (IsRight constraints rules surroundings) (read_as late pattern group.methods)) is_left_out its
-        (λ k d within left. reading_at (slice_index_or its k d).methods (each_uncovered k d within left) (first_covering late (slice_index_or its k d).methods) refl))
+        (λ k d within left. reading_at (slice_index_or its k d).methods (each_uncovered k d within left) (first_restricting late (slice_index_or its k d).methods) refl))
 
   reading_from : (pattern : List ℕ) (prefixed : Bool) → is_prefix (form pattern) ≡ prefixed
       → All (IsRight constraints rules surroundings) (cond prefixed (flat_map (λ (group : Group). read_as late pattern group.methods) (filter is_left_out (row_at constraints rules pattern).groups)) [])
@@ -614,9 +640,9 @@ module _ (constraints : List Constraint) (rules : Rules) (surroundings : Surroun
   readings = read_otherwise rows
 
   abbrev pub heads : List Finding
-  heads = flat_map (λ (row : Row). head_at row.pattern row.groups) rows
+  heads = flat_map (λ (row : Row). head_at surroundings.has_login row.pattern row.groups) rows
 
-  by_row_right : All The (row_findings constraints rows)
+  by_row_right : All The (row_findings constraints surroundings.has_login rows)
   by_row_right =
       All-append The (opened ++ uncovered ++ readings) heads
       (All-append The (opened ++ uncovered) readings
@@ -624,7 +650,7 @@ module _ (constraints : List Constraint) (rules : Rules) (surroundings : Surroun
       (rows_right constraints rules surroundings (λ pattern groups. opened_at constraints pattern) (λ pattern. opened_from constraints rules surroundings pattern (opened_pair constraints pattern) refl) (λ groups. All-nil The))
       (rows_right constraints rules surroundings uncovered_at (λ pattern. uncovered_from constraints rules surroundings pattern (list_all is_left_out (row_at constraints rules pattern).groups)) (λ groups. All-nil The)))
       (rows_right constraints rules surroundings (read_at (late constraints rules surroundings)) (λ pattern. reading_from constraints rules surroundings pattern (is_prefix (form pattern)) refl) (λ groups. All-nil The)))
-      (rows_right constraints rules surroundings head_at (λ pattern. head_right constraints rules surroundings pattern) (λ groups. All-nil The))
+      (rows_right constraints rules surroundings (head_at surroundings.has_login) (λ pattern. head_right constraints rules surroundings pattern) (λ groups. All-nil The))
 
   abbrev pub dead : List Finding
   dead = dead_among (lists (all_patterns constraints) (codes "/*")) constraints
@@ -662,9 +688,9 @@ module _ (constraints : List Constraint) (rules : Rules) (surroundings : Surroun
 
   all_right : CanonicalHasShape → All The (findings_of constraints rules (table_of constraints rules) surroundings)
   all_right shapes =
-      All-append The (row_findings constraints rows ++ by_pattern ++ by_page) (role_findings rules.declared surroundings.held constraints)
-      (All-append The (row_findings constraints rows ++ by_pattern) by_page
-      (All-append The (row_findings constraints rows) by_pattern by_row_right (by_pattern_right shapes))
+      All-append The (row_findings constraints surroundings.has_login rows ++ by_pattern ++ by_page) (role_findings rules.declared surroundings.held constraints)
+      (All-append The (row_findings constraints surroundings.has_login rows ++ by_pattern) by_page
+      (All-append The (row_findings constraints surroundings.has_login rows) by_pattern by_row_right (by_pattern_right shapes))
       (page_right constraints rules surroundings surroundings.login_page refl)) by_role_right
 
 decides_at : (constraints : List Constraint) (path pattern : List ℕ) (b : Bool) → decides_nothing (lists (all_patterns constraints) (codes "/*")) pattern ≡ b → IsNeverBest constraints pattern ⊎ (b ≡ false) → IsServed path → best_pattern (all_patterns constraints) path ≡ Some pattern → b ≡ false

@@ -9,7 +9,7 @@ use Rattle.std.specs.Str.{bytes_eq}
 use Rattle.sv_mapping.specs.BestMatch.{BestIsAMatch, best_pattern}
 use Rattle.sv_realm.specs.declared.caller.Caller.{Caller}
 use Rattle.sv_constraints.specs.Covering.{all_patterns, covering, covers_method, lists, patterns_in}
-use Rattle.sv_constraints.specs.Verdict.{verdict, verdict_at}
+use Rattle.sv_constraints.specs.Verdict.{verdict_at}
 use Rattle.sv_constraints.specs.declared.cause.Cause.{Cause}
 use Rattle.sv_constraints.specs.declared.constraint.Constraint.{Constraint}
 use Rattle.sv_constraints.specs.declared.constraint.Rules.{Rules}
@@ -18,25 +18,26 @@ use Rattle.sv_policy.proofs.Listed.{any_seen, length_seen, some_filtered}
 use Rattle.sv_policy.proofs.Rising.{same_text}
 use Rattle.sv_policy.proofs.Steps.{any_of_joined, any_same}
 use Rattle.sv_policy.specs.Uncovered.{is_uncovered as is_uncovered_at}
-use Rattle.sv_audit.proofs.Alikes.{differ_at}
+use Rattle.sv_audit.proofs.Alikes.{differ_at, opened as opened_to}
+use Rattle.sv_audit.proofs.Said.{said}
 use Rattle.sv_audit.proofs.Equal.{and_left, and_right, both}
-use Rattle.sv_findings.proofs.FindingLemmas.{dead, heads, in_row, late, not_reached, not_served, opened, partly_dead, readings, says, the_rows, uncovered}
+use Rattle.sv_findings.proofs.FindingLemmas.{dead, fate_at, heads, in_row, late, not_reached, not_served, opened, partly_dead, readings, the_rows, uncovered}
 use Rattle.sv_audit.proofs.Witness.{found}
 use Rattle.sv_audit.proofs.Found.{in_texts, ordered_lists}
 use Rattle.sv_audit.proofs.RowCells.{row_cell}
 use Rattle.sv_audit.specs.Access.{cell_at}
 use Rattle.sv_findings.proofs.OpenedLemmas.{contained, kept_any, method_found, opened_exact, some_pair}
 use Rattle.sv_findings.specs.Dead.{dead_patterns_in, decides_nothing, escaped, is_dead}
-use Rattle.sv_findings.specs.FindingLaws.{DeadIsFound, HeadIsFound, IsMet, OpenedIsFound, ReadingIsFound, UncoveredIsFound, UnreachedIsFound, says_dead, says_head, says_opened, says_read, says_uncovered, says_unreached}
-use Rattle.sv_audit.specs.Callers.{has_method, same_callers}
+use Rattle.sv_findings.specs.FindingLaws.{DeadIsFound, FaresDifferently, HeadIsFound, IsMet, IsShut, OpenedIsFound, ReadingIsFound, UncoveredIsFound, UnreachedIsFound, configuration_of, says_dead, says_head, says_opened, says_read, says_uncovered, says_unreached}
+use Rattle.sv_audit.specs.Callers.{has_method, is_open, same_callers}
+use Rattle.sv_audit.specs.Visitors.{decided_by, effective}
 use Rattle.sv_findings.specs.Findings.{findings_of, pattern_findings}
 use Rattle.sv_findings.specs.LoginNeeds.{login_needs}
 use Rattle.sv_findings.specs.RoleFindings.{role_findings}
 use Rattle.sv_findings.specs.Uncovered.{is_left_open, is_left_out, uncovered_at}
 use Rattle.sv_findings.specs.Dead.{is_tried_late}
-use Rattle.sv_findings.specs.Reach.{is_reached}
 use Rattle.sv_findings.specs.MetRows.{is_met, is_row_met}
-use Rattle.sv_findings.specs.Readings.{covers_one, covers_part, first_covering, holds_one, is_covered, is_late, is_prefix, read_as, read_at, share_method}
+use Rattle.sv_findings.specs.Readings.{first_restricting, holds_one, is_late, is_prefix, read_as, read_at, restricts_one, restricts_part, share_method}
 use Rattle.sv_findings.specs.Unreached.{is_unreached, unreached_in}
 use Rattle.sv_findings.specs.declared.surroundings.Surroundings.{Surroundings}
 use Rattle.sv_mapping.specs.Pattern.{form}
@@ -44,7 +45,7 @@ use Rattle.sv_constraints.specs.declared.constraint.Methods.{Methods}
 use Rattle.sv_constraints.specs.declared.constraint.Methods.TheVariants.{All as AllMethods, Only, Except}
 use Rattle.sv_findings.specs.Heads.{head_at, head_on, straying, strays}
 use Rattle.sv_findings.specs.Opened.{is_opened, opened_at, opened_methods, opened_pair}
-use Rattle.sv_audit.specs.Reading.{Kind, kind_and_cause}
+use Rattle.sv_audit.specs.Reading.{Kind, Passes, kind_and_cause}
 use Rattle.sv_audit.specs.Rows.{in_row_order, match_every_path, other_paths, row_at, table_of}
 use Rattle.sv_audit.specs.declared.access.Access.{Access}
 use Rattle.sv_audit.specs.declared.access.Access.TheVariants.{Uncovered, UncoveredDenied, Precluded, NeedsTls, Everyone, AnyLogin, Roles}
@@ -252,42 +253,45 @@ pub dead_found : DeadIsFound
 dead_found constraints rules surroundings c pattern there listed nothing = dead_found_at constraints rules surroundings c pattern there listed nothing (is_dead (lists (all_patterns constraints) (codes "/*")) c) refl
 
 -- ---- The same callers fare alike.
-module _ (constraints : List Constraint) (rules : Rules) (pattern path : List ℕ) (caller : Option Caller) (best : best_pattern (all_patterns constraints) path ≡ Some pattern) (apart : (kind_and_cause (verdict constraints rules (codes "GET") path caller)).0 ≢ (kind_and_cause (verdict constraints rules (codes "HEAD") path caller)).0) where
+module _ (constraints : List Constraint) (rules : Rules) (surroundings : Surroundings) (pattern path : List ℕ) (visitor : Option Caller) (best : best_pattern (all_patterns constraints) path ≡ Some pattern) (apart : FaresDifferently (configuration_of constraints rules surroundings) path visitor) where
   abbrev the_groups : List Group
   the_groups = (row_at constraints rules pattern).groups
 
-  strays_here : (get head : Group) → get.cell ≡ cell_at rules (Some pattern) (covering constraints (Some pattern) (codes "GET")) → head.cell ≡ cell_at rules (Some pattern) (covering constraints (Some pattern) (codes "HEAD")) → not (same_callers get.cell.access head.cell.access) ≡ true
-  strays_here get head is was =
-      differ_at caller get.cell.access head.cell.access (same_callers get.cell.access head.cell.access) refl
-      (λ same. apart (ap (λ (x : Kind × Cause). x.0) (sym (says constraints rules pattern (codes "GET") path caller get.cell best is)) ∙ same ∙ ap (λ (x : Kind × Cause). x.0) (says constraints rules pattern (codes "HEAD") path caller head.cell best was)))
+  abbrev met_with : Group → Access
+  met_with group = effective surroundings.has_login group.cell.access
 
-  straying_found : (get : Group) → get.cell ≡ cell_at rules (Some pattern) (covering constraints (Some pattern) (codes "GET")) → list_any (says_head pattern) (straying pattern the_groups get.cell.access) ≡ true
+  strays_here : (get head : Group) → get.cell ≡ cell_at rules (Some pattern) (covering constraints (Some pattern) (codes "GET")) → head.cell ≡ cell_at rules (Some pattern) (covering constraints (Some pattern) (codes "HEAD")) → not (same_callers (met_with get) (met_with head)) ≡ true
+  strays_here get head is was =
+      differ_at visitor (met_with get) (met_with head) (same_callers (met_with get) (met_with head)) refl
+      (λ same. apart (fate_at constraints rules surroundings pattern (codes "GET") path visitor get.cell best is ∙ same ∙ sym (fate_at constraints rules surroundings pattern (codes "HEAD") path visitor head.cell best was)))
+
+  straying_found : (get : Group) → get.cell ≡ cell_at rules (Some pattern) (covering constraints (Some pattern) (codes "GET")) → list_any (says_head pattern) (straying surroundings.has_login pattern the_groups get.cell.access) ≡ true
   straying_found get is =
-      any_seen (says_head pattern) (λ (head : Group). finding.HeadDiffers pattern get.cell.access head.cell.access) (filter (strays get.cell.access) the_groups)
-      ∙ kept_any (λ (head : Group). bytes_eq pattern pattern) (strays get.cell.access) the_groups
-      ∙ found (list_any (λ (head : Group). strays get.cell.access head && bytes_eq pattern pattern) the_groups ≡ true) (has_method (codes "HEAD")) the_groups (some_group constraints rules pattern (codes "HEAD"))
+      any_seen (says_head pattern) (λ (head : Group). finding.HeadDiffers pattern get.cell.access head.cell.access) (filter (strays surroundings.has_login get.cell.access) the_groups)
+      ∙ kept_any (λ (head : Group). bytes_eq pattern pattern) (strays surroundings.has_login get.cell.access) the_groups
+      ∙ found (list_any (λ (head : Group). strays surroundings.has_login get.cell.access head && bytes_eq pattern pattern) the_groups ≡ true) (has_method (codes "HEAD")) the_groups (some_group constraints rules pattern (codes "HEAD"))
       (λ j e inside head_has.
       let head : Group = slice_index_or the_groups j e in
-      list_any_at (λ (one : Group). strays get.cell.access one && bytes_eq pattern pattern) the_groups j e inside
-      (both (strays get.cell.access head) (bytes_eq pattern pattern)
-      (both (has_method (codes "HEAD") head) (not (same_callers get.cell.access head.cell.access)) head_has (strays_here get head is (in_row constraints rules pattern (codes "HEAD") j e inside head_has)))
+      list_any_at (λ (one : Group). strays surroundings.has_login get.cell.access one && bytes_eq pattern pattern) the_groups j e inside
+      (both (strays surroundings.has_login get.cell.access head) (bytes_eq pattern pattern)
+      (both (has_method (codes "HEAD") head) (not (same_callers (met_with get) (met_with head))) head_has (strays_here get head is (in_row constraints rules pattern (codes "HEAD") j e inside head_has)))
       (same_text pattern)))
 
-  head_reported : list_any (says_head pattern) (head_on pattern the_groups) ≡ true
+  head_reported : list_any (says_head pattern) (head_on surroundings.has_login pattern the_groups) ≡ true
   head_reported =
-      any_of_joined (says_head pattern) (λ (get : Group). straying pattern the_groups get.cell.access) (filter (has_method (codes "GET")) the_groups)
-      ∙ kept_any (λ (get : Group). list_any (says_head pattern) (straying pattern the_groups get.cell.access)) (has_method (codes "GET")) the_groups
-      ∙ found (list_any (λ (get : Group). has_method (codes "GET") get && list_any (says_head pattern) (straying pattern the_groups get.cell.access)) the_groups ≡ true) (has_method (codes "GET")) the_groups (some_group constraints rules pattern (codes "GET"))
+      any_of_joined (says_head pattern) (λ (get : Group). straying surroundings.has_login pattern the_groups get.cell.access) (filter (has_method (codes "GET")) the_groups)
+      ∙ kept_any (λ (get : Group). list_any (says_head pattern) (straying surroundings.has_login pattern the_groups get.cell.access)) (has_method (codes "GET")) the_groups
+      ∙ found (list_any (λ (get : Group). has_method (codes "GET") get && list_any (says_head pattern) (straying surroundings.has_login pattern the_groups get.cell.access)) the_groups ≡ true) (has_method (codes "GET")) the_groups (some_group constraints rules pattern (codes "GET"))
       (λ k d within get_has.
       let get : Group = slice_index_or the_groups k d in
-      list_any_at (λ (one : Group). has_method (codes "GET") one && list_any (says_head pattern) (straying pattern the_groups one.cell.access)) the_groups k d within
-      (both (has_method (codes "GET") get) (list_any (says_head pattern) (straying pattern the_groups get.cell.access)) get_has (straying_found get (in_row constraints rules pattern (codes "GET") k d within get_has))))
+      list_any_at (λ (one : Group). has_method (codes "GET") one && list_any (says_head pattern) (straying surroundings.has_login pattern the_groups one.cell.access)) the_groups k d within
+      (both (has_method (codes "GET") get) (list_any (says_head pattern) (straying surroundings.has_login pattern the_groups get.cell.access)) get_has (straying_found get (in_row constraints rules pattern (codes "GET") k d within get_has))))
 
 pub head_found : BestIsAMatch → HeadIsFound
-head_found best_is_a_match constraints rules surroundings pattern path caller reached best apart =
+head_found best_is_a_match constraints rules surroundings pattern path visitor reached best apart =
     among_heads constraints rules surroundings (says_head pattern)
-    (in_table constraints rules pattern surroundings (says_head pattern) head_at (in_texts (all_patterns constraints) pattern (best_is_a_match (all_patterns constraints) path pattern best).0) reached
-    (head_reported constraints rules pattern path caller best apart))
+    (in_table constraints rules pattern surroundings (says_head pattern) (head_at surroundings.has_login) (in_texts (all_patterns constraints) pattern (best_is_a_match (all_patterns constraints) path pattern best).0) reached
+    (head_reported constraints rules surroundings pattern path visitor best apart))
 
 -- ---- What is read otherwise.
 any_covered : (methods : Methods) (names : List (List ℕ)) (method : List ℕ) → covers_method methods method ≡ true → lists names method ≡ true → list_any (covers_method methods) names ≡ true
@@ -303,49 +307,46 @@ sharing AllMethods others method one two = holding AllMethods others method one 
 sharing (Only names) others method one two = any_covered others names method two one
 sharing (Except names) others method one two = holding (Except names) others method one two
 
-covered_access : (none precluded transport lets_in any : Bool) (first : Access) (names : List (List ℕ)) → none ≡ false
-    → is_covered (cond none first (cond precluded Precluded (cond transport NeedsTls (cond lets_in Everyone (cond any AnyLogin (Roles names)))))) ≡ true
-covered_access true precluded transport lets_in any first names is = absurd (false≢true (sym is))
-covered_access false true transport lets_in any first names is = refl
-covered_access false false true lets_in any first names is = refl
-covered_access false false false true any first names is = refl
-covered_access false false false false true first names is = refl
-covered_access false false false false false first names is = refl
+closed_from : (access : Access) (lets_in : Bool) → is_open access ≡ lets_in → decided_by access None ≢ Passes → not (is_open access) ≡ true
+closed_from access true is stopped = absurd (stopped (opened_to None access is))
+closed_from access false is stopped = ap not is
 
 module _ (constraints : List Constraint) (rules : Rules) (other : List ℕ) where
-  cell_covered : (method : List ℕ) → is_uncovered_at constraints other method ≡ false → is_covered (cell_at rules (Some other) (covering constraints (Some other) method)).access ≡ true
+  cell_shut : (method : List ℕ) → IsShut constraints rules other method → not (is_open (cell_at rules (Some other) (covering constraints (Some other) method)).access) ≡ true
   unfolding cell_at
-  cell_covered method some = covered_access (length (covering constraints (Some other) method) == 0) _ _ _ _ _ _ some
+  cell_shut method shut =
+      let access : Access = (cell_at rules (Some other) (covering constraints (Some other) method)).access in
+      closed_from access (is_open access) refl (λ passes. shut (sym (ap (λ (x : Kind × Cause). x.0) (said rules None (Some other) (covering constraints (Some other) method))) ∙ passes))
 
-  row_covers : (methods : Methods) (method : List ℕ) → covers_method methods method ≡ true → is_uncovered_at constraints other method ≡ false → covers_one methods (row_at constraints rules other) ≡ true
-  row_covers methods method has some =
+  row_restricts : (methods : Methods) (method : List ℕ) → covers_method methods method ≡ true → IsShut constraints rules other method → restricts_one methods (row_at constraints rules other) ≡ true
+  row_restricts methods method has shut =
       let its : List Group = (row_at constraints rules other).groups in
-      found (list_any (covers_part methods) its ≡ true) (has_method method) its (some_group constraints rules other method)
+      found (list_any (restricts_part methods) its ≡ true) (has_method method) its (some_group constraints rules other method)
       (λ k d within it.
-      list_any_at (covers_part methods) its k d within
-      (both (is_covered (slice_index_or its k d).cell.access) (share_method methods (slice_index_or its k d).methods)
-      (ap (λ (c : Cell). is_covered c.access) (in_row constraints rules other method k d within it) ∙ cell_covered method some)
+      list_any_at (restricts_part methods) its k d within
+      (both (not (is_open (slice_index_or its k d).cell.access)) (share_method methods (slice_index_or its k d).methods)
+      (ap (λ (c : Cell). not (is_open c.access)) (in_row constraints rules other method k d within it) ∙ cell_shut method shut)
       (sharing methods (slice_index_or its k d).methods method has it)))
 
--- The first row that covers one of the methods has a pattern.
-found_pattern : (methods : Methods) (rows : List Row) → list_any (covers_one methods) (filter is_late rows) ≡ true → is_some (first_covering (filter is_late rows) methods) ≡ true
+-- The first row that restricts one of the methods has a pattern.
+found_pattern : (methods : Methods) (rows : List Row) → list_any (restricts_one methods) (filter is_late rows) ≡ true → is_some (first_restricting (filter is_late rows) methods) ≡ true
 found_pattern methods rows some = by_rows rows some
   where
     has_pattern : (pattern : Option (List ℕ)) → option_map_or is_tried_late pattern false ≡ true → is_some pattern ≡ true
     has_pattern None none = absurd (false≢true none)
     has_pattern (Some text) tried = refl
 
-    first_at : (row : Row) (rest : List Row) (covered : Bool) → is_late row ≡ true → (covered || list_any (covers_one methods) rest) ≡ true → (list_any (covers_one methods) rest ≡ true → is_some (first_covering rest methods) ≡ true)
-        → is_some (option_and_then (λ (one : Row). one.pattern) (cond covered (Some row) (find (covers_one methods) rest))) ≡ true
+    first_at : (row : Row) (rest : List Row) (covered : Bool) → is_late row ≡ true → (covered || list_any (restricts_one methods) rest) ≡ true → (list_any (restricts_one methods) rest ≡ true → is_some (first_restricting rest methods) ≡ true)
+        → is_some (option_and_then (λ (one : Row). one.pattern) (cond covered (Some row) (find (restricts_one methods) rest))) ≡ true
     first_at row rest true tried any later = has_pattern row.pattern tried
     first_at row rest false tried any later = later any
 
-    kept_at : (row : Row) (rest : List Row) (tried : Bool) → is_late row ≡ tried → list_any (covers_one methods) (cond tried (row ∷ rest) rest) ≡ true → (list_any (covers_one methods) rest ≡ true → is_some (first_covering rest methods) ≡ true)
-        → is_some (first_covering (cond tried (row ∷ rest) rest) methods) ≡ true
-    kept_at row rest true is any later = first_at row rest (covers_one methods row) is any later
+    kept_at : (row : Row) (rest : List Row) (tried : Bool) → is_late row ≡ tried → list_any (restricts_one methods) (cond tried (row ∷ rest) rest) ≡ true → (list_any (restricts_one methods) rest ≡ true → is_some (first_restricting rest methods) ≡ true)
+        → is_some (first_restricting (cond tried (row ∷ rest) rest) methods) ≡ true
+    kept_at row rest true is any later = first_at row rest (restricts_one methods row) is any later
     kept_at row rest false is any later = later any
 
-    by_rows : (all : List Row) → list_any (covers_one methods) (filter is_late all) ≡ true → is_some (first_covering (filter is_late all) methods) ≡ true
+    by_rows : (all : List Row) → list_any (restricts_one methods) (filter is_late all) ≡ true → is_some (first_restricting (filter is_late all) methods) ≡ true
     by_rows [] any = absurd (false≢true any)
     by_rows (row ∷ rest) any = kept_at row (filter is_late rest) (is_late row) refl any (by_rows rest)
 
@@ -353,18 +354,18 @@ reported_reading : (pattern method : List ℕ) (methods : Methods) (other : Opti
 reported_reading pattern method methods None some has = absurd (false≢true some)
 reported_reading pattern method methods (Some other) some has = ap (λ b. b || false) (both (bytes_eq pattern pattern) (covers_method methods method) (same_text pattern) has)
 
-module _ (constraints : List Constraint) (rules : Rules) (surroundings : Surroundings) (pattern method other : List ℕ) (its_reached : IsMet constraints surroundings other) (listed : lists (all_patterns constraints) other ≡ true) (tried : is_tried_late other ≡ true) (covered : is_uncovered_at constraints other method ≡ false) where
+module _ (constraints : List Constraint) (rules : Rules) (surroundings : Surroundings) (pattern method other : List ℕ) (its_reached : IsMet constraints surroundings other) (listed : lists (all_patterns constraints) other ≡ true) (tried : is_tried_late other ≡ true) (shut : IsShut constraints rules other method) where
   abbrev late_ones : List Row
   late_ones = late constraints rules surroundings
 
-  covering_some : (methods : Methods) → covers_method methods method ≡ true → list_any (covers_one methods) late_ones ≡ true
-  covering_some methods has =
-      kept_any (covers_one methods) is_late (the_rows constraints rules surroundings)
-      ∙ row_found constraints rules other surroundings (λ (row : Row). is_late row && covers_one methods row) listed its_reached
-      (both (is_late (row_at constraints rules other)) (covers_one methods (row_at constraints rules other)) tried (row_covers constraints rules other methods method has covered))
+  restricting_some : (methods : Methods) → covers_method methods method ≡ true → list_any (restricts_one methods) late_ones ≡ true
+  restricting_some methods has =
+      kept_any (restricts_one methods) is_late (the_rows constraints rules surroundings)
+      ∙ row_found constraints rules other surroundings (λ (row : Row). is_late row && restricts_one methods row) listed its_reached
+      (both (is_late (row_at constraints rules other)) (restricts_one methods (row_at constraints rules other)) tried (row_restricts constraints rules other methods method has shut))
 
   read_group : (group : Group) → has_method method group ≡ true → list_any (says_read pattern method) (read_as late_ones pattern group.methods) ≡ true
-  read_group group has = reported_reading pattern method group.methods (first_covering late_ones group.methods) (found_pattern group.methods (the_rows constraints rules surroundings) (covering_some group.methods has)) has
+  read_group group has = reported_reading pattern method group.methods (first_restricting late_ones group.methods) (found_pattern group.methods (the_rows constraints rules surroundings) (restricting_some group.methods has)) has
 
   reading_reported : is_prefix (form pattern) ≡ true → rules.deny_uncovered ≡ false → is_uncovered_at constraints pattern method ≡ true → list_any (says_read pattern method) (read_at late_ones (Some pattern) (groups constraints rules pattern)) ≡ true
   reading_reported prefixed open_to_all none =
@@ -378,10 +379,10 @@ module _ (constraints : List Constraint) (rules : Rules) (surroundings : Surroun
       (both (is_left_out group) (list_any (says_read pattern method) (read_as late_ones pattern group.methods)) (and_left (is_left_out group) (has_method method group) it) (read_group group (and_right (is_left_out group) (has_method method group) it))))
 
 pub reading_found : ReadingIsFound
-reading_found constraints rules surroundings pattern method other reached its_reached open_to_all there listed prefixed tried none covered =
+reading_found constraints rules surroundings pattern method other reached its_reached open_to_all there listed prefixed tried none shut =
     among_readings constraints rules surroundings (says_read pattern method)
     (in_table constraints rules pattern surroundings (says_read pattern method) (read_at (late constraints rules surroundings)) there reached
-    (reading_reported constraints rules surroundings pattern method other its_reached listed tried covered prefixed open_to_all none))
+    (reading_reported constraints rules surroundings pattern method other its_reached listed tried shut prefixed open_to_all none))
 
 -- ---- Unreached patterns.
 pub unreached_found : UnreachedIsFound

@@ -1,12 +1,12 @@
--- What findings say of the verdicts (Jakarta Servlet 6.0, sections 3.5.2, 12.1 and 13.8).
+-- What findings say of the verdicts (Jakarta Servlet 6.0, sections 3.5.2, 12.1, 13.6 and 13.8).
 use Rattle.std.specs.Prelude.{◌≡◌, ◌≢◌, ℕ, Bool, true, false, ◌&&◌, ◌||◌, ◌==◌, List, [], length, codes, Option, None, Some, All, Contains, IsTrue}
 use Rattle.std.specs.List.{list_any}
 use Rattle.std.specs.Str.{bytes_eq}
 use Rattle.sv_mapping.specs.BestMatch.{best_pattern}
 use Rattle.sv_mapping.specs.Pattern.{form, matches}
 use Rattle.sv_realm.specs.declared.caller.Caller.{Caller}
-use Rattle.sv_constraints.specs.Covering.{all_patterns, covers, covers_method, lists, patterns_in}
-use Rattle.sv_constraints.specs.Verdict.{is_open, verdict}
+use Rattle.sv_constraints.specs.Covering.{all_patterns, covering, covers, covers_method, lists, patterns_in}
+use Rattle.sv_constraints.specs.Verdict.{is_open, verdict, verdict_at}
 use Rattle.sv_constraints.specs.declared.cause.Cause.TheVariants as cause
 use Rattle.sv_constraints.specs.declared.constraint.Auth.{Auth}
 use Rattle.sv_constraints.specs.declared.constraint.Auth.TheVariants as auth
@@ -14,6 +14,7 @@ use Rattle.sv_constraints.specs.declared.constraint.Constraint.{Constraint}
 use Rattle.sv_constraints.specs.declared.constraint.Rules.{Rules}
 use Rattle.sv_policy.specs.Uncovered.{is_uncovered}
 use Rattle.sv_audit.specs.Access.{roles_meant}
+use Rattle.sv_audit.specs.DifferenceLaws.{Configuration, fate_of}
 use Rattle.sv_audit.specs.Shapes.{IsServed}
 use Rattle.sv_findings.specs.Dead.{decides_nothing, is_escaped, is_tried_late}
 use Rattle.sv_findings.specs.Findings.{findings_of}
@@ -75,11 +76,23 @@ abbrev pub IsAccessOf : List Constraint → Rules → List ℕ → List ℕ → 
 IsAccessOf constraints rules pattern method access =
     (path : List ℕ) (caller : Option Caller) → best_pattern (all_patterns constraints) path ≡ Some pattern → said_to caller access ≡ kind_and_cause (verdict constraints rules method path caller)
 
+-- If the pattern decides, a request with the method and without a caller does not pass.
+abbrev pub IsShut : List Constraint → Rules → List ℕ → List ℕ → Type 0
+IsShut constraints rules pattern method = (kind_and_cause (verdict_at rules None (Some pattern) (covering constraints (Some pattern) method))).0 ≢ Passes
+
+-- The context of the constraints, which has a login configuration or not.
+abbrev pub configuration_of : List Constraint → Rules → Surroundings → Configuration
+configuration_of its_constraints its_rules surroundings = record { constraints = its_constraints; rules = its_rules; has_login = surroundings.has_login }
+
+-- The fates of a visitor's requests with GET and with HEAD differ.
+abbrev pub FaresDifferently : Configuration → List ℕ → Option Caller → Type 0
+FaresDifferently it path visitor = fate_of it (codes "GET") path visitor ≢ fate_of it (codes "HEAD") path visitor
+
 -- Everyone passes with each of the methods, which a constraint with an authorization constraint covers, too, and both
 -- constraints cover one of them; each method of the finding passes at each path of the pattern, since it is uncovered;
--- each method is uncovered at a prefix pattern, but some constraint covers one of them at a pattern that is tried later;
--- the accesses are those of GET and HEAD, and a caller, or a request without one, fares differently with them; the
--- constraint covers nothing; the constraint has the pattern, which is never best; the constraint has the pattern, which
+-- each method is uncovered at a prefix pattern, but some constraint covers one of them at a pattern that is tried later,
+-- and a request without a caller does not pass with it if that pattern decides; the accesses are those of GET and HEAD,
+-- and some visitor fares differently with them at each path of the pattern; the constraint covers nothing; the constraint has the pattern, which is never best; the constraint has the pattern, which
 -- is not reached; the constraint has the pattern, the files are known, and at no path that it matches is there a servlet,
 -- a file or a folder that holds one; the constraint has the pattern, with a percent sign; the login page refers to the
 -- path, and a request without a caller does not pass there; the constraint names the role, which is not declared; a
@@ -92,10 +105,9 @@ IsRight constraints rules surroundings (Uncovered pattern methods) = (method pat
     IsTrue (covers_method methods method) → kind_and_cause (verdict constraints rules method path caller) ≡ (Passes, cause.Uncovered)
 IsRight constraints rules surroundings (ReadOtherwise pattern methods other) = IsTrue (is_prefix (form pattern)) × IsTrue (is_tried_late other) × (rules.deny_uncovered ≡ false)
     × ((method : List ℕ) → IsTrue (covers_method methods method) → IsTrue (is_uncovered constraints pattern method))
-    × ((method : List ℕ) × IsTrue (covers_method methods method) × (is_uncovered constraints other method ≡ false))
+    × ((method : List ℕ) × IsTrue (covers_method methods method) × (is_uncovered constraints other method ≡ false) × IsShut constraints rules other method)
 IsRight constraints rules surroundings (HeadDiffers pattern get head) = IsAccessOf constraints rules pattern (codes "GET") get × IsAccessOf constraints rules pattern (codes "HEAD") head
-    × (caller : Option Caller) × ((path : List ℕ) → best_pattern (all_patterns constraints) path ≡ Some pattern →
-    (kind_and_cause (verdict constraints rules (codes "GET") path caller)).0 ≢ (kind_and_cause (verdict constraints rules (codes "HEAD") path caller)).0)
+    × (visitor : Option Caller) × ((path : List ℕ) → best_pattern (all_patterns constraints) path ≡ Some pattern → FaresDifferently (configuration_of constraints rules surroundings) path visitor)
 IsRight constraints rules surroundings (Dead its_number) = (constraint : Constraint) × Contains constraints constraint × (constraint.number ≡ its_number) × CoversNothing constraints constraint
 IsRight constraints rules surroundings (DeadPattern its_number pattern) = (constraint : Constraint) × Contains constraints constraint × (constraint.number ≡ its_number)
     × IsTrue (lists (patterns_in constraint) pattern) × IsNeverBest constraints pattern
@@ -169,11 +181,11 @@ abbrev pub UncoveredIsFound : Type 0
 UncoveredIsFound = (constraints : List Constraint) (rules : Rules) (surroundings : Surroundings) (pattern method other : List ℕ) → IsMet constraints surroundings pattern → rules.deny_uncovered ≡ false → IsTrue (lists (all_patterns constraints) pattern) →
     IsTrue (is_uncovered constraints pattern method) → is_uncovered constraints pattern other ≡ false → IsTrue (list_any (says_uncovered pattern method) (findings_of constraints rules (table_of constraints rules) surroundings))
 
--- Each pattern that requests meet is found that is the best match of a path at which a caller, or a request without one, fares differently
--- with GET and with HEAD.
+-- Each pattern that requests meet is found that is the best match of a path at which some visitor fares differently with
+-- GET and with HEAD.
 abbrev pub HeadIsFound : Type 0
-HeadIsFound = (constraints : List Constraint) (rules : Rules) (surroundings : Surroundings) (pattern path : List ℕ) (caller : Option Caller) → IsMet constraints surroundings pattern → best_pattern (all_patterns constraints) path ≡ Some pattern →
-    (kind_and_cause (verdict constraints rules (codes "GET") path caller)).0 ≢ (kind_and_cause (verdict constraints rules (codes "HEAD") path caller)).0 →
+HeadIsFound = (constraints : List Constraint) (rules : Rules) (surroundings : Surroundings) (pattern path : List ℕ) (visitor : Option Caller) → IsMet constraints surroundings pattern → best_pattern (all_patterns constraints) path ≡ Some pattern →
+    FaresDifferently (configuration_of constraints rules surroundings) path visitor →
     IsTrue (list_any (says_head pattern) (findings_of constraints rules (table_of constraints rules) surroundings))
 
 -- Whether the finding says that the method is read otherwise at the pattern.
@@ -182,11 +194,12 @@ says_read pattern method (ReadOtherwise its_pattern methods other) = bytes_eq it
 says_read pattern method other = false
 
 -- Unless uncovered methods are denied, each method is found that no constraint covers at a prefix pattern of the
--- constraints that requests meet, if they cover it at such a pattern that is tried later.
+-- constraints that requests meet, if a request with it and without a caller does not pass where such a pattern decides that
+-- is tried later.
 abbrev pub ReadingIsFound : Type 0
 ReadingIsFound = (constraints : List Constraint) (rules : Rules) (surroundings : Surroundings) (pattern method other : List ℕ) → IsMet constraints surroundings pattern → IsMet constraints surroundings other →
     rules.deny_uncovered ≡ false → IsTrue (lists (all_patterns constraints) pattern) → IsTrue (lists (all_patterns constraints) other) → IsTrue (is_prefix (form pattern)) → IsTrue (is_tried_late other) →
-    IsTrue (is_uncovered constraints pattern method) → is_uncovered constraints other method ≡ false → IsTrue (list_any (says_read pattern method) (findings_of constraints rules (table_of constraints rules) surroundings))
+    IsTrue (is_uncovered constraints pattern method) → IsShut constraints rules other method → IsTrue (list_any (says_read pattern method) (findings_of constraints rules (table_of constraints rules) surroundings))
 
 -- Whether the finding says that no request reaches the pattern of the constraint with this number.
 abbrev pub says_unreached : ℕ → List ℕ → Finding → Bool

@@ -1,5 +1,5 @@
 -- What constraints leave open by mistake, or state without effect (Jakarta Servlet 6.0, sections 12.1 and 13.8).
-use Rattle.std.specs.Prelude.{ℕ, List, ◌++◌, codes, filter}
+use Rattle.std.specs.Prelude.{ℕ, Bool, List, ◌++◌, codes, filter}
 use Rattle.std.specs.List.{flat_map}
 use Rattle.sv_constraints.specs.Covering.{all_patterns, lists}
 use Rattle.sv_constraints.specs.declared.constraint.Constraint.{Constraint}
@@ -19,13 +19,13 @@ use Rattle.sv_findings.specs.Unserved.{unserved}
 use Rattle.sv_findings.specs.declared.finding.Finding.{Finding}
 use Rattle.sv_findings.specs.declared.surroundings.Surroundings.{Surroundings}
 
--- The findings of rows of an access table.
-abbrev pub row_findings : List Constraint → List Row → List Finding
-row_findings constraints rows =
+-- The findings of rows of an access table, given whether there is a login configuration.
+abbrev pub row_findings : List Constraint → Bool → List Row → List Finding
+row_findings constraints has_login rows =
     flat_map (λ row. opened_at constraints row.pattern) rows
     ++ flat_map (λ row. uncovered_at row.pattern row.groups) rows
     ++ read_otherwise rows
-    ++ flat_map (λ row. head_at row.pattern row.groups) rows
+    ++ flat_map (λ row. head_at has_login row.pattern row.groups) rows
 
 -- The findings of the patterns of constraints, given the paths of all contexts and that of this one.
 abbrev pub pattern_findings : List Constraint → List (List ℕ) → List ℕ → Surroundings → List Finding
@@ -43,4 +43,4 @@ met_rows constraints surroundings rows = filter (is_row_met surroundings.context
 -- The findings of constraints and their table, given what surrounds them.
 abbrev pub findings_of : List Constraint → Rules → Table → Surroundings → List Finding
 findings_of constraints rules table surroundings =
-    row_findings constraints (met_rows constraints surroundings table.rows) ++ pattern_findings constraints surroundings.contexts surroundings.path surroundings ++ login_needs surroundings.contexts surroundings.path constraints rules surroundings.login_page ++ role_findings rules.declared surroundings.held constraints
+    row_findings constraints surroundings.has_login (met_rows constraints surroundings table.rows) ++ pattern_findings constraints surroundings.contexts surroundings.path surroundings ++ login_needs surroundings.contexts surroundings.path constraints rules surroundings.login_page ++ role_findings rules.declared surroundings.held constraints

@@ -1,31 +1,19 @@
--- Prefix patterns that a server which takes only patterns that cover the method reads otherwise. The best match does not
--- depend on the method (Jakarta Servlet 6.0, sections 12.1 and 13.8.3).
-use Rattle.std.specs.Prelude.{ℕ, Bool, true, false, ◌&&◌, List, [], filter, find, map, Option, None, Some, if◌then◌else◌}
+-- Prefix patterns at which a server that takes only patterns which cover the method decides otherwise. The best match does
+-- not depend on the method (Jakarta Servlet 6.0, sections 12.1 and 13.8.3).
+use Rattle.std.specs.Prelude.{ℕ, Bool, true, false, not, ◌&&◌, List, [], filter, find, map, Option, None, Some, if◌then◌else◌}
 use Rattle.std.specs.List.{flat_map, list_any}
 use Rattle.std.specs.Option.{option_and_then, option_map_or, option_to_list}
 use Rattle.sv_constraints.specs.Covering.{covers_method}
 use Rattle.sv_constraints.specs.declared.constraint.Methods.{Methods}
 use Rattle.sv_constraints.specs.declared.constraint.Methods.TheVariants.{All, Only, Except}
 use Rattle.sv_mapping.specs.Pattern.{Form, Root, Default, Extension, Prefix, Exact, form}
-use Rattle.sv_audit.specs.declared.access.Access.{Access}
-use Rattle.sv_audit.specs.declared.access.Access.TheVariants.{Unconstrained, Uncovered, UncoveredDenied, Precluded, NeedsTls, Everyone, AnyLogin, Roles}
+use Rattle.sv_audit.specs.Callers.{is_open}
 use Rattle.sv_audit.specs.declared.rows.Group.{Group}
 use Rattle.sv_audit.specs.declared.rows.Row.{Row}
 use Rattle.sv_findings.specs.Dead.{is_tried_late}
 use Rattle.sv_findings.specs.Uncovered.{is_left_out}
 use Rattle.sv_findings.specs.declared.finding.Finding.{Finding}
 use Rattle.sv_findings.specs.declared.finding.Finding.TheVariants as finding
-
--- Whether a constraint covers methods with this access.
-abbrev pub is_covered : Access → Bool
-is_covered Unconstrained = false
-is_covered Uncovered = false
-is_covered UncoveredDenied = false
-is_covered Precluded = true
-is_covered NeedsTls = true
-is_covered Everyone = true
-is_covered AnyLogin = true
-is_covered (Roles names) = true
 
 -- Whether one of the others is among all methods except some.
 abbrev pub holds_one : Methods → Methods → Bool
@@ -39,12 +27,12 @@ share_method All others = holds_one All others
 share_method (Only names) others = list_any (covers_method others) names
 share_method (Except names) others = holds_one (Except names) others
 
--- Whether a constraint covers one of the methods in this group of a row, or in the row.
-abbrev pub covers_part : Methods → Group → Bool
-covers_part methods group = is_covered group.cell.access && share_method methods group.methods
+-- Whether one of the methods is in this group of a row, or in the row, and not open to everyone there.
+abbrev pub restricts_part : Methods → Group → Bool
+restricts_part methods group = not (is_open group.cell.access) && share_method methods group.methods
 
-abbrev pub covers_one : Methods → Row → Bool
-covers_one methods row = list_any (covers_part methods) row.groups
+abbrev pub restricts_one : Methods → Row → Bool
+restricts_one methods row = list_any (restricts_part methods) row.groups
 
 abbrev pub is_late : Row → Bool
 is_late row = option_map_or is_tried_late row.pattern false
@@ -56,18 +44,18 @@ is_prefix (Extension wanted) = false
 is_prefix (Prefix prefix) = true
 is_prefix (Exact text) = false
 
--- The pattern of the first row that covers one of the methods.
-abbrev pub first_covering : List Row → Methods → Option (List ℕ)
-first_covering rows methods = option_and_then (λ row. row.pattern) (find (covers_one methods) rows)
+-- The pattern of the first row at which one of the methods is not open to everyone.
+abbrev pub first_restricting : List Row → Methods → Option (List ℕ)
+first_restricting rows methods = option_and_then (λ row. row.pattern) (find (restricts_one methods) rows)
 
--- A pattern that is tried later covers one of these uncovered methods of a prefix pattern.
+-- One of these uncovered methods of a prefix pattern is not open to everyone at a pattern that is tried later.
 abbrev pub read_as : List Row → List ℕ → Methods → List Finding
-read_as late pattern methods = map (finding.ReadOtherwise pattern methods) (option_to_list (first_covering late methods))
+read_as late pattern methods = map (finding.ReadOtherwise pattern methods) (option_to_list (first_restricting late methods))
 
 abbrev pub read_at : List Row → Option (List ℕ) → List Group → List Finding
 read_at late None groups = []
 read_at late (Some pattern) groups = if is_prefix (form pattern) then flat_map (λ group. read_as late pattern group.methods) (filter is_left_out groups) else []
 
--- The prefix patterns with uncovered methods of which an extension pattern or `/` covers one.
+-- The prefix patterns with uncovered methods of which one is not open to everyone at an extension pattern or `/`.
 abbrev pub read_otherwise : List Row → List Finding
 read_otherwise rows = flat_map (λ row. read_at (filter is_late rows) row.pattern row.groups) rows

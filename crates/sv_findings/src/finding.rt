@@ -16,10 +16,11 @@ pub enum Finding {
     /// 13.8.4).
     Uncovered(Text, Methods),
     /// A prefix pattern, the methods that everyone may use there since no constraint covers them, and an extension
-    /// pattern or `/` at which a constraint covers one of them. A server that takes a pattern only if its constraints
+    /// pattern or `/` at which one of them is not open to everyone. A server that takes a pattern only if its constraints
     /// cover the method decides otherwise.
     ReadOtherwise(Text, Methods, Text),
-    /// A pattern at which GET and HEAD are open to different callers, with the access of GET and that of HEAD.
+    /// A pattern at which some visitor fares differently with GET and with HEAD, with the access of GET and that of HEAD.
+    /// Without a login configuration nobody can log in (section 13.6).
     HeadDiffers(Text, Access, Access),
     /// The number of a constraint that covers no request: `/*` is chosen before each of its patterns (section 12.1), or
     /// no canonical path matches it (section 3.5.2).

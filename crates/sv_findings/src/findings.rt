@@ -48,7 +48,14 @@ pub fn findings_of(
     let mut findings = Vec::new(alloc);
     let has_prefix = lists_prefix(alloc, constraints)?;
     let rows = met_rows(alloc, &reaches, has_prefix, table.rows.as_slice())?;
-    push_by_row(&mut findings, alloc, constraints, rules, rows.as_slice())?;
+    push_by_row(
+        &mut findings,
+        alloc,
+        constraints,
+        rules,
+        surroundings.has_login,
+        rows.as_slice(),
+    )?;
     push_by_pattern(&mut findings, alloc, constraints, &reaches, surroundings)?;
     push_login_needs(
         &mut findings,
@@ -68,20 +75,21 @@ pub fn findings_of(
     Ok(Listed::from_vec(findings))
 }
 
-/// Appends the findings of rows of the table.
+/// Appends the findings of rows of the table, given whether there is a login configuration.
 fn push_by_row(
     findings: &mut Vec<Finding>,
     alloc: Global,
     constraints: &[Constraint],
     rules: &Rules,
+    has_login: bool,
     rows: &[&Row],
 ) -> Result<(), NoMemory>
-    ensures { OnOk result (findings.new.items ≡ findings.old.items ++ spec.row_findings constraints.now (map (λ row. row.now) rows.now)) }
+    ensures { OnOk result (findings.new.items ≡ findings.old.items ++ spec.row_findings constraints.now has_login (map (λ row. row.now) rows.now)) }
 {
     push_opened(findings, alloc, constraints, rules, rows)?;
     push_uncovered(findings, alloc, rows)?;
     push_read_otherwise(findings, alloc, rows)?;
-    push_heads(findings, alloc, rows)
+    push_heads(findings, alloc, has_login, rows)
 }
 
 /// Appends the findings of the patterns of the constraints.

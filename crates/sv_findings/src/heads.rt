@@ -1,4 +1,4 @@
-//! Patterns at which GET and HEAD are open to different callers.
+//! Patterns at which some visitor fares differently with GET and with HEAD.
 
 ghost use Rattle.std.specs.Prelude.{◌≡◌, ◌++◌, OnOk, codes, map};
 ghost use Rattle.std.specs.List.{flat_map};
@@ -10,16 +10,28 @@ ghost use Rattle.sv_findings.specs.declared.finding.Finding.TheVariants as findi
 
 use crate::finding::Finding;
 use std::alloc::Global;
-use sv_audit::{Access, Group, Row, copied_access, same_callers};
+use sv_audit::{Access, Group, Logins, Row, copied_access, same_fates};
 use sv_constraints::{Methods, lists};
 use sv_text::{NoMemory, Text};
 
-/// Appends the patterns of the rows at which GET and HEAD are open to different callers.
-pub fn push_heads(findings: &mut Vec<Finding>, alloc: Global, rows: &[&Row]) -> Result<(), NoMemory>
-    ensures { OnOk result (findings.new.items ≡ findings.old.items ++ flat_map (λ row. spec.head_at row.pattern row.groups) (map (λ row. row.now) rows.now)) }
+/// Appends the patterns of the rows at which some visitor fares differently with GET and with HEAD, in a context with or
+/// without a login configuration.
+pub fn push_heads(
+    findings: &mut Vec<Finding>,
+    alloc: Global,
+    has_login: bool,
+    rows: &[&Row],
+) -> Result<(), NoMemory>
+    ensures { OnOk result (findings.new.items ≡ findings.old.items ++ flat_map (λ row. spec.head_at has_login row.pattern row.groups) (map (λ row. row.now) rows.now)) }
 {
     for row in rows {
-        push_head(findings, alloc, &row.pattern, row.groups.as_slice())?;
+        push_head(
+            findings,
+            alloc,
+            has_login,
+            &row.pattern,
+            row.groups.as_slice(),
+        )?;
     }
     Ok(())
 }
@@ -27,46 +39,56 @@ pub fn push_heads(findings: &mut Vec<Finding>, alloc: Global, rows: &[&Row]) -> 
 fn push_head(
     findings: &mut Vec<Finding>,
     alloc: Global,
+    has_login: bool,
     pattern: &Option<Text>,
     groups: &[Group],
 ) -> Result<(), NoMemory>
-    ensures { OnOk result (findings.new.items ≡ findings.old.items ++ spec.head_at pattern.now groups.now) }
+    ensures { OnOk result (findings.new.items ≡ findings.old.items ++ spec.head_at has_login pattern.now groups.now) }
 {
     let Some(pattern) = pattern else {
         return Ok(());
     };
-    push_gets(findings, alloc, pattern.as_str(), groups)
+    push_gets(findings, alloc, has_login, pattern.as_str(), groups)
 }
 
-/// Appends a pattern for each group of GET, if HEAD is open to other callers.
+/// Appends a pattern for each group of GET, if some visitor fares differently with HEAD.
 fn push_gets(
     findings: &mut Vec<Finding>,
     alloc: Global,
+    has_login: bool,
     pattern: &str,
     groups: &[Group],
 ) -> Result<(), NoMemory>
-    ensures { OnOk result (findings.new.items ≡ findings.old.items ++ spec.head_on pattern.now groups.now) }
+    ensures { OnOk result (findings.new.items ≡ findings.old.items ++ spec.head_on has_login pattern.now groups.now) }
 {
     for get in groups {
         if is_method_of("GET", get) {
-            push_straying(findings, alloc, pattern, &get.cell.access, groups)?;
+            push_straying(
+                findings,
+                alloc,
+                has_login,
+                pattern,
+                &get.cell.access,
+                groups,
+            )?;
         }
     }
     Ok(())
 }
 
-/// Appends the pattern, if HEAD is in a group of other callers than this access of GET.
+/// Appends the pattern, if some visitor fares differently with HEAD than with GET of this access.
 fn push_straying(
     findings: &mut Vec<Finding>,
     alloc: Global,
+    has_login: bool,
     pattern: &str,
     get: &Access,
     groups: &[Group],
 ) -> Result<(), NoMemory>
-    ensures { OnOk result (findings.new.items ≡ findings.old.items ++ spec.straying pattern.now groups.now get.now) }
+    ensures { OnOk result (findings.new.items ≡ findings.old.items ++ spec.straying has_login pattern.now groups.now get.now) }
 {
     for head in groups {
-        if strays(get, head) {
+        if strays(has_login, get, head) {
             findings.push(head_differs(alloc, pattern, get, &head.cell.access)?)?;
         }
     }
@@ -88,11 +110,15 @@ fn head_differs(
     ))
 }
 
-/// Returns whether the group has HEAD, and is open to other callers.
-fn strays(get: &Access, head: &Group) -> bool
-    ensures { result ≡ spec.strays get.now head.now }
+/// Returns whether the group has HEAD, and some visitor fares differently with it than with GET.
+fn strays(has_login: bool, get: &Access, head: &Group) -> bool
+    ensures { result ≡ spec.strays has_login get.now head.now }
 {
-    is_method_of("HEAD", head) && !same_callers(get, &head.cell.access)
+    let logins = Logins {
+        before: has_login,
+        after: has_login,
+    };
+    is_method_of("HEAD", head) && !same_fates(logins, get, &head.cell.access)
 }
 
 fn is_method_of(method: &str, group: &Group) -> bool

@@ -10,14 +10,15 @@ use sv_uri::laws::canonical_has_shape;
 
 /// Each finding of constraints and their table is right. With each of the opened methods everyone passes, although a
 /// constraint with an authorization constraint covers it. The methods of an uncovered finding pass at each path of its
-/// pattern, since they are uncovered. Methods that are read otherwise are uncovered at their prefix pattern, and a
-/// constraint covers one of them at a pattern that is tried later. Where GET and HEAD differ, their accesses are as
-/// reported, and there is a caller, or a request without one, that passes with one of them and not with the other, or is
-/// asked to log in only for one. A dead constraint covers no request, a dead pattern is the best match of no canonical
-/// path, an unreached one is hidden or belongs to another context, and at no path that an unserved one matches is there a
-/// servlet, a file or a folder that holds one. The login page refers to what it needs, and a request without a caller
-/// does not pass there. An unknown role is named and not declared, an
-/// unheld one is named and no user has it, and an unused one is declared and not named.
+/// pattern, since they are uncovered. Methods that are read otherwise are uncovered at their prefix pattern. A
+/// constraint covers one of them at a pattern that is tried later, and a request without a caller does not pass if that
+/// pattern decides. If GET and HEAD differ, their accesses are as reported, and there is a visitor whose fate differs
+/// with them: whether requests pass, lead to a login or are denied. Without a login configuration nobody can log in. A
+/// dead constraint covers no request, a dead pattern is the best match of no canonical path, an unreached one is hidden
+/// or belongs to another context, and at no path that an unserved one matches is there a servlet, a file or a folder
+/// that holds one. The login page refers to what it needs, and a request without a caller does not pass there. An
+/// unknown role is named and not declared, an unheld one is named and no user has it, and an unused one is declared and
+/// not named.
 pub fn findings_are_right()
     ensures { FindingsAreRight }
 {
@@ -26,8 +27,9 @@ pub fn findings_are_right()
 
 /// No method is missed that a constraint opens to everyone at a pattern that requests meet, and another one restricts.
 /// Unless uncovered methods are denied, none is missed at such a pattern of the constraints at which another method is
-/// covered, and none that a pattern covers that is tried later. No difference between GET and HEAD at such a pattern is
-/// missed, no pattern that decides nothing, and none that no request reaches.
+/// covered, and none at such a prefix pattern that is not open to everyone at a pattern that is tried later. No
+/// difference between GET and HEAD for some visitor at such a pattern is missed, no pattern that decides nothing, and
+/// none that no request reaches.
 pub fn findings_are_complete()
     ensures opened { OpenedIsFound }
     ensures uncovered { UncoveredIsFound }

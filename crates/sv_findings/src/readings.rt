@@ -1,4 +1,4 @@
-//! Prefix patterns that a server which takes only patterns that cover the method reads otherwise.
+//! Prefix patterns at which a server that takes only patterns which cover the method decides otherwise.
 
 ghost use Rattle.std.specs.Prelude.{◌≡◌, ◌++◌, IfOk, OnOk, filter, find, map};
 ghost use Rattle.std.specs.List.{flat_map, list_any};
@@ -16,14 +16,14 @@ use crate::finding::Finding;
 use crate::findings::is_left_out;
 use crate::heads::covers_method;
 use std::alloc::Global;
-use sv_audit::{Access, Group, Row, form_of};
+use sv_audit::{Group, Row, form_of, is_open};
 use sv_constraints::Methods;
 use sv_mapping::Form;
 use sv_policy::copied_methods;
 use sv_text::{NoMemory, Text};
 
-/// Appends the prefix patterns with methods that no constraint covers there, although one covers some of them at an
-/// extension pattern or `/`.
+/// Appends the prefix patterns with methods that no constraint covers there, although one of them is not open to everyone
+/// at an extension pattern or `/`.
 pub fn push_read_otherwise(
     findings: &mut Vec<Finding>,
     alloc: Global,
@@ -96,7 +96,7 @@ fn is_prefix(form: Form<'_>) -> bool
     matches!(form, Form::Prefix(_))
 }
 
-/// Appends a prefix pattern for each group of uncovered methods that such a row covers in part.
+/// Appends a prefix pattern for each group of uncovered methods of which such a row restricts one.
 fn push_read_in(
     findings: &mut Vec<Finding>,
     alloc: Global,
@@ -124,7 +124,7 @@ fn push_read_as(
 ) -> Result<(), NoMemory>
     ensures { OnOk result (findings.new.items ≡ findings.old.items ++ spec.read_as (map (λ row. row.now) late.now) pattern.now methods.now) }
 {
-    if let Some(other) = first_covering(late, methods) {
+    if let Some(other) = first_restricting(late, methods) {
         findings.push(Finding::ReadOtherwise(
             Text::copy_of(alloc, pattern)?,
             copied_methods(alloc, methods)?,
@@ -134,12 +134,12 @@ fn push_read_as(
     Ok(())
 }
 
-/// Returns the pattern of the first row that covers one of the methods.
-fn first_covering<'a>(rows: &[&'a Row], methods: &Methods) -> Option<&'a str>
-    ensures { option_copied result ≡ spec.first_covering (map (λ row. row.now) rows.now) methods.now }
+/// Returns the pattern of the first row at which one of the methods is not open to everyone.
+fn first_restricting<'a>(rows: &[&'a Row], methods: &Methods) -> Option<&'a str>
+    ensures { option_copied result ≡ spec.first_restricting (map (λ row. row.now) rows.now) methods.now }
 {
     for row in rows {
-        if covers_one(methods, row) {
+        if restricts_one(methods, row) {
             return pattern_of(*row);
         }
     }
@@ -155,36 +155,20 @@ fn pattern_of(row: &Row) -> Option<&str>
     }
 }
 
-/// Returns whether a constraint covers one of the methods at the pattern of the row.
-fn covers_one(methods: &Methods, row: &Row) -> bool
-    ensures { result ≡ spec.covers_one methods.now row.now }
+/// Returns whether one of the methods is not open to everyone at the pattern of the row.
+fn restricts_one(methods: &Methods, row: &Row) -> bool
+    ensures { result ≡ spec.restricts_one methods.now row.now }
 {
     row.groups
         .as_slice()
         .iter()
-        .any(|group| covers_part(methods, group))
+        .any(|group| restricts_part(methods, group))
 }
 
-fn covers_part(methods: &Methods, group: &Group) -> bool
-    ensures { result ≡ spec.covers_part methods.now group.now }
+fn restricts_part(methods: &Methods, group: &Group) -> bool
+    ensures { result ≡ spec.restricts_part methods.now group.now }
 {
-    is_covered(&group.cell.access) && share_method(methods, &group.methods)
-}
-
-/// Returns whether a constraint covers methods with this access.
-fn is_covered(access: &Access) -> bool
-    ensures { result ≡ spec.is_covered access.now }
-{
-    match access {
-        Access::Unconstrained => false,
-        Access::Uncovered => false,
-        Access::UncoveredDenied => false,
-        Access::Precluded => true,
-        Access::NeedsTls => true,
-        Access::Everyone => true,
-        Access::AnyLogin => true,
-        Access::Roles(_) => true,
-    }
+    !is_open(&group.cell.access) && share_method(methods, &group.methods)
 }
 
 /// Returns whether some method is in both sets.

@@ -1,2 +1,3 @@
 pub mod MarkupLemmas
 pub mod HtmlLemmas
+pub mod ShareLemmas

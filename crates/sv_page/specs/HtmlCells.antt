@@ -7,13 +7,13 @@ use Rattle.sv_report.specs.AnswerWords.{answers_text}
 use Rattle.sv_report.specs.Details.{paths_text}
 use Rattle.sv_page.specs.Markup.{html_text}
 use Rattle.sv_report.specs.Parts.{joined}
-use Rattle.sv_report.specs.Viewers.{context_text, entry_text, hidden_text}
+use Rattle.sv_report.specs.Viewers.{context_text, entry_text, hidden_text, unmatched_text}
 use Rattle.sv_report.specs.Words.{methods_text, pattern_text}
 use Rattle.sv_report.specs.declared.report.ContextReport.{ContextReport}
 use Rattle.sv_report.specs.declared.report.ReportedRow.{ReportedRow}
 use Rattle.sv_report.specs.declared.report.Viewer.{Viewer}
 use Rattle.sv_findings.specs.declared.reach.Reach.{Reach}
-use Rattle.sv_findings.specs.declared.reach.Reach.TheVariants.{Reached, Hidden, Elsewhere}
+use Rattle.sv_findings.specs.declared.reach.Reach.TheVariants.{Reached, Hidden, Elsewhere, Unmatched}
 
 -- A cell in the color of its class: the methods and who may use them, and why.
 unfoldable pub cell_html : List ℕ → List ℕ → List ℕ → List ℕ → List ℕ
@@ -51,6 +51,10 @@ hidden_cell viewer = cell_html (codes "hidden") (codes "all") (hidden_text viewe
 abbrev pub foreign_cell : List ℕ → List ℕ
 foreign_cell path = cell_html (codes "hidden") (codes "all") (context_text path) (codes "Another context answers these paths (section 12.1).")
 
+-- The cell of a pattern that is the best match of no canonical path (sections 3.5.2 and 12.1).
+abbrev pub unmatched_cell : List ℕ
+unmatched_cell = cell_html (codes "hidden") (codes "all") unmatched_text (codes "The pattern is the best match of no canonical path (sections 3.5.2 and 12.1).")
+
 abbrev pub reached_html : ContextReport → ReportedRow → List ℕ → List ℕ
 reached_html context reported pattern = row_of
     pattern
@@ -58,11 +62,12 @@ reached_html context reported pattern = row_of
     (html_text (answers_text reported.example reported.servlet reported.answers))
     (flat_map (group_html context) reported.row.groups)
 
--- The row of a pattern: with an example, its exceptions, what answers it and a cell for each group of methods, or with the reason why no request reaches it.
+-- The row of a pattern: with an example, its exceptions, what answers it and a cell for each group of methods, or with the reason why no request meets it.
 abbrev pub reach_html : ContextReport → ReportedRow → Reach → List ℕ → List ℕ
 reach_html context reported Reached pattern = reached_html context reported pattern
 reach_html context reported Hidden pattern = unanswered_row pattern (hidden_cell context.viewer)
 reach_html context reported (Elsewhere path) pattern = unanswered_row pattern (foreign_cell path)
+reach_html context reported Unmatched pattern = unanswered_row pattern unmatched_cell
 
 unfoldable pub row_html : ContextReport → ReportedRow → List ℕ
 row_html context reported = reach_html context reported reported.reach (html_text (pattern_text reported.row.pattern))

@@ -1,5 +1,5 @@
 -- Access tables in HTML.
-use Rattle.std.specs.Prelude.{ℕ, Bool, nat_le, List, [], ◌∷◌, codes, length, Option, take, if◌then◌else◌}
+use Rattle.std.specs.Prelude.{ℕ, Bool, ◌==◌, List, [], ◌∷◌, codes, length, Option, if◌then◌else◌}
 use Rattle.std.specs.List.{flat_map}
 use Rattle.sv_uri.specs.ContextPath.{shown_context}
 use Rattle.sv_page.specs.HtmlCells.{cell_html, foreign_cell, hidden_cell, row_html, unanswered_row}
@@ -7,8 +7,9 @@ use Rattle.sv_page.specs.Markup.{html_text}
 use Rattle.sv_report.specs.Parts.{joined}
 use Rattle.sv_report.specs.Places.{number_text}
 use Rattle.sv_report.specs.Viewers.{viewer_title}
-use Rattle.sv_page.specs.declared.html_tables.TheConstants.{MAX_SHOWN_ROWS}
+use Rattle.sv_page.specs.declared.shares.TheConstants.{MAX_SHOWN_ROWS}
 use Rattle.sv_report.specs.declared.report.ContextReport.{ContextReport}
+use Rattle.sv_report.specs.declared.report.ReportedRow.{ReportedRow}
 use Rattle.sv_report.specs.declared.report.Viewer.{Viewer}
 
 unfoldable pub heading_of : List ℕ → List ℕ → List ℕ
@@ -20,10 +21,6 @@ heading_html context = heading_of (shown_context context.path) context.file
 abbrev pub title_html : Option Viewer → List ℕ
 title_html viewer = joined (
     codes "<div class=\"table\">\n<table>\n<tr><th scope=\"col\">pattern</th><th scope=\"col\">answered by</th><th scope=\"col\">" ∷ html_text (viewer_title viewer) ∷ codes "</th></tr>\n" ∷ [])
-
--- The first items, at most so many.
-abbrev pub first_of : {A : Type 0} → ℕ → List A → List A
-first_of most items = if nat_le (length items) most then items else take most items
 
 -- The protected folders (sections 10.5 and 10.6).
 abbrev pub hidden_html : Option Viewer → List ℕ
@@ -42,15 +39,18 @@ foreign_html context other = unanswered_row (joined (html_text other ∷ codes "
 abbrev pub other_rows : ContextReport → List ℕ
 other_rows context = joined (hidden_html context.viewer ∷ login_html context.has_login ∷ flat_map (foreign_html context.path) context.others ∷ [])
 
--- A note if not all rows are shown.
-abbrev pub note_html : ℕ → List ℕ
-note_html count = if nat_le count MAX_SHOWN_ROWS then [] else joined (codes "<p>Only the first 2,000 of " ∷ number_text count ∷ codes " rows are shown.</p>\n" ∷ [])
+abbrev pub none_shown : ℕ → List ℕ
+none_shown count = joined (codes "<p>None of its " ∷ number_text count ∷ codes " rows are shown: the page shows " ∷ number_text MAX_SHOWN_ROWS ∷ codes " rows at most.</p>\n" ∷ [])
 
-unfoldable pub shown_html : ContextReport → List ℕ
-shown_html context = flat_map (row_html context) (first_of MAX_SHOWN_ROWS context.rows)
+abbrev pub first_shown : ℕ → ℕ → List ℕ
+first_shown shown count = joined (codes "<p>Only the first " ∷ number_text shown ∷ codes " of " ∷ number_text count ∷ codes " rows are shown.</p>\n" ∷ [])
 
--- The part on a context: its path, its file and its table.
-unfoldable pub section_html : ContextReport → List ℕ
-section_html context = joined (
-    heading_html context ∷ title_html context.viewer ∷ shown_html context ∷ other_rows context
-    ∷ codes "</table>\n</div>\n" ∷ note_html (length context.rows) ∷ codes "</section>\n" ∷ [])
+-- A note if not all rows are shown, given how many are shown and how many there are.
+abbrev pub note_html : ℕ → ℕ → List ℕ
+note_html shown count = if shown == count then [] else if shown == 0 then none_shown count else first_shown shown count
+
+-- The part on a context: its path, its file, and its table with these rows.
+unfoldable pub section_html : ContextReport → List ReportedRow → List ℕ
+section_html context rows = joined (
+    heading_html context ∷ title_html context.viewer ∷ flat_map (row_html context) rows ∷ other_rows context
+    ∷ codes "</table>\n</div>\n" ∷ note_html (length rows) (length context.rows) ∷ codes "</section>\n" ∷ [])

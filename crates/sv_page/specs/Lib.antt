@@ -1,5 +1,6 @@
 pub mod Markup
 pub mod CellWords
 pub mod HtmlCells
+pub mod Shares
 pub mod HtmlTables
 pub mod Page

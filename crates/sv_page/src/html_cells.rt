@@ -15,12 +15,12 @@ use sv_audit::Group;
 use sv_findings::Reach;
 use sv_report::{
     ContextReport, ReportedRow, Viewer, answers_text, context_text, entry_text, hidden_text,
-    joined, methods_text, paths_text, pattern_text,
+    joined, methods_text, paths_text, pattern_text, unmatched_text,
 };
 use sv_text::{NoMemory, Text};
 
 /// Returns the row of a pattern: with an example, its exceptions, what answers it and a cell for each group of methods,
-/// or with the reason why no request reaches it.
+/// or with the reason why no request meets it.
 #[tactic(auto, unfolding(crate::specs::HtmlCells::row_html))]
 pub fn row_html(alloc: Global, context: &ContextReport, row: &ReportedRow) -> Result<Text, NoMemory>
     ensures { GivesAnswer result (spec.row_html context.now row.now) }
@@ -31,6 +31,7 @@ pub fn row_html(alloc: Global, context: &ContextReport, row: &ReportedRow) -> Re
         Reach::Reached => reached_html(alloc, context, row, pattern.as_str()),
         Reach::Hidden => hidden_row(alloc, &context.viewer, pattern.as_str()),
         Reach::Elsewhere(path) => foreign_row(alloc, path.as_str(), pattern.as_str()),
+        Reach::Unmatched => unmatched_row(alloc, pattern.as_str()),
     }
 }
 
@@ -93,6 +94,20 @@ pub fn foreign_row(alloc: Global, path: &str, pattern: &str) -> Result<Text, NoM
         "all",
         who.as_str(),
         "Another context answers these paths (section 12.1).",
+    )?;
+    unanswered_row(alloc, pattern, cell.as_str())
+}
+
+/// Returns the row of a pattern that is the best match of no canonical path. The pattern is HTML.
+fn unmatched_row(alloc: Global, pattern: &str) -> Result<Text, NoMemory>
+    ensures { GivesAnswer result (spec.unanswered_row pattern.now spec.unmatched_cell) }
+{
+    let cell = cell_html(
+        alloc,
+        "hidden",
+        "all",
+        unmatched_text(),
+        "The pattern is the best match of no canonical path (sections 3.5.2 and 12.1).",
     )?;
     unanswered_row(alloc, pattern, cell.as_str())
 }

@@ -1,6 +1,6 @@
 //! Access tables in HTML.
 
-ghost use Rattle.std.specs.Prelude.{◌≡◌, ◌++◌, OnOk, length, string_bytes};
+ghost use Rattle.std.specs.Prelude.{◌≡◌, ◌++◌, OnOk, string_bytes};
 ghost use Rattle.std.specs.List.{flat_map};
 ghost use Rattle.sv_text.specs.Gives.{GivesAnswer};
 ghost use Rattle.sv_page.specs.HtmlCells as cells;
@@ -8,30 +8,32 @@ ghost use Rattle.sv_page.specs.HtmlTables as spec;
 
 use crate::html_cells::{cell_html, foreign_row, hidden_row, row_html, unanswered_row};
 use crate::markup::html_text;
+use crate::shares::MAX_SHOWN_ROWS;
 use std::alloc::Global;
 use sv_report::{ContextReport, ReportedRow, Viewer, joined, number_text, viewer_title};
 use sv_text::{NoMemory, Text};
 use sv_uri::shown_context;
 
-/// The number of rows of a context that a page shows.
-pub const MAX_SHOWN_ROWS: usize = 2000;
-
-/// Returns the part of a page on a context: its path, its file and its table.
+/// Returns the part of a page on a context: its path, its file, and its table with these rows.
 #[tactic(auto, unfolding(crate::specs::HtmlTables::section_html))]
-pub fn section_html(alloc: Global, context: &ContextReport) -> Result<Text, NoMemory>
-    ensures { GivesAnswer result (spec.section_html context.now) }
+pub fn section_html(
+    alloc: Global,
+    context: &ContextReport,
+    rows: &[ReportedRow],
+) -> Result<Text, NoMemory>
+    ensures { GivesAnswer result (spec.section_html context.now rows.now) }
 {
     let heading = heading_html(alloc, context)?;
     let title = title_html(alloc, &context.viewer)?;
-    let rows = shown_html(alloc, context)?;
+    let shown = rows_html(alloc, context, rows)?;
     let others = other_rows(alloc, context)?;
-    let note = note_html(alloc, context.rows.as_slice())?;
+    let note = note_html(alloc, rows.len(), context.rows.as_slice().len())?;
     joined(
         alloc,
         &[
             heading.as_str(),
             title.as_str(),
-            rows.as_str(),
+            shown.as_str(),
             others.as_str(),
             "</table>\n</div>\n",
             note.as_str(),
@@ -78,25 +80,6 @@ fn title_html(alloc: Global, viewer: &Option<Viewer>) -> Result<Text, NoMemory>
             "</th></tr>\n",
         ],
     )
-}
-
-/// Returns the first items, at most so many.
-pub fn first_of<T>(items: &[T], most: usize) -> &[T]
-    ensures { result.now ≡ spec.first_of most items.now }
-{
-    if items.len() <= most {
-        items
-    } else {
-        &items[..most]
-    }
-}
-
-#[tactic(auto, unfolding(crate::specs::HtmlTables::shown_html))]
-fn shown_html(alloc: Global, context: &ContextReport) -> Result<Text, NoMemory>
-    ensures { GivesAnswer result (spec.shown_html context.now) }
-{
-    let rows = first_of(context.rows.as_slice(), MAX_SHOWN_ROWS);
-    rows_html(alloc, context, rows)
 }
 
 fn rows_html(alloc: Global, context: &ContextReport, rows: &[ReportedRow]) -> Result<Text, NoMemory>
@@ -172,19 +155,47 @@ fn login_html(alloc: Global, has_login: bool) -> Result<Text, NoMemory>
     unanswered_row(alloc, "*/j_security_check", cell.as_str())
 }
 
-/// Returns a note if not all rows are shown.
-fn note_html(alloc: Global, rows: &[ReportedRow]) -> Result<Text, NoMemory>
-    ensures { GivesAnswer result (spec.note_html (length rows.now)) }
+/// Returns a note if not all rows are shown, given how many are shown and how many there are.
+fn note_html(alloc: Global, shown: usize, count: usize) -> Result<Text, NoMemory>
+    ensures { GivesAnswer result (spec.note_html shown count) }
 {
-    let count = rows.len();
-    if count <= MAX_SHOWN_ROWS {
-        return Text::copy_of(alloc, "");
+    if shown == count {
+        Text::copy_of(alloc, "")
+    } else if shown == 0 {
+        none_shown(alloc, count)
+    } else {
+        first_shown(alloc, shown, count)
     }
+}
+
+fn none_shown(alloc: Global, count: usize) -> Result<Text, NoMemory>
+    ensures { GivesAnswer result (spec.none_shown count) }
+{
+    let count = number_text(alloc, count as u64)?;
+    let most = number_text(alloc, MAX_SHOWN_ROWS as u64)?;
+    joined(
+        alloc,
+        &[
+            "<p>None of its ",
+            count.as_str(),
+            " rows are shown: the page shows ",
+            most.as_str(),
+            " rows at most.</p>\n",
+        ],
+    )
+}
+
+fn first_shown(alloc: Global, shown: usize, count: usize) -> Result<Text, NoMemory>
+    ensures { GivesAnswer result (spec.first_shown shown count) }
+{
+    let shown = number_text(alloc, shown as u64)?;
     let count = number_text(alloc, count as u64)?;
     joined(
         alloc,
         &[
-            "<p>Only the first 2,000 of ",
+            "<p>Only the first ",
+            shown.as_str(),
+            " of ",
             count.as_str(),
             " rows are shown.</p>\n",
         ],

@@ -6,7 +6,11 @@ mod html_cells;
 mod html_tables;
 mod markup;
 mod page;
+mod shares;
 
-pub use html_tables::MAX_SHOWN_ROWS;
 pub use markup::{html_text, html_text_is_plain};
-pub use page::{MAX_LISTED_FINDINGS, audit_html};
+pub use page::audit_html;
+pub use shares::{
+    MAX_LISTED_FINDINGS, MAX_SHOWN_ROWS, limits_are_as_stated, pages_list_the_first_findings,
+    pages_show_the_first_rows,
+};

@@ -1,22 +1,22 @@
 //! The page of a report.
 
-ghost use Rattle.std.specs.Prelude.{◌≡◌, ◌++◌, OnOk, string_bytes};
+ghost use Rattle.std.specs.Prelude.{◌≡◌, ◌++◌, OnOk, length, string_bytes};
 ghost use Rattle.std.specs.List.{flat_map};
 ghost use Rattle.sv_text.specs.Gives.{GivesAnswer};
+ghost use Rattle.sv_uri.specs.ContextPath.{shown_context as path_of};
 ghost use Rattle.sv_page.specs.HtmlTables as tables;
 ghost use Rattle.sv_page.specs.Page as spec;
 
-use crate::html_tables::{first_of, section_html};
+use crate::html_tables::section_html;
 use crate::markup::html_text;
+use crate::shares::{MAX_LISTED_FINDINGS, MAX_SHOWN_ROWS, first_of};
 use std::alloc::Global;
 use sv_report::{
-    ContextReport, ReportedFinding, heading, joined, number_text, place_text, problem_text, remedy,
+    ContextReport, ReportedFinding, ReportedRow, heading, joined, number_text, place_text,
+    problem_text, remedy,
 };
 use sv_text::{NoMemory, Text};
 use sv_uri::shown_context;
-
-/// The number of findings of a context that a page lists.
-pub const MAX_LISTED_FINDINGS: usize = 2000;
 
 /// The page up to its findings. It needs no other file and no script.
 const PAGE_START: &str = r#"<!doctype html>
@@ -70,22 +70,23 @@ summary { cursor: pointer; }
 "#;
 
 /// Returns the access tables and the findings of contexts as a page of HTML, with the findings first. The page needs no
-/// other file and no script. It shows at most [`crate::MAX_SHOWN_ROWS`] rows of each context, and says so if there are more.
+/// other file and no script. It shows at most [`crate::MAX_SHOWN_ROWS`] rows and [`crate::MAX_LISTED_FINDINGS`] findings, the
+/// first ones of all contexts, and says so for each context that has more.
 ///
 /// # Errors
 /// `NoMemory` if memory runs out.
 pub fn audit_html(alloc: Global, contexts: &[ContextReport]) -> Result<Text, NoMemory>
     ensures { GivesAnswer result (spec.audit_html contexts.now) }
 {
-    let findings = finding_items(alloc, contexts)?;
-    let list = list_html(alloc, findings.as_str())?;
-    let sections = sections_html(alloc, contexts)?;
+    let items = items_html(alloc, contexts)?;
+    let list = list_html(alloc, items.as_str())?;
+    let tables = tables_html(alloc, contexts)?;
     joined(
         alloc,
         &[
             PAGE_START,
             list.as_str(),
-            sections.as_str(),
+            tables.as_str(),
             "</body>\n</html>\n",
         ],
     )
@@ -101,55 +102,94 @@ fn list_html(alloc: Global, items: &str) -> Result<Text, NoMemory>
     joined(alloc, &["<ul>\n", items, "</ul>\n"])
 }
 
-fn finding_items(alloc: Global, contexts: &[ContextReport]) -> Result<Text, NoMemory>
-    ensures { GivesAnswer result (flat_map spec.context_items contexts.now) }
+/// Returns the items of the findings that the page lists.
+fn items_html(alloc: Global, contexts: &[ContextReport]) -> Result<Text, NoMemory>
+    ensures { GivesAnswer result (spec.items_html contexts.now) }
 {
     let mut text = String::new(alloc);
+    let mut left = MAX_LISTED_FINDINGS;
     for context in contexts {
-        push_context(&mut text, alloc, context)?;
+        let findings = context.findings.as_slice();
+        push_context(&mut text, alloc, context, first_of(findings, left))?;
+        left = left.saturating_sub(findings.len());
     }
     Ok(Text::from_string(text))
 }
 
-/// Appends the items of the first findings of a context, and a note if there are more.
+/// Appends the items of these findings of a context, and a note if it has more.
 #[tactic(auto, unfolding(crate::specs::Page::context_items))]
-fn push_context(text: &mut String, alloc: Global, context: &ContextReport) -> Result<(), NoMemory>
-    ensures { OnOk result (string_bytes text.new ≡ string_bytes text.old ++ spec.context_items context.now) }
+fn push_context(
+    text: &mut String,
+    alloc: Global,
+    context: &ContextReport,
+    findings: &[ReportedFinding],
+) -> Result<(), NoMemory>
+    ensures { OnOk result (string_bytes text.new ≡ string_bytes text.old ++ spec.context_items context.now findings.now) }
 {
-    push_shown(text, alloc, context)?;
-    push_left_out(text, alloc, context)
+    push_items(text, alloc, context, findings)?;
+    push_left_out(text, alloc, context, findings.len())
 }
 
-#[tactic(auto, unfolding(crate::specs::Page::shown_items))]
-fn push_shown(text: &mut String, alloc: Global, context: &ContextReport) -> Result<(), NoMemory>
-    ensures { OnOk result (string_bytes text.new ≡ string_bytes text.old ++ spec.shown_items context.now) }
-{
-    let findings = first_of(context.findings.as_slice(), MAX_LISTED_FINDINGS);
-    push_items(text, alloc, context, findings)
-}
-
-fn push_left_out(text: &mut String, alloc: Global, context: &ContextReport) -> Result<(), NoMemory>
-    ensures { OnOk result (string_bytes text.new ≡ string_bytes text.old ++ spec.left_out_items context.now) }
+fn push_left_out(
+    text: &mut String,
+    alloc: Global,
+    context: &ContextReport,
+    listed: usize,
+) -> Result<(), NoMemory>
+    ensures { OnOk result (string_bytes text.new ≡ string_bytes text.old ++ spec.left_out_html (path_of context.now.path) listed (length context.now.findings)) }
 {
     let path = shown_context(context.path.as_str());
-    let note = left_out_html(alloc, path, context.findings.as_slice().len())?;
+    let note = left_out_html(alloc, path, listed, context.findings.as_slice().len())?;
     Ok(text.push_str(note.as_str())?)
 }
 
-/// Returns a note if not all findings of a context are listed.
-#[tactic(auto, unfolding(crate::specs::Page::left_out_html))]
-fn left_out_html(alloc: Global, path: &str, count: usize) -> Result<Text, NoMemory>
-    ensures { GivesAnswer result (spec.left_out_html path.now count) }
+/// Returns a note if not all findings of a context are listed, given how many are listed and how many there are.
+fn left_out_html(alloc: Global, path: &str, listed: usize, count: usize) -> Result<Text, NoMemory>
+    ensures { GivesAnswer result (spec.left_out_html path.now listed count) }
 {
-    if count <= MAX_LISTED_FINDINGS {
-        return Text::copy_of(alloc, "");
+    if listed == count {
+        Text::copy_of(alloc, "")
+    } else if listed == 0 {
+        none_listed(alloc, path, count)
+    } else {
+        first_listed(alloc, path, listed, count)
     }
+}
+
+#[tactic(auto, unfolding(crate::specs::Page::none_listed))]
+fn none_listed(alloc: Global, path: &str, count: usize) -> Result<Text, NoMemory>
+    ensures { GivesAnswer result (spec.none_listed path.now count) }
+{
     let path = html_text(alloc, path)?;
+    let count = number_text(alloc, count as u64)?;
+    let most = number_text(alloc, MAX_LISTED_FINDINGS as u64)?;
+    joined(
+        alloc,
+        &[
+            "<li>None of the ",
+            count.as_str(),
+            " findings of <code>",
+            path.as_str(),
+            "</code> are listed: the page lists ",
+            most.as_str(),
+            " findings at most.</li>\n",
+        ],
+    )
+}
+
+#[tactic(auto, unfolding(crate::specs::Page::first_listed))]
+fn first_listed(alloc: Global, path: &str, listed: usize, count: usize) -> Result<Text, NoMemory>
+    ensures { GivesAnswer result (spec.first_listed path.now listed count) }
+{
+    let path = html_text(alloc, path)?;
+    let listed = number_text(alloc, listed as u64)?;
     let count = number_text(alloc, count as u64)?;
     joined(
         alloc,
         &[
-            "<li>Only the first 2,000 of ",
+            "<li>Only the first ",
+            listed.as_str(),
+            " of ",
             count.as_str(),
             " findings of <code>",
             path.as_str(),
@@ -228,19 +268,28 @@ fn located_problem(
     html_text(alloc, text.as_str())
 }
 
-fn sections_html(alloc: Global, contexts: &[ContextReport]) -> Result<Text, NoMemory>
-    ensures { GivesAnswer result (flat_map tables.section_html contexts.now) }
+/// Returns the tables with the rows that the page shows.
+fn tables_html(alloc: Global, contexts: &[ContextReport]) -> Result<Text, NoMemory>
+    ensures { GivesAnswer result (spec.tables_html contexts.now) }
 {
     let mut text = String::new(alloc);
+    let mut left = MAX_SHOWN_ROWS;
     for context in contexts {
-        push_section(&mut text, alloc, context)?;
+        let rows = context.rows.as_slice();
+        push_section(&mut text, alloc, context, first_of(rows, left))?;
+        left = left.saturating_sub(rows.len());
     }
     Ok(Text::from_string(text))
 }
 
-fn push_section(text: &mut String, alloc: Global, context: &ContextReport) -> Result<(), NoMemory>
-    ensures { OnOk result (string_bytes text.new ≡ string_bytes text.old ++ tables.section_html context.now) }
+fn push_section(
+    text: &mut String,
+    alloc: Global,
+    context: &ContextReport,
+    rows: &[ReportedRow],
+) -> Result<(), NoMemory>
+    ensures { OnOk result (string_bytes text.new ≡ string_bytes text.old ++ tables.section_html context.now rows.now) }
 {
-    let section = section_html(alloc, context)?;
+    let section = section_html(alloc, context, rows)?;
     Ok(text.push_str(section.as_str())?)
 }

@@ -5,11 +5,11 @@ use Rattle.serde_json.specs.View.{items_of}
 use Rattle.serde_json.specs.Written.{has_float, items_have_float}
 use Rattle.sv_policy.specs.Covering.{method_names}
 use Rattle.sv_findings.specs.declared.reach.Reach.{Reach}
-use Rattle.sv_findings.specs.declared.reach.Reach.TheVariants.{Reached, Hidden, Elsewhere}
+use Rattle.sv_findings.specs.declared.reach.Reach.TheVariants.{Reached, Hidden, Elsewhere, Unmatched}
 use Rattle.sv_report.specs.Details.{example_location}
 use Rattle.sv_report.specs.FindingJson.{finding_members, finding_value, with_subject}
 use Rattle.sv_report.specs.FindingWords.{kind_name}
-use Rattle.sv_report.specs.Json.{answers_value, elsewhere, group_value, listed_answers, named_viewer, row_value, viewer_enters, viewer_value}
+use Rattle.sv_report.specs.Json.{answers_value, elsewhere, group_value, listed_answers, met_value, named_viewer, row_value, unmet_value, value_by, viewer_enters, viewer_value}
 use Rattle.sv_report.specs.JsonParts.{number_value, roles_in, strings, text_value, truth_value}
 use Rattle.sv_report.specs.Places.{line_of}
 use Rattle.sv_findings.specs.declared.finding.Finding.{Finding}
@@ -55,21 +55,36 @@ in_elsewhere : (reach : Reach) → has_float (elsewhere reach) ≡ false
 in_elsewhere Reached = refl
 in_elsewhere Hidden = refl
 in_elsewhere (Elsewhere path) = refl
+in_elsewhere Unmatched = refl
 
 in_answers : (answers : Option Answers) → has_float (answers_value answers) ≡ false
 unfolding listed_answers
 in_answers None = refl
 in_answers (Some answers) = ap (λ a. a || false) (in_strings answers.servlets)
 
-pub in_row : (context : ContextReport) (reported : ReportedRow) → has_float (row_value context reported) ≡ false
-unfolding row_value
-in_row context reported =
+in_met : (context : ContextReport) (reported : ReportedRow) → has_float (met_value context reported) ≡ false
+unfolding met_value
+in_met context reported =
     ap₂ (λ a b. a || b) (in_answers reported.answers)
     (ap₂ (λ a b. a || b) (in_elsewhere reported.reach)
     (ap₂ (λ a b. a || b) (in_text (example_location context.path reported.example))
     (ap₂ (λ a b. a || b) (no_floats (group_value context) (in_group context) reported.row.groups)
     (ap₂ (λ a b. a || b) (in_strings reported.narrower.patterns)
     (ap₂ (λ a b. a || (b || false)) (in_text reported.row.pattern) (in_text reported.servlet))))))
+
+in_unmet : (reported : ReportedRow) → has_float (unmet_value reported) ≡ false
+unfolding unmet_value
+in_unmet reported = ap₂ (λ a b. a || (b || false)) (in_elsewhere reported.reach) (in_text reported.row.pattern)
+
+in_value : (context : ContextReport) (reported : ReportedRow) (reach : Reach) → has_float (value_by reach context reported) ≡ false
+in_value context reported Reached = in_met context reported
+in_value context reported Hidden = in_unmet reported
+in_value context reported (Elsewhere path) = in_unmet reported
+in_value context reported Unmatched = in_unmet reported
+
+pub in_row : (context : ContextReport) (reported : ReportedRow) → has_float (row_value context reported) ≡ false
+unfolding row_value
+in_row context reported = in_value context reported reported.reach
 
 pub in_viewer : (viewer : Option Viewer) → has_float (viewer_value viewer) ≡ false
 unfolding named_viewer

@@ -10,7 +10,7 @@ use Rattle.sv_report.specs.Words.{methods_text, pattern_text, who_text}
 use Rattle.sv_audit.specs.declared.access.Access.{Access}
 
 abbrev pub kind_name : Finding → List ℕ
-kind_name (Opened pattern methods opening guarded) = codes "opened"
+kind_name (Opened pattern methods opening guarded) = codes "open"
 kind_name (Uncovered pattern methods) = codes "uncovered"
 kind_name (ReadOtherwise pattern methods other) = codes "read-otherwise"
 kind_name (HeadDiffers pattern get head) = codes "head-differs"
@@ -85,7 +85,7 @@ remedy (HeadDiffers pattern get head) = codes "Name HEAD wherever GET is named."
 remedy (Dead number) = codes "No path matches its patterns, or /* is chosen before them. Change them, or remove it."
 remedy (DeadPattern number pattern) = codes "No path matches it, or /* is chosen before it. Change it, or remove it."
 remedy (Unreached number pattern) = codes "Its paths are hidden, or belong to another context. Remove the pattern."
-remedy (Unserved number pattern) = codes "No servlet, file or folder has such a path. Remove the pattern, or correct it."
+remedy (Unserved number pattern) = codes "No servlet or file has such a path. Remove or correct the pattern, or add the file."
 remedy (Escaped number pattern) = codes "Patterns are compared with decoded paths. Write the character itself."
 remedy (LoginNeeds path) = codes "Let everyone GET it."
 remedy (UnknownRole number role) = codes "Declare it in a security-role, or correct the name."

@@ -1,5 +1,5 @@
 -- Access tables and their findings as JSON (RFC 8259).
-use Rattle.std.specs.Prelude.{ℕ, Bool, List, [], ◌∷◌, ◌++◌, codes, map, Option, None, Some}
+use Rattle.std.specs.Prelude.{ℕ, Bool, true, List, [], ◌∷◌, ◌++◌, codes, map, Option, None, Some}
 use Rattle.serde_json.specs.Data.{Data, Members, null, boolean, string, array, object, member, no_members, put as with_member}
 use Rattle.serde_json.specs.View.{items_of}
 use Rattle.serde_json.specs.Written.{compact_text}
@@ -8,7 +8,7 @@ use Rattle.sv_uri.specs.ContextPath.{shown_context}
 use Rattle.sv_audit.specs.declared.access.Access.{Access}
 use Rattle.sv_audit.specs.declared.rows.Group.{Group}
 use Rattle.sv_findings.specs.declared.reach.Reach.{Reach}
-use Rattle.sv_findings.specs.declared.reach.Reach.TheVariants.{Reached, Hidden, Elsewhere}
+use Rattle.sv_findings.specs.declared.reach.Reach.TheVariants.{Reached, Hidden, Elsewhere, Unmatched}
 use Rattle.sv_report.specs.Details.{example_location}
 use Rattle.sv_report.specs.FindingJson.{finding_value}
 use Rattle.sv_report.specs.JsonParts.{are_excepted, because, enters, number_value, roles_in, strings, text_value, truth_value}
@@ -40,17 +40,19 @@ group_value context group = object
     (with_member (codes "line") (number_value (line_of context.lines group.cell.constraint))
     (with_member (codes "constraint") (number_value group.cell.constraint) (with_access context group.cell.access no_members)))))
 
--- Whether requests reach a pattern, in one word.
+-- Whether requests meet a pattern, in one word.
 abbrev pub reach_word : Reach → List ℕ
 reach_word Reached = codes "reached"
 reach_word Hidden = codes "hidden"
 reach_word (Elsewhere path) = codes "elsewhere"
+reach_word Unmatched = codes "unmatched"
 
 -- The path of the context that has the paths of a pattern instead.
 abbrev pub elsewhere : Reach → Data
 elsewhere Reached = null
 elsewhere Hidden = null
 elsewhere (Elsewhere path) = string path
+elsewhere Unmatched = null
 
 -- What answers the paths of a row.
 unfoldable pub listed_answers : Answers → Data
@@ -60,9 +62,9 @@ abbrev pub answers_value : Option Answers → Data
 answers_value None = null
 answers_value (Some answers) = listed_answers answers
 
--- A row.
-unfoldable pub row_value : ContextReport → ReportedRow → Data
-row_value context reported = object
+-- A row that requests meet.
+unfoldable pub met_value : ContextReport → ReportedRow → Data
+met_value context reported = object
     (member (codes "answers") (answers_value reported.answers)
     (member (codes "context") (elsewhere reported.reach)
     (member (codes "example") (text_value (example_location context.path reported.example))
@@ -72,6 +74,29 @@ row_value context reported = object
     (member (codes "pattern") (text_value reported.row.pattern)
     (member (codes "reach") (string (reach_word reported.reach))
     (member (codes "servlet") (text_value reported.servlet) no_members)))))))))
+
+-- A row that no request meets. It shows nobody who enters, and nothing that answers.
+unfoldable pub unmet_value : ReportedRow → Data
+unmet_value reported = object
+    (member (codes "answers") null
+    (member (codes "context") (elsewhere reported.reach)
+    (member (codes "example") null
+    (member (codes "groups") (array (items_of []))
+    (member (codes "narrower") (strings [])
+    (member (codes "narrowerComplete") (boolean true)
+    (member (codes "pattern") (text_value reported.row.pattern)
+    (member (codes "reach") (string (reach_word reported.reach))
+    (member (codes "servlet") null no_members)))))))))
+
+-- A row, by whether requests meet it.
+abbrev pub value_by : Reach → ContextReport → ReportedRow → Data
+value_by Reached context reported = met_value context reported
+value_by Hidden context reported = unmet_value reported
+value_by (Elsewhere path) context reported = unmet_value reported
+value_by Unmatched context reported = unmet_value reported
+
+unfoldable pub row_value : ContextReport → ReportedRow → Data
+row_value context reported = value_by reported.reach context reported
 
 unfoldable pub named_viewer : Viewer → Data
 named_viewer viewer = object (member (codes "name") (string viewer.name) (member (codes "roles") (strings viewer.roles) no_members))

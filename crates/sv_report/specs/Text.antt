@@ -8,7 +8,7 @@ use Rattle.sv_report.specs.Folded.{folded}
 use Rattle.sv_report.specs.FindingText.{finding_lines}
 use Rattle.sv_report.specs.Parts.{joined}
 use Rattle.sv_report.specs.Places.{constraint_text}
-use Rattle.sv_report.specs.Viewers.{context_text, entry_text, hidden_text, viewer_title}
+use Rattle.sv_report.specs.Viewers.{context_text, entry_text, hidden_text, unmatched_text, viewer_title}
 use Rattle.sv_report.specs.Words.{methods_text, pattern_text}
 use Rattle.sv_report.specs.declared.lines.TheConstants.{METHODS_WIDTH, PATTERN_WIDTH, WHO_WIDTH}
 use Rattle.sv_report.specs.declared.report.ContextReport.{ContextReport}
@@ -16,7 +16,7 @@ use Rattle.sv_report.specs.declared.report.ReportedRow.{ReportedRow}
 use Rattle.sv_report.specs.declared.report.Viewer.{Viewer}
 use Rattle.sv_audit.specs.declared.rows.Group.{Group}
 use Rattle.sv_findings.specs.declared.reach.Reach.{Reach}
-use Rattle.sv_findings.specs.declared.reach.Reach.TheVariants.{Reached, Hidden, Elsewhere}
+use Rattle.sv_findings.specs.declared.reach.Reach.TheVariants.{Reached, Hidden, Elsewhere, Unmatched}
 
 -- The number of spaces after a text of so many characters in a column of this width.
 abbrev pub gap_after : ℕ → ℕ → ℕ
@@ -43,11 +43,12 @@ group_lines context pattern (group ∷ groups) = group_line context pattern grou
 abbrev pub unreached_line : List ℕ → List ℕ → List ℕ
 unreached_line pattern who = line_text pattern (codes "all") who (codes "-")
 
--- The lines of a pattern: of its groups, with what they mean for paths, or why no request reaches it.
+-- The lines of a pattern: of its groups, with what they mean for paths, or why no request meets it.
 abbrev pub reach_lines : ContextReport → ReportedRow → Reach → List ℕ → List ℕ
 reach_lines context reported Reached pattern = group_lines context pattern reported.row.groups ++ detail_line context.path reported
 reach_lines context reported Hidden pattern = unreached_line pattern (hidden_text context.viewer)
 reach_lines context reported (Elsewhere path) pattern = unreached_line pattern (context_text path)
+reach_lines context reported Unmatched pattern = unreached_line pattern unmatched_text
 
 abbrev pub row_lines : ContextReport → ReportedRow → List ℕ
 row_lines context reported = reach_lines context reported reported.reach (pattern_text reported.row.pattern)

@@ -46,6 +46,10 @@ abbrev pub hidden_text : Option Viewer → List ℕ
 hidden_text None = codes "nobody (hidden)"
 hidden_text (Some viewer) = codes "no (hidden)"
 
+-- The requests that meet a pattern that is the best match of no canonical path.
+abbrev pub unmatched_text : List ℕ
+unmatched_text = codes "no request"
+
 -- Another context that has the paths (section 12.1).
 abbrev pub context_text : List ℕ → List ℕ
 context_text path = joined (codes "context " ∷ escaped path ∷ [])

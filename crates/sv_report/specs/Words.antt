@@ -1,9 +1,10 @@
 -- The texts of the columns of access tables.
-use Rattle.std.specs.Prelude.{ℕ, Bool, List, [], ◌∷◌, ◌++◌, codes, Option, None, Some, if◌then◌else◌}
+use Rattle.std.specs.Prelude.{ℕ, Bool, true, false, not, List, [], ◌∷◌, ◌++◌, codes, Option, None, Some, if◌then◌else◌}
 use Rattle.std.specs.List.{flat_map}
 use Rattle.sv_constraints.specs.declared.constraint.Methods.{Methods}
 use Rattle.sv_constraints.specs.declared.constraint.Methods.TheVariants.{All, Only, Except}
 use Rattle.sv_report.specs.Escaped.{escaped}
+use Rattle.sv_report.specs.Parts.{joined}
 use Rattle.sv_audit.specs.declared.access.Access.{Access}
 use Rattle.sv_audit.specs.declared.access.Access.TheVariants.{Unconstrained, Uncovered, UncoveredDenied, Precluded, NeedsTls, Everyone, AnyLogin, Roles}
 
@@ -26,33 +27,33 @@ methods_text (Only names) = names_text names
 methods_text (Except []) = codes "all"
 methods_text (Except (name ∷ names)) = codes "others"
 
--- Callers who log in, if the context has a login configuration.
-abbrev pub logged_in : Bool → List ℕ → List ℕ
-logged_in has_login text = if has_login then text else codes "nobody (no login)"
-
-abbrev pub who_text : Bool → Access → List ℕ
-who_text has_login Unconstrained = codes "everyone (no constraint)"
-who_text has_login Uncovered = codes "everyone (uncovered)"
-who_text has_login UncoveredDenied = codes "nobody (uncovered, denied)"
-who_text has_login Precluded = codes "nobody (no role is allowed)"
-who_text has_login NeedsTls = codes "needs TLS"
-who_text has_login Everyone = codes "everyone"
-who_text has_login AnyLogin = logged_in has_login (codes "any login")
-who_text has_login (Roles []) = codes "nobody (no such role)"
-who_text has_login (Roles (name ∷ names)) = logged_in has_login (codes "role " ++ names_text (name ∷ names))
-
 -- Callers who log in, or why nobody does.
 abbrev pub or_no_login : Bool → List ℕ → List ℕ
 or_no_login has_login text = if has_login then text else codes "no login"
 
--- Whom an access lets in, or why it lets nobody in, for a caller who does not enter.
+-- Whom an access lets in, or why it lets nobody in.
 abbrev pub refusal_text : Bool → Access → List ℕ
+refusal_text has_login Unconstrained = codes "everyone (no constraint)"
+refusal_text has_login Uncovered = codes "everyone (uncovered)"
 refusal_text has_login UncoveredDenied = codes "uncovered, denied"
 refusal_text has_login Precluded = codes "no role is allowed"
+refusal_text has_login NeedsTls = codes "needs TLS"
+refusal_text has_login Everyone = codes "everyone"
 refusal_text has_login AnyLogin = or_no_login has_login (codes "any login")
 refusal_text has_login (Roles []) = codes "no such role"
 refusal_text has_login (Roles (name ∷ names)) = or_no_login has_login (codes "role " ++ names_text (name ∷ names))
-refusal_text has_login Unconstrained = who_text has_login Unconstrained
-refusal_text has_login Uncovered = who_text has_login Uncovered
-refusal_text has_login NeedsTls = who_text has_login NeedsTls
-refusal_text has_login Everyone = who_text has_login Everyone
+
+-- Whether an access lets nobody in.
+abbrev pub lets_nobody_in : Bool → Access → Bool
+lets_nobody_in has_login UncoveredDenied = true
+lets_nobody_in has_login Precluded = true
+lets_nobody_in has_login AnyLogin = not has_login
+lets_nobody_in has_login (Roles []) = true
+lets_nobody_in has_login (Roles (name ∷ names)) = not has_login
+lets_nobody_in has_login access = false
+
+-- The callers that may enter or, if there are none, the reason.
+abbrev pub who_text : Bool → Access → List ℕ
+who_text has_login access =
+    if lets_nobody_in has_login access then joined (codes "nobody (" ∷ refusal_text has_login access ∷ codes ")" ∷ [])
+    else refusal_text has_login access

@@ -19,7 +19,7 @@ pub fn kind_name(finding: &Finding) -> &'static str
     ensures { result.now ≡ spec.kind_name finding.now }
 {
     match finding {
-        Finding::Opened(_, _, _, _) => "opened",
+        Finding::Opened(_, _, _, _) => "open",
         Finding::Uncovered(_, _) => "uncovered",
         Finding::ReadOtherwise(_, _, _) => "read-otherwise",
         Finding::HeadDiffers(_, _, _) => "head-differs",
@@ -243,7 +243,7 @@ pub fn remedy(finding: &Finding) -> &'static str
             "Its paths are hidden, or belong to another context. Remove the pattern."
         }
         Finding::Unserved(_, _) => {
-            "No servlet, file or folder has such a path. Remove the pattern, or correct it."
+            "No servlet or file has such a path. Remove or correct the pattern, or add the file."
         }
         Finding::Escaped(_, _) => {
             "Patterns are compared with decoded paths. Write the character itself."

@@ -14,7 +14,7 @@ use crate::folded_lines::folded;
 use crate::parts::{joined, push_all};
 use crate::places::constraint_text;
 use crate::report::{ContextReport, ReportedRow, Viewer};
-use crate::viewers::{context_text, entry_text, hidden_text, viewer_title};
+use crate::viewers::{context_text, entry_text, hidden_text, unmatched_text, viewer_title};
 use crate::words::{methods_text, pattern_text};
 use std::alloc::Global;
 use sv_audit::Group;
@@ -42,7 +42,7 @@ struct Columns<'a> {
 
 /// Returns the text of the access tables of contexts: a line for each group of methods, one for an example, the answers
 /// and the exceptions of each row, lines for the folders that are never served, for the login post and for other contexts, and
-/// two lines for each finding. A row that no request reaches has one line. Control characters are escaped, and no line has more than 100 characters (see `folded`).
+/// two lines for each finding. A row that no request meets has one line. Control characters are escaped, and no line has more than 100 characters (see `folded`).
 ///
 /// # Errors
 /// `NoMemory` if memory runs out.
@@ -223,6 +223,7 @@ fn push_row(
         Reach::Reached => push_reached(text, alloc, context, pattern.as_str(), row),
         Reach::Hidden => push_unreached(text, pattern.as_str(), hidden_text(&context.viewer)),
         Reach::Elsewhere(path) => push_foreign(text, alloc, pattern.as_str(), path.as_str()),
+        Reach::Unmatched => push_unreached(text, pattern.as_str(), unmatched_text()),
     }
 }
 

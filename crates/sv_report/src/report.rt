@@ -47,7 +47,7 @@ pub struct ReportedRow {
     pub answers: Option<Answers>,
     /// The patterns that are chosen before this one at some of its paths.
     pub narrower: Narrower,
-    /// Whether requests reach the pattern.
+    /// Whether requests meet the pattern.
     pub reach: Reach,
 }
 

@@ -38,13 +38,25 @@ fn named_viewer(alloc: Global, viewer: &Viewer) -> Result<Value, NoMemory>
     Ok(Value::Object(members))
 }
 
-/// Returns a row as a value.
+/// Returns a row as a value. One that no request meets shows nobody who enters, and nothing that answers.
+#[tactic(auto, unfolding(crate::specs::Json::row_value))]
 pub fn row_value(
     alloc: Global,
     context: &ContextReport,
     row: &ReportedRow,
 ) -> Result<Value, NoMemory>
     ensures { IfOk result (λ value. view value ≡ spec.row_value context.now row.now) }
+{
+    match &row.reach {
+        Reach::Reached => met_value(alloc, context, row),
+        Reach::Hidden => unmet_value(alloc, row),
+        Reach::Elsewhere(_) => unmet_value(alloc, row),
+        Reach::Unmatched => unmet_value(alloc, row),
+    }
+}
+
+fn met_value(alloc: Global, context: &ContextReport, row: &ReportedRow) -> Result<Value, NoMemory>
+    ensures { IfOk result (λ value. view value ≡ spec.met_value context.now row.now) }
 {
     let groups = group_values(alloc, context, row.row.groups.as_slice())?;
     let example = example_location(alloc, context.path.as_str(), &row.example)?;
@@ -66,6 +78,23 @@ pub fn row_value(
     put_text_if(&mut members, alloc, "pattern", &row.row.pattern)?;
     put_text(&mut members, alloc, "reach", reach_word(&row.reach))?;
     put_text_if(&mut members, alloc, "servlet", &row.servlet)?;
+    Ok(Value::Object(members))
+}
+
+fn unmet_value(alloc: Global, row: &ReportedRow) -> Result<Value, NoMemory>
+    ensures { IfOk result (λ value. view value ≡ spec.unmet_value row.now) }
+{
+    let other = elsewhere(alloc, &row.reach)?;
+    let mut members = Map::new(alloc);
+    put_value(&mut members, alloc, "answers", Value::Null)?;
+    put_value(&mut members, alloc, "context", other)?;
+    put_value(&mut members, alloc, "example", Value::Null)?;
+    put_texts(&mut members, alloc, "groups", &[])?;
+    put_texts(&mut members, alloc, "narrower", &[])?;
+    put_truth(&mut members, alloc, "narrowerComplete", true)?;
+    put_text_if(&mut members, alloc, "pattern", &row.row.pattern)?;
+    put_text(&mut members, alloc, "reach", reach_word(&row.reach))?;
+    put_value(&mut members, alloc, "servlet", Value::Null)?;
     Ok(Value::Object(members))
 }
 
@@ -95,6 +124,7 @@ fn reach_word(reach: &Reach) -> &'static str
         Reach::Reached => "reached",
         Reach::Hidden => "hidden",
         Reach::Elsewhere(_) => "elsewhere",
+        Reach::Unmatched => "unmatched",
     }
 }
 
@@ -106,6 +136,7 @@ fn elsewhere(alloc: Global, reach: &Reach) -> Result<Value, NoMemory>
         Reach::Reached => Ok(Value::Null),
         Reach::Hidden => Ok(Value::Null),
         Reach::Elsewhere(path) => Ok(Value::try_from_str(alloc, path.as_str())?),
+        Reach::Unmatched => Ok(Value::Null),
     }
 }
 

@@ -92,6 +92,13 @@ pub fn hidden_text(viewer: &Option<Viewer>) -> &'static str
     }
 }
 
+/// Returns the text of the requests that meet a pattern that is the best match of no canonical path.
+pub fn unmatched_text() -> &'static str
+    ensures { result.now ≡ spec.unmatched_text }
+{
+    "no request"
+}
+
 /// Returns the text of another context that has the paths of a row.
 pub fn context_text(alloc: Global, path: &str) -> Result<Text, NoMemory>
     ensures { GivesAnswer result (spec.context_text path.now) }

@@ -5,6 +5,7 @@ ghost use Rattle.sv_text.specs.Gives.{GivesAnswer};
 ghost use Rattle.sv_report.specs.Words as spec;
 
 use crate::escaped::escaped;
+use crate::parts::joined;
 use std::alloc::Global;
 use sv_audit::Access;
 use sv_constraints::Methods;
@@ -78,40 +79,34 @@ fn push_others(text: &mut String, alloc: Global, others: &[Text]) -> Result<(), 
     Ok(())
 }
 
-/// Returns the text of the callers that may enter.
+/// Returns the text of the callers that may enter or, if there are none, of the reason.
 pub fn who_text(alloc: Global, has_login: bool, access: &Access) -> Result<Text, NoMemory>
     ensures { GivesAnswer result (spec.who_text has_login access.now) }
 {
+    let text = refusal_text(alloc, has_login, access)?;
+    if lets_nobody_in(has_login, access) {
+        joined(alloc, &["nobody (", text.as_str(), ")"])
+    } else {
+        Ok(text)
+    }
+}
+
+fn lets_nobody_in(has_login: bool, access: &Access) -> bool
+    ensures { result ≡ spec.lets_nobody_in has_login access.now }
+{
     match access {
-        Access::Unconstrained => Text::copy_of(alloc, "everyone (no constraint)"),
-        Access::Uncovered => Text::copy_of(alloc, "everyone (uncovered)"),
-        Access::UncoveredDenied => Text::copy_of(alloc, "nobody (uncovered, denied)"),
-        Access::Precluded => Text::copy_of(alloc, "nobody (no role is allowed)"),
-        Access::NeedsTls => Text::copy_of(alloc, "needs TLS"),
-        Access::Everyone => Text::copy_of(alloc, "everyone"),
-        Access::AnyLogin => Text::copy_of(alloc, logged_in(has_login, "any login")),
-        Access::Roles(roles) => roles_text(alloc, has_login, roles.as_slice()),
+        Access::UncoveredDenied => true,
+        Access::Precluded => true,
+        Access::AnyLogin => !has_login,
+        Access::Roles(roles) => !has_login || roles.as_slice().is_empty(),
+        Access::Unconstrained => false,
+        Access::Uncovered => false,
+        Access::NeedsTls => false,
+        Access::Everyone => false,
     }
 }
 
-/// Returns the text of callers who log in, if the context has a login configuration.
-fn logged_in<'a>(has_login: bool, text: &'a str) -> &'a str
-    ensures { result.now ≡ spec.logged_in has_login text.now }
-{
-    if has_login { text } else { "nobody (no login)" }
-}
-
-fn roles_text(alloc: Global, has_login: bool, roles: &[Text]) -> Result<Text, NoMemory>
-    ensures { GivesAnswer result (spec.who_text has_login (Access.Roles roles.now)) }
-{
-    if roles.is_empty() {
-        return Text::copy_of(alloc, "nobody (no such role)");
-    }
-    let names = named_roles(alloc, roles)?;
-    Text::copy_of(alloc, logged_in(has_login, names.as_str()))
-}
-
-/// Returns whom an access lets in, or why it lets nobody in, for a caller who does not enter.
+/// Returns whom an access lets in, or why it lets nobody in.
 pub(crate) fn refusal_text(
     alloc: Global,
     has_login: bool,
@@ -120,14 +115,14 @@ pub(crate) fn refusal_text(
     ensures { GivesAnswer result (spec.refusal_text has_login access.now) }
 {
     match access {
+        Access::Unconstrained => Text::copy_of(alloc, "everyone (no constraint)"),
+        Access::Uncovered => Text::copy_of(alloc, "everyone (uncovered)"),
         Access::UncoveredDenied => Text::copy_of(alloc, "uncovered, denied"),
         Access::Precluded => Text::copy_of(alloc, "no role is allowed"),
+        Access::NeedsTls => Text::copy_of(alloc, "needs TLS"),
+        Access::Everyone => Text::copy_of(alloc, "everyone"),
         Access::AnyLogin => Text::copy_of(alloc, or_no_login(has_login, "any login")),
-        Access::Roles(roles) => refused_roles_text(alloc, has_login, roles.as_slice()),
-        Access::Unconstrained => who_text(alloc, has_login, access),
-        Access::Uncovered => who_text(alloc, has_login, access),
-        Access::NeedsTls => who_text(alloc, has_login, access),
-        Access::Everyone => who_text(alloc, has_login, access),
+        Access::Roles(roles) => roles_text(alloc, has_login, roles.as_slice()),
     }
 }
 
@@ -138,7 +133,7 @@ fn or_no_login<'a>(has_login: bool, text: &'a str) -> &'a str
     if has_login { text } else { "no login" }
 }
 
-fn refused_roles_text(alloc: Global, has_login: bool, roles: &[Text]) -> Result<Text, NoMemory>
+fn roles_text(alloc: Global, has_login: bool, roles: &[Text]) -> Result<Text, NoMemory>
     ensures { GivesAnswer result (spec.refusal_text has_login (Access.Roles roles.now)) }
 {
     if roles.is_empty() {

@@ -4,4 +4,4 @@ use Rattle.sv_audit.specs.Examples.{is_example}
 use Rattle.sv_audit.proofs.examples.first_example.Given as goal
 
 abbrev pub invariant-loop-candidate : goal.invariant-loop-candidate
-invariant-loop-candidate l = find (is_example l.patterns (option_copied l.fn.pattern)) l.candidates ≡ find (is_example l.patterns (option_copied l.fn.pattern)) (drop l.candidate-index l.candidates)
+invariant-loop-candidate l = find (is_example l.patterns l.others (option_copied l.fn.pattern)) l.candidates ≡ find (is_example l.patterns l.others (option_copied l.fn.pattern)) (drop l.candidate-index l.candidates)

@@ -6,4 +6,4 @@ use Rattle.sv_findings.specs.Heads.{straying}
 use Rattle.sv_findings.proofs.heads.push_gets.Given as goal
 
 abbrev pub invariant-loop-get : goal.invariant-loop-get
-invariant-loop-get l = l.findings.items ≡ l.initial.findings.items ++ flat_map (λ get. straying l.pattern l.groups get.cell.access) (filter (has_method (codes "GET")) (take l.get-index l.groups))
+invariant-loop-get l = l.findings.items ≡ l.initial.findings.items ++ flat_map (λ get. straying l.has_login l.pattern l.groups get.cell.access) (filter (has_method (codes "GET")) (take l.get-index l.groups))

@@ -8,6 +8,6 @@ use Rattle.sv_page.proofs.page.audit_html.Goals as goal
 pub returns : goal.returns
 returns c =
     given c.joined.result _ _
-    (ap₂ (λ list sections. joined (PAGE_START.now ∷ list ∷ sections ∷ codes "</body>\n</html>\n" ∷ []))
-    (c.as_str-2.ensures ∙ c.in_ok-list.ensures ∙ ap list_html (c.as_str.ensures ∙ c.in_ok-findings.ensures)) (c.as_str-3.ensures ∙ c.in_ok-sections.ensures))
+    (ap₂ (λ list tables. joined (PAGE_START.now ∷ list ∷ tables ∷ codes "</body>\n</html>\n" ∷ []))
+    (c.as_str-2.ensures ∙ c.in_ok-list.ensures ∙ ap list_html (c.as_str.ensures ∙ c.in_ok-items.ensures)) (c.as_str-3.ensures ∙ c.in_ok-tables.ensures))
     c.joined.ensures

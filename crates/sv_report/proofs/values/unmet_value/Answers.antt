@@ -1,8 +1,8 @@
 use Rattle.std.proofs.Common.{rules}
 use Rattle.serde_json.specs.declared.value.Value.{the_lemmas}
-use Rattle.sv_report.specs.Json.{row_value}
-use Rattle.sv_report.proofs.values.row_value.Goals as goal
+use Rattle.sv_report.specs.Json.{unmet_value}
+use Rattle.sv_report.proofs.values.unmet_value.Goals as goal
 
 pub returns : goal.returns
-unfolding row_value
+unfolding unmet_value
 returns c = search (rules, the_lemmas)

@@ -1,0 +1,12 @@
+use Rattle.sv_page.specs.declared.shares.TheConstants.{MAX_SHOWN_ROWS}
+use Rattle.sv_page.proofs.ShareLemmas as lemmas
+use Rattle.sv_page.proofs.shares.pages_show_the_first_rows.Goals as goal
+
+pub returns-clause-few : goal.returns-clause-few
+returns-clause-few c = lemmas.few (λ context. context.rows) MAX_SHOWN_ROWS
+
+pub returns-clause-first : goal.returns-clause-first
+returns-clause-first c = lemmas.first (λ context. context.rows) MAX_SHOWN_ROWS
+
+pub returns-clause-all : goal.returns-clause-all
+returns-clause-all c = lemmas.all (λ context. context.rows) MAX_SHOWN_ROWS
