@@ -14,6 +14,7 @@ pub mod Saying
 pub mod Setting
 pub mod Tables
 pub mod Walking
+pub mod WordCounts
 pub mod Words
 pub mod Wrong
 mod ManualWords

@@ -7,11 +7,12 @@ use Rattle.sv_arguments.proofs.Going.{needs_target}
 use Rattle.sv_arguments.proofs.OneTopic.{called_one, finds_one, named_one}
 use Rattle.sv_arguments.proofs.Setting.{some_none}
 use Rattle.sv_arguments.proofs.Wrong.{IsLacking, IsStopped, not_next, stopped_not_read}
+use Rattle.sv_arguments.specs.HelpUsage.{IsHelpLine, called_line}
 use Rattle.sv_arguments.specs.OptionFault.{IsFree, IsRefused, IsWrong}
 use Rattle.sv_arguments.specs.Options.{AreProper, IsProper}
 use Rattle.sv_arguments.specs.Settings.{Setting, Keyed, IsKey, given_rival, key_word, set_of, setting_words, values, words_of}
 use Rattle.sv_arguments.specs.Topics.{IsCalled, topic_name}
-use Rattle.sv_arguments.specs.Usage.{IsHelpLine, IsLineAfter, IsOptionLine, IsUsageLine, about_line, needs_line, option_fault_line, unknown_option}
+use Rattle.sv_arguments.specs.Usage.{IsLineAfter, IsOptionLine, IsUsageLine, needs_line, option_fault_line, unknown_option}
 use Rattle.sv_program.specs.Shown.{quoted}
 use Rattle.sv_arguments.specs.declared.key.Key.{Key}
 use Rattle.sv_arguments.specs.declared.option_fault.OptionFault.{OptionFault}
@@ -204,18 +205,17 @@ one_option_line : (its : OptionSet) (arguments : List (List ℕ)) (a b : List �
 one_option_line its arguments a b (one, refused, is) (other, wrong, same) =
     is ∙ one_refused its arguments one other (refused_how its arguments one refused) (refused_how its arguments other wrong) ∙ sym same
 
-one_help_line : (arguments : List (List ℕ)) (a b : List ℕ) → IsHelpLine arguments a → IsHelpLine arguments b → a ≡ b
-one_help_line [] a b is same = is ∙ sym same
-one_help_line (word ∷ []) a b (one, finds, is) (other, found, same) =
-    is ∙ ap (λ (topic : Option Topic). about_line topic word) (finds_one (λ topic. word ≡ topic_name topic) (named_one word) one other finds found) ∙ sym same
-one_help_line (word ∷ next ∷ rest) a b is same = is ∙ sym same
+one_help_line : (name : List ℕ) (arguments : List (List ℕ)) (a b : List ℕ) → IsHelpLine name arguments a → IsHelpLine name arguments b → a ≡ b
+one_help_line name [] a b is same = is ∙ sym same
+one_help_line name (word ∷ words) a b (one, finds, is) (other, found, same) =
+    is ∙ ap (λ (topic : Option Topic). called_line name topic word words) (finds_one (λ topic. word ≡ topic_name topic) (named_one word) one other finds found) ∙ sym same
 
 one_line_after : (word : List ℕ) (topic : Option Topic) (arguments : List (List ℕ)) (a b : List ℕ) → IsLineAfter word topic arguments a
     → IsLineAfter word topic arguments b → a ≡ b
 one_line_after word None arguments a b is same = is ∙ sym same
 one_line_after word (Some Run) arguments a b is same = one_option_line set.Run arguments a b is same
 one_line_after word (Some Audit) arguments a b is same = one_option_line set.Audit arguments a b is same
-one_line_after word (Some Help) arguments a b is same = one_help_line arguments a b is same
+one_line_after word (Some Help) arguments a b is same = one_help_line word arguments a b is same
 one_line_after word (Some topic) arguments a b is same = is ∙ sym same
 
 -- arguments have only one line

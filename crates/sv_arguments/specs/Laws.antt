@@ -1,9 +1,12 @@
 -- Laws of the meaning of arguments.
-use Rattle.std.specs.Prelude.{◌≡◌, ◌≢◌, ◌<◌, ◌≤◌, ℕ, Bool, true, false, List, [], ◌∷◌, codes, flat_map, if◌then◌else◌, map, Option, Some, None, option_copied}
+use Rattle.std.specs.Prelude.{◌≡◌, ◌≢◌, ◌<◌, ◌≤◌, ℕ, Bool, true, false, List, [], ◌∷◌, codes, flat_map, if◌then◌else◌, length, map, Option, Some, None, option_copied}
 use Rattle.std.specs.List.{All, Contains}
 use Rattle.std.specs.Str.{bytes_eq}
 use Rattle.sv_arguments.specs.Command.{IsNamed}
+use Rattle.sv_arguments.specs.HelpUsage.{other_line}
+use Rattle.sv_arguments.specs.Manual.{manual_words}
 use Rattle.sv_arguments.specs.Near.{distance, near}
+use Rattle.sv_arguments.specs.Plain.{lacks_line, least_words, most_words}
 use Rattle.sv_arguments.specs.AuditOptions.{IsAudit}
 use Rattle.sv_arguments.specs.RunOptions.{IsAsked}
 use Rattle.sv_arguments.specs.Settings.{key_word, option_keys, set_of, takes_word}
@@ -12,6 +15,7 @@ use Rattle.sv_arguments.specs.Usage.{IsUsageLine}
 use Rattle.sv_arguments.specs.declared.command.Command.{Command}
 use Rattle.sv_arguments.specs.declared.command.Command.TheVariants.{First, Policy, Uncovered, Audit, Check, Replay, Serve, Run, SelfTest, Help, Manual, Version}
 use Rattle.sv_arguments.specs.declared.key.Key.{Key}
+use Rattle.sv_arguments.specs.declared.manual.Manual.{Manual as ManualForm}
 use Rattle.sv_arguments.specs.declared.option_set.OptionSet.{OptionSet}
 use Rattle.sv_arguments.specs.declared.option_set.OptionSet.TheVariants as set
 use Rattle.sv_arguments.specs.declared.topic.Topic.{Topic}
@@ -80,6 +84,22 @@ NameOne = (arguments : List (List ℕ)) (one other : Command) → IsNamed argume
 -- arguments that name no command have only one second line
 abbrev pub HaveOneLine : Type 0
 HaveOneLine = (arguments : List (List ℕ)) (one other : List ℕ) → IsUsageLine arguments one → IsUsageLine arguments other → one ≡ other
+
+-- the commands without options
+abbrev pub is_plain : Topic → Bool
+is_plain topic.Run = false
+is_plain topic.Audit = false
+is_plain topic.Help = false
+is_plain other = true
+
+-- the words that name a command without options are no fewer and no more than it takes
+abbrev pub TakeTheirWords : Type 0
+TakeTheirWords = (name : List ℕ) (words : List (List ℕ)) (command : Command) → is_plain (topic_of command) ≡ true → IsNamed (name ∷ words) command
+    → (least_words (topic_of command) ≤ length words) × (length words ≤ most_words (topic_of command))
+
+-- the line about the words of a manual shows none of them
+abbrev pub TakesManuals : Type 0
+TakesManuals = (manual : ManualForm) → other_line (manual_words manual) ≡ lacks_line topic.Help
 
 -- a near name is among the names, at most two edits away, and no name is nearer
 abbrev pub NearIsNearest : Type 0

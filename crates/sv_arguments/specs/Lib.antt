@@ -13,4 +13,7 @@ pub mod Values
 pub mod Near
 pub mod OptionFault
 pub mod Topics
+pub mod Plain
+pub mod HelpUsage
+pub mod UnknownNames
 pub mod Usage

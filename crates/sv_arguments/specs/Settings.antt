@@ -34,7 +34,7 @@ key_word Diff = codes "--diff"
 abbrev pub value_name : Key → List ℕ
 value_name Control = codes "SOCKET"
 value_name Journal = codes "FILE"
-value_name Listen = codes "ADDRESS:PORT"
+value_name Listen = codes "an address and a port, as 127.0.0.1:8080"
 value_name SameSeed = codes "nothing"
 value_name Connections = codes "a number from 1 to 1024"
 value_name IdleSeconds = codes "a number from 1 to 86400"

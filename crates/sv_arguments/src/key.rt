@@ -89,7 +89,7 @@ impl Key {
         match self {
             Key::Control => "SOCKET",
             Key::Journal => "FILE",
-            Key::Listen => "ADDRESS:PORT",
+            Key::Listen => "an address and a port, as 127.0.0.1:8080",
             Key::SameSeed => "nothing",
             Key::Connections => "a number from 1 to 1024",
             Key::IdleSeconds => "a number from 1 to 86400",

@@ -6,15 +6,18 @@ mod audit_options;
 mod command;
 mod count;
 mod given;
+mod help_usage;
 mod key;
 mod manual;
 mod near;
 mod option_fault;
 mod option_set;
+mod plain;
 mod question;
 mod run_options;
 mod service;
 mod topic;
+mod unknown_names;
 mod usage;
 
 pub use audit_options::{AuditOptions, audit_arguments_ask_for_one_thing};
@@ -28,4 +31,7 @@ pub use question::Question;
 pub use run_options::{RunOptions, arguments_ask_for_one_thing};
 pub use service::Service;
 pub use topic::{TOPICS, Topic, is_help_option};
-pub use usage::{the_manual_is_of_this_program, usage_detail, wrong_arguments_have_one_line};
+pub use usage::{
+    commands_take_their_words, the_manual_is_of_this_program, usage_detail,
+    wrong_arguments_have_one_line,
+};

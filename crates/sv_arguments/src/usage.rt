@@ -1,13 +1,12 @@
 //! The second line about arguments that name no command: what is wrong with them, and how to get help.
 
-ghost use Rattle.std.specs.Prelude.{◌≡◌, ◌++◌, IfOk, None, codes, map, option_copied, string_bytes};
+ghost use Rattle.std.specs.Prelude.{◌≡◌, ◌++◌, IfOk, codes, map, option_copied, string_bytes};
 ghost use Rattle.sv_arguments.specs.Command.{NameNothing};
-ghost use Rattle.sv_arguments.specs.Laws.{AreAllKeys, AreOwnKeys, HaveOneLine, ManualHasCommands, ManualHasOptions, ManualHasUsages};
+ghost use Rattle.sv_arguments.specs.Laws.{AreAllKeys, AreOwnKeys, HaveOneLine, ManualHasCommands, ManualHasOptions, ManualHasUsages, TakeTheirWords, TakesManuals};
 ghost use Rattle.sv_arguments.specs.Near.{near};
 ghost use Rattle.sv_arguments.specs.AuditOptions.{IsAudit};
 ghost use Rattle.sv_arguments.specs.RunOptions.{IsAsked};
 ghost use Rattle.sv_arguments.specs.Settings.{key_word, option_words};
-ghost use Rattle.sv_arguments.specs.Topics.{topic_names};
 ghost use Rattle.sv_arguments.specs.Usage as spec;
 ghost use Rattle.sv_arguments.specs.declared.audit_options.AuditOptions.{AuditOptions};
 ghost use Rattle.sv_arguments.specs.declared.run_options.RunOptions.{RunOptions};
@@ -15,14 +14,16 @@ ghost use Rattle.sv_program.specs.Shown as shown;
 ghost use Rattle.sv_text.specs.Gives.{GivesAnswer};
 
 use crate::audit_options::AuditOptions;
+use crate::help_usage::help_detail;
 use crate::key::Key;
 use crate::near::nearest;
 use crate::option_fault::OptionFault;
 use crate::option_set::OptionSet;
+use crate::plain::{lacks_line, plain_line};
 use crate::run_options::RunOptions;
-use crate::topic::{TOPICS, Topic};
+use crate::topic::Topic;
+use crate::unknown_names::{hint, unknown_command};
 use std::alloc::Global;
-use sv_manual::command_usage;
 use sv_program::quoted;
 use sv_text::{NoMemory, Text};
 
@@ -70,8 +71,8 @@ pub fn usage_detail(alloc: Global, arguments: &[String]) -> Result<Text, NoMemor
         None => unknown_command(alloc, word.as_str()),
         Some(Topic::Run) => run_detail(alloc, rest),
         Some(Topic::Audit) => audit_detail(alloc, rest),
-        Some(Topic::Help) => help_detail(alloc, rest),
-        Some(topic) => usage_line(alloc, topic),
+        Some(Topic::Help) => help_detail(alloc, word.as_str(), rest),
+        Some(topic) => plain_line(alloc, topic, rest),
     }
 }
 
@@ -80,7 +81,7 @@ fn run_detail(alloc: Global, arguments: &[String]) -> Result<Text, NoMemory>
     ensures { IfOk result (λ line. ((options : RunOptions) → IsAsked (map string_bytes arguments.now) options → ⊥) → spec.IsOptionLine OptionSet.Run (map string_bytes arguments.now) line) }
 {
     match RunOptions::parse(arguments) {
-        Ok(_) => usage_line(alloc, Topic::Run),
+        Ok(_) => lacks_line(alloc, Topic::Run),
         Err(fault) => option_fault_line(alloc, OptionSet::Run, fault),
     }
 }
@@ -90,86 +91,9 @@ fn audit_detail(alloc: Global, arguments: &[String]) -> Result<Text, NoMemory>
     ensures { IfOk result (λ line. ((options : AuditOptions) → IsAudit (map string_bytes arguments.now) options → ⊥) → spec.IsOptionLine OptionSet.Audit (map string_bytes arguments.now) line) }
 {
     match AuditOptions::parse(arguments) {
-        Ok(_) => usage_line(alloc, Topic::Audit),
+        Ok(_) => lacks_line(alloc, Topic::Audit),
         Err(fault) => option_fault_line(alloc, OptionSet::Audit, fault),
     }
-}
-
-/// Returns the line about these arguments of `help`.
-fn help_detail(alloc: Global, arguments: &[String]) -> Result<Text, NoMemory>
-    ensures { IfOk result (spec.IsHelpLine (map string_bytes arguments.now)) }
-{
-    let Some((word, rest)) = arguments.split_first() else {
-        return usage_line(alloc, Topic::Help);
-    };
-    if !rest.is_empty() {
-        return usage_line(alloc, Topic::Help);
-    }
-    match Topic::named(word.as_str()) {
-        None => other_word_line(alloc, word.as_str()),
-        Some(_) => usage_line(alloc, Topic::Help),
-    }
-}
-
-/// Returns the line about the only word after `help` or its options, if it names no command. For a word of the usage of
-/// `help`, as `--format` without a format, the line is that usage.
-fn other_word_line(alloc: Global, word: &str) -> Result<Text, NoMemory>
-    ensures { GivesAnswer result (spec.about_line None word.now) }
-{
-    if is_help_word(word) {
-        usage_line(alloc, Topic::Help)
-    } else {
-        unknown_topic(alloc, word)
-    }
-}
-
-/// Returns whether the word is in the usage of `help`, and is no command.
-fn is_help_word(word: &str) -> bool
-    ensures { result ≡ spec.is_help_word word.now }
-{
-    word == "--format" || word == "config"
-}
-
-fn usage_line(alloc: Global, topic: Topic) -> Result<Text, NoMemory>
-    ensures { GivesAnswer result (spec.usage_line topic) }
-{
-    let usage = command_usage(alloc, topic.name())?;
-    Ok(Text::from_string(format!(in alloc; "  usage: {usage}")?))
-}
-
-fn unknown_command(alloc: Global, word: &str) -> Result<Text, NoMemory>
-    ensures { GivesAnswer result (spec.unknown_command word.now) }
-{
-    let names = command_names(alloc)?;
-    unknown_word(alloc, names.as_slice(), word)
-}
-
-/// Returns the line about a word after `help` that it does not know.
-fn unknown_topic(alloc: Global, word: &str) -> Result<Text, NoMemory>
-    ensures { GivesAnswer result (spec.unknown_topic word.now) }
-{
-    let mut names = command_names(alloc)?;
-    names.push("config")?;
-    unknown_word(alloc, names.as_slice(), word)
-}
-
-fn unknown_word(alloc: Global, known: &[&str], word: &str) -> Result<Text, NoMemory>
-    ensures { GivesAnswer result (spec.unknown_word (map (λ name. name.now) known.now) word.now) }
-{
-    let name = nearest(alloc, known, word)?;
-    let hint = hint(alloc, name, "\"sv help\" lists the commands")?;
-    let word = quoted(alloc, word)?;
-    Ok(Text::from_string(format!(in alloc; "  there is no command {word}; {hint}")?))
-}
-
-fn command_names(alloc: Global) -> Result<Vec<&'static str>, NoMemory>
-    ensures { IfOk result (λ names. map (λ name. name.now) names.items ≡ topic_names) }
-{
-    let mut names = Vec::new(alloc);
-    for topic in TOPICS {
-        names.push(topic.name())?;
-    }
-    Ok(names)
 }
 
 fn unknown_option(alloc: Global, set: OptionSet, word: &str) -> Result<Text, NoMemory>
@@ -203,16 +127,6 @@ fn near_audit_option(alloc: Global, word: &str) -> Result<Option<&'static str>, 
     nearest(alloc, &AUDIT_OPTIONS, word)
 }
 
-/// Returns the question whether the near name is meant, or else where the names are listed.
-fn hint(alloc: Global, name: Option<&str>, listing: &str) -> Result<Text, NoMemory>
-    ensures { GivesAnswer result (spec.hint (option_copied name.entry) listing.now) }
-{
-    match name {
-        Some(name) => Ok(Text::from_string(format!(in alloc; "did you mean \"{name}\"?")?)),
-        None => Text::copy_of(alloc, listing),
-    }
-}
-
 fn option_fault_line(
     alloc: Global,
     set: OptionSet,
@@ -221,7 +135,7 @@ fn option_fault_line(
     ensures { GivesAnswer result (spec.option_fault_line set fault.entry) }
 {
     match fault {
-        OptionFault::NoServer => usage_line(alloc, set.topic()),
+        OptionFault::NoServer => lacks_line(alloc, set.topic()),
         OptionFault::Unknown(word) => unknown_option(alloc, set, word),
         OptionFault::Twice(key) => twice_line(alloc, key),
         OptionFault::Excluded(key, other) => excluded_line(alloc, key, other),
@@ -270,6 +184,13 @@ fn alone_line(alloc: Global, key: Key, other: Key) -> Result<Text, NoMemory>
 /// Arguments that name no command have only one second line.
 pub fn wrong_arguments_have_one_line()
     ensures { HaveOneLine }
+{}
+
+/// A command without options is named with as many words as the line about its arguments says, and no word of a manual
+/// is one that `help` does not take.
+pub fn commands_take_their_words()
+    ensures words { TakeTheirWords }
+    ensures manuals { TakesManuals }
 {}
 
 /// The manual has the commands of the program with their usages, and exactly their options.

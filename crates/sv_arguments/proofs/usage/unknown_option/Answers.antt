@@ -3,7 +3,8 @@ use Rattle.sv_arguments.proofs.Joining.{joined}
 use Rattle.sv_arguments.proofs.usage.unknown_option.Goals as goal
 use Rattle.sv_arguments.specs.Near.{near}
 use Rattle.sv_arguments.specs.Settings.{option_words}
-use Rattle.sv_arguments.specs.Usage.{hint, no_option, options_listing}
+use Rattle.sv_arguments.specs.UnknownNames.{hint}
+use Rattle.sv_arguments.specs.Usage.{no_option, options_listing}
 use Rattle.sv_program.specs.Shown.{quoted}
 
 pub returns : goal.returns

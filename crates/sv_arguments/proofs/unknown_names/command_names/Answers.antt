@@ -1,4 +1,4 @@
-use Rattle.sv_arguments.proofs.usage.command_names.Goals as goal
+use Rattle.sv_arguments.proofs.unknown_names.command_names.Goals as goal
 use Rattle.sv_arguments.specs.Topics.{topic_names}
 use Rattle.std.proofs.Common.{arith}
 use Rattle.std.proofs.lemmas.Grind.{common_steps}

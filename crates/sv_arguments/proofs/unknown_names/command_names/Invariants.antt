@@ -1,5 +1,5 @@
 use Rattle.std.proofs.Common.{◌≡◌, map, take}
-use Rattle.sv_arguments.proofs.usage.command_names.Given as goal
+use Rattle.sv_arguments.proofs.unknown_names.command_names.Given as goal
 use Rattle.sv_arguments.specs.Topics.{topic_name}
 
 abbrev pub invariant-loop-topic : goal.invariant-loop-topic

@@ -1,8 +1,8 @@
 use Rattle.std.proofs.Common.{ℕ, List, Option, ap, codes, map, ◌∙◌}
 use Rattle.sv_arguments.proofs.Joining.{joined}
-use Rattle.sv_arguments.proofs.usage.unknown_word.Goals as goal
+use Rattle.sv_arguments.proofs.unknown_names.unknown_word.Goals as goal
 use Rattle.sv_arguments.specs.Near.{near}
-use Rattle.sv_arguments.specs.Usage.{hint}
+use Rattle.sv_arguments.specs.UnknownNames.{hint}
 use Rattle.sv_program.specs.Shown.{quoted}
 
 pub returns : goal.returns
