@@ -9,7 +9,7 @@ use Rattle.sv_arguments.proofs.Decoding.{flag_empty, key_word_injective, same_he
 use Rattle.sv_arguments.proofs.Setting.{other_value, own_value}
 use Rattle.sv_arguments.specs.Given.{IsFirst, IsSplit}
 use Rattle.sv_arguments.specs.Options.{IsProper}
-use Rattle.sv_arguments.specs.Settings.{Setting, Keyed, has_word, key_word, own_words, setting_words, takes_word, value_in, values, words_of}
+use Rattle.sv_arguments.specs.Settings.{Setting, Keyed, key_word, own_words, setting_words, takes_word, value_in, values, words_of}
 use Rattle.sv_arguments.specs.declared.key.Key.{Key}
 use Rattle.sv_arguments.specs.declared.option_set.OptionSet.{OptionSet}
 
@@ -122,9 +122,3 @@ pub unset : (words : List (List ℕ)) (found : Option (Bor (List ℕ))) → IsFi
 unset [] found is none = refl
 unset (word ∷ words) (Some value) is none = absurd (true≢false none)
 unset (word ∷ words) None is none = absurd is
-
-pub is_set : (words : List (List ℕ)) (found : Option (Bor (List ℕ))) → IsFirst words found → is_some found ≡ has_word words
-is_set [] None is = refl
-is_set [] (Some value) is = absurd is
-is_set (word ∷ words) (Some value) is = refl
-is_set (word ∷ words) None is = absurd is

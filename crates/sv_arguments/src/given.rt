@@ -137,7 +137,7 @@ fn rival_in(set: OptionSet, words: &[String], key: Key) -> Option<Key>
     ensures { (settings : List Setting) → AreOf set (map string_bytes words.now) settings → result ≡ given_rival settings key }
 {
     for other in key.rivals() {
-        if value_in(set, words, *other).is_some() {
+        if is_among(set, words, *other) {
             return Some(*other);
         }
     }
@@ -149,7 +149,14 @@ fn lacks_target(set: OptionSet, words: &[String]) -> bool
     ensures { (settings : List Setting) → AreOf set (map string_bytes words.now) settings
         → result ≡ is_given settings Key.Method && not (is_given settings Key.Path) }
 {
-    value_in(set, words, Key::Method).is_some() && value_in(set, words, Key::Path).is_none()
+    is_among(set, words, Key::Method) && !is_among(set, words, Key::Path)
+}
+
+/// Returns whether an option is among these words.
+fn is_among(set: OptionSet, words: &[String], key: Key) -> bool
+    ensures { (settings : List Setting) → AreOf set (map string_bytes words.now) settings → result ≡ is_given settings key }
+{
+    value_in(set, words, key).is_some()
 }
 
 /// Returns the word after the first option of this key.
