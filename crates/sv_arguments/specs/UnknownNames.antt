@@ -14,9 +14,9 @@ unknown_word known word =
     codes "  there is no command " ++ quoted word ++ codes "; "
     ++ hint (near known word) (codes "\"sv help\" lists the commands")
 
--- the options that call a command
+-- the long options that call a command; `-h` is near to each word of two characters
 abbrev pub calling_options : List (List ℕ)
-calling_options = codes "--help" ∷ codes "--version" ∷ codes "-h" ∷ []
+calling_options = codes "--help" ∷ codes "--version" ∷ []
 
 -- the line about a word in place of a command, which may also be one of these options
 abbrev pub unknown_command : List ℕ → List ℕ

@@ -19,7 +19,7 @@ pub(crate) fn unknown_command(alloc: Global, word: &str) -> Result<Text, NoMemor
     ensures { GivesAnswer result (spec.unknown_command word.now) }
 {
     let mut names = command_names(alloc)?;
-    names.extend_from_slice(&["--help", "--version", "-h"])?;
+    names.extend_from_slice(&["--help", "--version"])?;
     unknown_word(alloc, names.as_slice(), word)
 }
 

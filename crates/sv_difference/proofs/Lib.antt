@@ -1,2 +1,3 @@
 pub mod FloatLemmas
 pub mod ServerLemmas
+pub mod MetLemmas

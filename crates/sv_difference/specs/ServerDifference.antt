@@ -46,12 +46,15 @@ row_is_met contexts path with_prefix (Some pattern) = is_met contexts path with_
 abbrev pub rows_are_met : List (List ℕ) → List (List ℕ) → List ℕ → ComparedContext → ComparedContext → Difference → Bool
 rows_are_met befores afters path before after difference = row_is_met befores path (has_prefix before) difference.before && row_is_met afters path (has_prefix after) difference.after
 
+-- The differences of two contexts whose rows requests may meet.
+abbrev pub met_between : List ComparedContext → List ComparedContext → List ℕ → ComparedContext → ComparedContext → List Difference
+met_between befores afters path before after = filter (rows_are_met (paths_of befores) (paths_of afters) path before after) (differences (side_of before) (side_of after))
+
 -- The differences of two contexts whose rows requests may meet, if both sides have such a context.
 abbrev pub differences_between : List ComparedContext → List ComparedContext → List ℕ → Option ComparedContext → Option ComparedContext → List Difference
 differences_between befores afters path None after = []
 differences_between befores afters path (Some before) None = []
-differences_between befores afters path (Some before) (Some after) =
-    filter (rows_are_met (paths_of befores) (paths_of afters) path before after) (differences (side_of before) (side_of after))
+differences_between befores afters path (Some before) (Some after) = met_between befores afters path before after
 
 -- What differs at a context path.
 abbrev pub difference_at : List ComparedContext → List ComparedContext → List ℕ → ContextDifference

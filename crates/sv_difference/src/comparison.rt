@@ -128,12 +128,26 @@ fn differences_between(
     let Some(after) = after else {
         return Ok(Listed::from_vec(Vec::new(alloc)));
     };
+    met_between(alloc, befores, afters, path, before, after)
+}
+
+/// Returns the differences of two contexts whose rows requests may meet.
+fn met_between(
+    alloc: Global,
+    befores: &[ComparedContext],
+    afters: &[ComparedContext],
+    path: &str,
+    before: &ComparedContext,
+    after: &ComparedContext,
+) -> Result<Listed<Difference>, NoMemory>
+    ensures { GivesAnswer result (spec.met_between befores.now afters.now path.now before.now after.now) }
+{
     let found = found_between(alloc, before, after)?;
     let before_paths = paths_of(alloc, befores)?;
     let after_paths = paths_of(alloc, afters)?;
-    let before = SidePatterns::of(alloc, before_paths.as_slice(), path, before)?;
-    let after = SidePatterns::of(alloc, after_paths.as_slice(), path, after)?;
-    only_met(alloc, &before, &after, found)
+    let first = SidePatterns::of(alloc, before_paths.as_slice(), path, before)?;
+    let second = SidePatterns::of(alloc, after_paths.as_slice(), path, after)?;
+    only_met(alloc, &first, &second, found)
 }
 
 /// Returns the differences of two contexts.

@@ -36,7 +36,7 @@ impl<'a> SidePatterns<'a> {
         path: &'a str,
         context: &ComparedContext,
     ) -> Result<SidePatterns<'a>, NoMemory>
-        ensures { IfOk result (λ side. (side.reaches.now ≡ (contexts.now, path.now)) × (side.has_prefix ≡ spec.has_prefix context.now)) }
+        ensures { IfOk result (λ side. (side.reaches ≡ (contexts.now, path.now)) × (side.has_prefix ≡ spec.has_prefix context.now)) }
     {
         Ok(SidePatterns {
             reaches: Reaches::of(alloc, contexts, path)?,
