@@ -14,7 +14,8 @@ use Rattle.sv_policy.specs.declared.explain_fault.ExplainFault.TheVariants.{BadM
 use Rattle.sv_uri.specs.Canonical.{canonical}
 use Rattle.sv_uri.specs.declared.fault.PathFault.{PathFault}
 use Rattle.sv_uri.specs.declared.path.Canon.{Canon}
-use Rattle.sv_wire.specs.declared.wire_fault.WireFault.TheVariants.{BadHead, BadTarget}
+use Rattle.sv_wire.specs.declared.wire_fault.WireFault.TheVariants.{BadHead, BadTarget, HeadTooLarge}
+use Rattle.sv_explanation.specs.Heads.{is_too_long}
 use Rattle.sv_explanation.specs.Treatment.{treatment}
 use Rattle.sv_explanation.specs.declared.explanation.Explanation.{Explanation}
 use Rattle.sv_explanation.specs.declared.explanation.Explanation.TheVariants.{Unread, OfServer, BadPath, NoContext, InContext}
@@ -25,24 +26,28 @@ use Rattle.sv_explanation.specs.declared.site_context.SiteContext.{SiteContext}
 abbrev pub context_place : List SiteContext → List ℕ → Option ℕ
 context_place contexts path = position (λ context. is_chosen (map (λ other. other.path) contexts) path context.path) contexts
 
+-- The path within a context, with the query of the target.
+abbrev pub within : SiteContext → Canon → Canon
+within context canon = record { path = path_within context.path canon.path; query = canon.query }
+
 -- The explanation of a request with this canonical path in the context that serves it.
-abbrev pub served : List ℕ → List ℕ → SiteContext → ServedRequest
-served method target_path context = record {
-  canonical = target_path;
+abbrev pub served : List ℕ → Canon → SiteContext → ServedRequest
+served method canon context = record {
+  canonical = canon.path;
   context = context.path;
   file = context.file;
-  path = path_within context.path target_path;
-  treatment = treatment context method (path_within context.path target_path);
+  path = path_within context.path canon.path;
+  treatment = treatment context method (within context canon);
 }
 
-abbrev pub in_context : List ℕ → List ℕ → Option SiteContext → Explanation
-in_context method path None = NoContext path
-in_context method path (Some context) = InContext (served method path context)
+abbrev pub in_context : List ℕ → Canon → Option SiteContext → Explanation
+in_context method canon None = NoContext canon.path
+in_context method canon (Some context) = InContext (served method canon context)
 
 -- The explanation of a request with a canonical path, or with the fault of a target without one.
 abbrev pub at_canon : List SiteContext → List ℕ → Result Canon PathFault → Explanation
 at_canon contexts method (Err fault) = BadPath fault
-at_canon contexts method (Ok canon) = in_context method canon.path (option_and_then (slice_get contexts) (context_place contexts canon.path))
+at_canon contexts method (Ok canon) = in_context method canon (option_and_then (slice_get contexts) (context_place contexts canon.path))
 
 -- The explanation by the form of the target. An absolute form asks for its path, as the origin form does.
 abbrev pub at_form : List SiteContext → List ℕ → List ℕ → TargetForm → Explanation
@@ -55,10 +60,13 @@ at_form contexts method target Unknown = Unread BadTarget
 abbrev pub is_writable : List ℕ → Bool
 is_writable target = not (length target == 0) && list_all is_uri_byte target
 
--- The explanation for a method and a target.
+-- The explanation for a method and a target. The end of a head is found before its request line is read, and the
+-- request line is read before the form of its target is judged.
 abbrev pub explanation_of : List SiteContext → List ℕ → List ℕ → Explanation
 explanation_of contexts method target =
-    if is_writable target then at_form contexts method target (target_form method target) else Unread BadHead
+    if is_too_long method target then Unread HeadTooLarge
+    else if is_writable target then at_form contexts method target (target_form method target)
+    else Unread BadHead
 
 abbrev pub explanation : List SiteContext → List ℕ → List ℕ → Result Explanation ExplainFault
 explanation contexts method target =

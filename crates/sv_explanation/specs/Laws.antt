@@ -13,11 +13,14 @@ use Rattle.sv_login.specs.declared.outcome.Outcome.TheVariants as outcomes
 use Rattle.sv_login.specs.declared.step.LoginOutcome.TheVariants.{NotLogin}
 use Rattle.sv_mapping.specs.BestMatch.{best_pattern}
 use Rattle.sv_mapping.specs.Protected.{is_protected}
+use Rattle.sv_uri.specs.declared.path.Canon.{Canon}
 use Rattle.sv_explanation.specs.Callers.{caller_of, can_log_in}
+use Rattle.sv_explanation.specs.ContextFiles.{known_files}
 use Rattle.sv_explanation.specs.Listed.{listed_constraint}
 use Rattle.sv_explanation.specs.Treatment.{judged, treatment}
 use Rattle.sv_explanation.specs.declared.explanation.Answer.{Answer}
 use Rattle.sv_explanation.specs.declared.explanation.Answer.TheVariants as answers
+use Rattle.sv_explanation.specs.declared.explanation.JudgedRequest.{JudgedRequest}
 use Rattle.sv_explanation.specs.declared.explanation.Treatment.{Treatment}
 use Rattle.sv_explanation.specs.declared.explanation.Treatment.TheVariants.{Hidden, LoginPost, Judged}
 use Rattle.sv_explanation.specs.declared.listed_constraint.ListedConstraint.{ListedConstraint}
@@ -25,7 +28,7 @@ use Rattle.sv_explanation.specs.declared.site_context.SiteContext.{SiteContext}
 
 -- The outcome that an answer names, for this reason.
 abbrev pub outcome_by : OwnedWhy → Answer → Outcome
-outcome_by why (answers.Enters servlet) = outcomes.Entered
+outcome_by why (answers.Enters filters responder) = outcomes.Entered
 outcome_by why (answers.LoginPage page is_saved) = outcomes.SentToLogin why
 outcome_by why (answers.NoLogin page) = outcomes.NoLogin why
 outcome_by why (answers.Denied page) = outcomes.Denied why
@@ -55,25 +58,29 @@ takes_login context method path content_type body = is_some context.descriptor.l
 
 -- The treatment of each message that is no login post names the server's outcome.
 abbrev pub OutcomesAreTheServers : Type 0
-OutcomesAreTheServers = (context : SiteContext) (method path : List ℕ) (content_type : Option (List ℕ)) (body : List ℕ)
-    → takes_login context method path content_type body ≡ false
-    → outcome_named (treatment context method path) ≡ Some (outcome (findings context method path))
+OutcomesAreTheServers = (context : SiteContext) (method : List ℕ) (canon : Canon) (content_type : Option (List ℕ)) (body : List ℕ)
+    → takes_login context method canon.path content_type body ≡ false
+    → outcome_named (treatment context method canon) ≡ Some (outcome (findings context method canon.path))
+
+-- A request that the constraints decide, in a context whose files may be known.
+abbrev pub judged_in : SiteContext → List ℕ → Canon → JudgedRequest
+judged_in context method canon = judged context (known_files context) method canon
 
 -- If nobody can log in, the constraints decide as on a request without a caller.
 abbrev pub CallersCanLogIn : Type 0
-CallersCanLogIn = (context : SiteContext) (method path : List ℕ)
+CallersCanLogIn = (context : SiteContext) (method : List ℕ) (canon : Canon)
     → can_log_in context ≡ false
-    → (judged context method path).decision ≡ verdict context.constraints context.descriptor.rules method path None
+    → (judged_in context method canon).decision ≡ verdict context.constraints context.descriptor.rules method canon.path None
 
 -- A message is explained as a login post exactly if it is one, its context has form login, and its path is not hidden.
 abbrev pub LoginPostsAreExplained : Type 0
-LoginPostsAreExplained = (context : SiteContext) (method path : List ℕ) (content_type : Option (List ℕ)) (body : List ℕ)
-    → is_login_post (treatment context method path) ≡ (not (is_protected path) && takes_login context method path content_type body)
+LoginPostsAreExplained = (context : SiteContext) (method : List ℕ) (canon : Canon) (content_type : Option (List ℕ)) (body : List ℕ)
+    → is_login_post (treatment context method canon) ≡ (not (is_protected canon.path) && takes_login context method canon.path content_type body)
 
 -- The pattern of the decision is the best pattern of the path.
 abbrev pub PatternsAreBest : Type 0
-PatternsAreBest = (context : SiteContext) (method path : List ℕ)
-    → (why_of (judged context method path).decision).pattern ≡ best_pattern (all_patterns context.constraints) path
+PatternsAreBest = (context : SiteContext) (method : List ℕ) (canon : Canon)
+    → (why_of (judged_in context method canon).decision).pattern ≡ best_pattern (all_patterns context.constraints) canon.path
 
 -- The constraints that are listed as covering.
 abbrev pub covering_listed : List ListedConstraint → List ListedConstraint
@@ -81,12 +88,12 @@ covering_listed listed = filter (λ constraint. constraint.is_covering) listed
 
 -- They are the constraints that cover the method at the best pattern, in order.
 abbrev pub CoveringIsExact : Type 0
-CoveringIsExact = (context : SiteContext) (method path : List ℕ) → let pattern = best_pattern (all_patterns context.constraints) path in
-    covering_listed (judged context method path).constraints
+CoveringIsExact = (context : SiteContext) (method : List ℕ) (canon : Canon) → let pattern = best_pattern (all_patterns context.constraints) canon.path in
+    covering_listed (judged_in context method canon).constraints
     ≡ map (listed_constraint context (unwrap_or pattern []) method) (covering context.constraints pattern method)
 
 -- If a constraint decides, it is listed as covering.
 abbrev pub DecidingIsListed : Type 0
-DecidingIsListed = (context : SiteContext) (method path : List ℕ) (number : ℕ)
-    → (why_of (judged context method path).decision).number ≡ Some number
-    → list_any (λ listed. listed.number == number) (covering_listed (judged context method path).constraints) ≡ true
+DecidingIsListed = (context : SiteContext) (method : List ℕ) (canon : Canon) (number : ℕ)
+    → (why_of (judged_in context method canon).decision).number ≡ Some number
+    → list_any (λ listed. listed.number == number) (covering_listed (judged_in context method canon).constraints) ≡ true

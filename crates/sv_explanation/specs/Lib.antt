@@ -1,9 +1,15 @@
 pub mod Callers
 pub mod Listed
 pub mod Servlets
+pub mod ContextFiles
+pub mod Pages
+pub mod Entries
 pub mod Treatment
+pub mod Heads
 pub mod Explanation
 pub mod Laws
+pub mod FileLaws
+pub mod HeadLaws
 pub mod AnswerLines
 pub mod ReasonLines
 pub mod Text

@@ -5,7 +5,7 @@ use Rattle.std.specs.Option.{option_map}
 use Rattle.sv_constraints.specs.Covering.{lists}
 use Rattle.sv_descriptor.specs.declared.servlet.ServletMapping.{ServletMapping}
 use Rattle.sv_mapping.specs.BestMatch.{best_pattern}
-use Rattle.sv_explanation.specs.declared.explanation.MatchedServlet.{MatchedServlet}
+use Rattle.sv_explanation.specs.declared.responder.MatchedServlet.{MatchedServlet}
 
 -- The patterns of servlet mappings.
 abbrev pub mapped_patterns : List ServletMapping → List (List ℕ)

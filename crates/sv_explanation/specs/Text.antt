@@ -15,6 +15,7 @@ use Rattle.sv_explanation.specs.declared.explanation.JudgedRequest.{JudgedReques
 use Rattle.sv_explanation.specs.declared.explanation.ServedRequest.{ServedRequest}
 use Rattle.sv_explanation.specs.declared.explanation.Treatment.{Treatment}
 use Rattle.sv_explanation.specs.declared.explanation.Treatment.TheVariants.{Hidden, LoginPost, Judged}
+use Rattle.sv_explanation.specs.declared.page.Page.{Page}
 use Rattle.sv_explanation.specs.declared.statuses.TheConstants.{NOT_FOUND}
 
 -- A request that the constraints decide: the caller if there is none that is asked for, the best pattern, the constraints on it, the reason and the answer.
@@ -26,7 +27,7 @@ judged_lines file method request = joined (
     ∷ reason_line method request.caller request.decision
     ∷ answer_lines request.answer ∷ [])
 
-abbrev pub hidden_lines : Option (List ℕ) → List ℕ
+abbrev pub hidden_lines : Option Page → List ℕ
 hidden_lines page = joined (codes "Its folder is hidden from clients.\n" ∷ error_line NOT_FOUND page ∷ [])
 
 abbrev pub treatment_lines : List ℕ → List ℕ → Treatment → List ℕ

@@ -1,6 +1,8 @@
 //! What the server does with a request, and why.
 
 use crate::listed_constraint::ListedConstraint;
+use crate::page::{ForwardedPage, Page};
+use crate::responder::Responder;
 use sv_constraints::OwnedDecision;
 use sv_text::{Listed, Text};
 use sv_uri::fault::PathFault;
@@ -9,8 +11,9 @@ use sv_wire::WireFault;
 /// What the server does with a request.
 #[derive(Drop)]
 pub enum Explanation {
-    /// The request is refused before any context sees it, with the status of the fault: `BadHead` if a request line
-    /// cannot hold the target, `BadTarget` if its form is not served (RFC 9112, sections 3 and 3.2).
+    /// The request is refused before any context sees it, with the status of the fault: `HeadTooLarge` if no head with
+    /// the method and the target ends within its limit, `BadHead` if a request line cannot hold the target, `BadTarget`
+    /// if its form is not served (RFC 9112, sections 2.3, 3 and 3.2).
     Unread(WireFault),
     /// The target is `*` of OPTIONS: the server itself answers, with status 200 and no body.
     OfServer,
@@ -42,7 +45,7 @@ pub struct ServedRequest {
 pub enum Treatment {
     /// The path is in a folder that is served to no client (Jakarta Servlet 6.0, section 10.5). The status is 404, with
     /// this error page.
-    Hidden(Option<Text>),
+    Hidden(Option<Page>),
     /// The request is a login post (section 13.6.3).
     LoginPost(LoginAnswers),
     /// The constraints decide (section 13.8).
@@ -54,10 +57,10 @@ pub enum Treatment {
 pub struct LoginAnswers {
     /// The location of the 303 if the name and the password fit, and no target was saved in the session.
     pub root: Text,
-    /// The login error page, with status 200, if they do not fit.
-    pub failure_page: Text,
+    /// The login error page, if they do not fit.
+    pub failure_page: ForwardedPage,
     /// The page of the error 503, if they fit and no session is available.
-    pub unavailable_page: Option<Text>,
+    pub unavailable_page: Option<Page>,
 }
 
 /// A request that the constraints decide.
@@ -89,26 +92,22 @@ pub enum JudgedCaller {
 /// The answer to a request that the constraints decide.
 #[derive(Drop)]
 pub enum Answer {
-    /// The request enters, and this servlet answers it, or files do.
-    Enters(Option<MatchedServlet>),
-    /// The login page, with status 200.
+    /// The request enters.
+    Enters {
+        /// The names of the filters that are called first, in order (section 6.2.4).
+        filters: Listed<Text>,
+        /// What answers it, if the filters let it.
+        responder: Responder,
+    },
+    /// The login page.
     LoginPage {
         /// The page.
-        page: Text,
+        page: ForwardedPage,
         /// Whether the target is saved for after the login, if a session is available.
         is_saved: bool,
     },
     /// A login is needed, and the context has no login configuration. The status is 403, with this error page.
-    NoLogin(Option<Text>),
+    NoLogin(Option<Page>),
     /// The status is 403, with this error page.
-    Denied(Option<Text>),
-}
-
-/// A servlet that takes a path.
-#[derive(Drop)]
-pub struct MatchedServlet {
-    /// The name of the servlet.
-    pub name: Text,
-    /// Its pattern that is the best match of the path.
-    pub pattern: Text,
+    Denied(Option<Page>),
 }

@@ -1,9 +1,11 @@
 //! The laws of explanations, each the contract of a function that at most cites laws of lower crates.
 
 ghost use Rattle.std.specs.Prelude.{◌≡◌};
+ghost use Rattle.sv_explanation.specs.FileLaws.{FilesAnswerAsExplained, PagesAreMissingAsExplained};
+ghost use Rattle.sv_explanation.specs.HeadLaws.{LongHeadsAreRefused, OtherHeadsEnd};
 ghost use Rattle.sv_explanation.specs.Laws.{CallersCanLogIn, CoveringIsExact, DecidingIsListed, LoginPostsAreExplained, OutcomesAreTheServers, PatternsAreBest};
 
-use crate::statuses::{FORBIDDEN, NOT_FOUND, SERVICE_UNAVAILABLE};
+use crate::statuses::{FORBIDDEN, FOUND, METHOD_NOT_ALLOWED, NOT_FOUND, SERVICE_UNAVAILABLE};
 
 /// The explanation of each message that is no login post names the outcome that the server's definition gives.
 pub fn outcomes_are_the_servers()
@@ -35,9 +37,33 @@ pub fn deciding_is_listed()
     ensures { DecidingIsListed }
 {}
 
+/// If no servlet takes a path, the explanation is that of the file servlet's answer, whatever the bytes of the files are.
+pub fn files_answer_as_explained()
+    ensures { FilesAnswerAsExplained }
+{}
+
+/// A page is explained as missing exactly if neither a servlet nor a file answers at its path, whatever the bytes of the
+/// files are.
+pub fn pages_are_missing_as_explained()
+    ensures { PagesAreMissingAsExplained }
+{}
+
+/// A method and a target are explained as a head that is too large only if the server refuses each of their heads for
+/// this fault.
+pub fn long_heads_are_refused()
+    ensures { LongHeadsAreRefused }
+{}
+
+/// If they are explained in any other way, one of their heads ends within its limit.
+pub fn other_heads_end()
+    ensures { OtherHeadsEnd }
+{}
+
 /// The values of this crate's constants, which both the definitions and the code use.
 pub fn limits_are_as_stated()
+    ensures found { FOUND ≡ 302 }
     ensures forbidden { FORBIDDEN ≡ 403 }
     ensures not_found { NOT_FOUND ≡ 404 }
+    ensures not_allowed { METHOD_NOT_ALLOWED ≡ 405 }
     ensures unavailable { SERVICE_UNAVAILABLE ≡ 503 }
 {}

@@ -14,6 +14,7 @@ ghost use Rattle.sv_uri.specs.Canonical.{canonical};
 ghost use Rattle.sv_explanation.specs.Explanation as spec;
 
 use crate::explanation::{Explanation, ServedRequest};
+use crate::heads::is_too_long;
 use crate::site_context::{Asked, SiteContext};
 use crate::treatments::treatment;
 use std::alloc::Global;
@@ -23,6 +24,7 @@ use sv_policy::ExplainFault;
 use sv_text::{NoMemory, Text};
 use sv_uri::canon;
 use sv_uri::fault::CanonFault;
+use sv_uri::path::Canon;
 use sv_wire::WireFault;
 
 /// Explains what the server does with a request. The target may be in any form. The rest of the request is taken to be
@@ -59,6 +61,9 @@ fn explanation_of(
 ) -> Result<Explanation, NoMemory>
     ensures { GivesAnswer result (spec.explanation_of contexts.now method.now target.now) }
 {
+    if is_too_long(method, target) {
+        return Ok(Explanation::Unread(WireFault::HeadTooLarge));
+    }
     if !is_writable(target.as_bytes()) {
         return Ok(Explanation::Unread(WireFault::BadHead));
     }
@@ -122,7 +127,7 @@ fn at_target(
         Err(CanonFault::Path(fault)) => return Ok(Explanation::BadPath(fault)),
         Err(CanonFault::NoMemory) => return Err(NoMemory),
     };
-    at_path(alloc, contexts, method, canonical.path.as_str())
+    at_path(alloc, contexts, method, canonical)
 }
 
 /// Explains a request for a canonical path.
@@ -130,13 +135,13 @@ fn at_path(
     alloc: Global,
     contexts: &[SiteContext],
     method: &str,
-    path: &str,
+    canon: Canon,
 ) -> Result<Explanation, NoMemory>
-    ensures { GivesAnswer result (spec.in_context method.now path.now (option_and_then (slice_get contexts.now) (spec.context_place contexts.now path.now))) }
+    ensures { GivesAnswer result (spec.in_context method.now canon (option_and_then (slice_get contexts.now) (spec.context_place contexts.now canon.path))) }
 {
-    match context_of(contexts, path) {
-        Some(context) => Ok(Explanation::InContext(served(alloc, context, method, path)?)),
-        None => Ok(Explanation::NoContext(Text::copy_of(alloc, path)?)),
+    match context_of(contexts, canon.path.as_str()) {
+        Some(context) => Ok(Explanation::InContext(served(alloc, context, method, canon)?)),
+        None => Ok(Explanation::NoContext(canon.path)),
     }
 }
 
@@ -155,17 +160,21 @@ fn served(
     alloc: Global,
     context: &SiteContext,
     method: &str,
-    path: &str,
+    canon: Canon,
 ) -> Result<ServedRequest, NoMemory>
-    requires { IsTrue (is_at_or_below context.now.path path.now) }
-    ensures { GivesAnswer result (spec.served method.now path.now context.now) }
+    requires { IsTrue (is_at_or_below context.now.path canon.path) }
+    ensures { GivesAnswer result (spec.served method.now canon context.now) }
 {
-    let within = path_within(context.path.as_str(), path);
+    let Canon { path, query } = canon;
+    let within = Canon {
+        path: Text::copy_of(alloc, path_within(context.path.as_str(), path.as_str()))?,
+        query,
+    };
     Ok(ServedRequest {
-        canonical: Text::copy_of(alloc, path)?,
+        canonical: path,
         context: Text::copy_of(alloc, context.path.as_str())?,
         file: Text::copy_of(alloc, context.file.as_str())?,
-        path: Text::copy_of(alloc, within)?,
-        treatment: treatment(alloc, context, method, within)?,
+        treatment: treatment(alloc, context, method, &within)?,
+        path: within.path,
     })
 }

@@ -9,6 +9,7 @@ ghost use Rattle.sv_explanation.specs.declared.explanation.Explanation.TheVarian
 
 use crate::answer_lines::{answer_lines, error_line, login_lines};
 use crate::explanation::{Explanation, JudgedRequest, ServedRequest, Treatment};
+use crate::page::Page;
 use crate::reason_lines::{caller_line, constraint_lines, pattern_line, reason_line};
 use crate::site_context::Asked;
 use crate::statuses::NOT_FOUND;
@@ -192,7 +193,7 @@ fn treatment_lines(
     }
 }
 
-fn hidden_lines(alloc: Global, page: &Option<Text>) -> Result<Text, NoMemory>
+fn hidden_lines(alloc: Global, page: &Option<Page>) -> Result<Text, NoMemory>
     ensures { GivesAnswer result (spec.hidden_lines page.now) }
 {
     let error = error_line(alloc, NOT_FOUND, page)?;

@@ -13,7 +13,7 @@ pub struct SiteContext {
     pub path: Text,
     /// The name of the file of its descriptor.
     pub file: Text,
-    /// The descriptor: its rules, servlets, login pages and error pages. Its constraints do not matter.
+    /// The descriptor: its rules, servlets, filters and pages. Its constraints do not matter.
     pub descriptor: Descriptor,
     /// The constraints, as a request meets them over the connection that is asked for.
     pub constraints: Listed<Constraint>,
@@ -21,6 +21,8 @@ pub struct SiteContext {
     pub lines: Listed<Option<u64>>,
     /// The caller that is asked for.
     pub caller: AskedCaller,
+    /// The paths of its static files, or none if they are not known.
+    pub files: Option<Listed<Text>>,
 }
 
 /// The caller that is asked for, in one context.

@@ -5,5 +5,5 @@ use Rattle.sv_explanation.proofs.OutcomeLemmas.{no_caller}
 use Rattle.sv_explanation.proofs.laws.callers_can_log_in.Goals as goal
 
 pub returns : goal.returns
-returns c context method path is =
-    ap (verdict context.constraints context.descriptor.rules method path) (no_caller (can_log_in context) context.caller is)
+returns c context method canon is =
+    ap (verdict context.constraints context.descriptor.rules method canon.path) (no_caller (can_log_in context) context.caller is)

@@ -8,7 +8,7 @@ use Rattle.sv_explanation.proofs.ListingLemmas.{at_pattern, listed_exactly}
 use Rattle.sv_explanation.proofs.laws.covering_is_exact.Goals as goal
 
 pub returns : goal.returns
-returns c context method path =
-    let pattern = best_pattern (all_patterns context.constraints) path in
+returns c context method canon =
+    let pattern = best_pattern (all_patterns context.constraints) canon.path in
     ap (λ found. covering_listed (listed_on context found method)) (at_pattern context.descriptor.rules (caller_of context) pattern (covering context.constraints pattern method))
     ∙ listed_exactly context method pattern

@@ -12,8 +12,8 @@ use Rattle.sv_explanation.proofs.ListingLemmas.{at_pattern, listed_exactly}
 use Rattle.sv_explanation.proofs.laws.deciding_is_listed.Goals as goal
 
 pub returns : goal.returns
-returns c context method path number is =
-    let pattern = best_pattern (all_patterns context.constraints) path in
+returns c context method canon number is =
+    let pattern = best_pattern (all_patterns context.constraints) canon.path in
     let members = covering context.constraints pattern method in
     let with_number : ListedConstraint → _ = λ (listed : ListedConstraint). listed.number == number in
     ap (λ found. list_any with_number (covering_listed (listed_on context found method))) (at_pattern context.descriptor.rules (caller_of context) pattern members)

@@ -5,6 +5,6 @@ use Rattle.sv_explanation.proofs.ListingLemmas.{at_pattern}
 use Rattle.sv_explanation.proofs.laws.patterns_are_best.Goals as goal
 
 pub returns : goal.returns
-returns c context method path =
-    let pattern = best_pattern (all_patterns context.constraints) path in
+returns c context method canon =
+    let pattern = best_pattern (all_patterns context.constraints) canon.path in
     at_pattern context.descriptor.rules (caller_of context) pattern (covering context.constraints pattern method)
