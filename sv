@@ -68,6 +68,12 @@ build_command() {
 
 case ${1:-} in
     build | release) build_command "$@" ;;
+    help)
+        if [[ $# == 2 && ($2 == build || $2 == release) ]]; then
+            usage "$2"
+            exit
+        fi
+        ;;&
     *)
         if runs_here && is_of_tree "$released"; then
             run=$released/sv
