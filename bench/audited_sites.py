@@ -156,7 +156,7 @@ def long_files(folder):
 
 
 def large(folder):
-    """A server with more rows and findings than a page shows."""
+    """A server with three contexts that together have more rows and findings than a page shows."""
     parts = [
         constraint(
             [f"/area/{number}/{place}/*" for place in range(PATTERNS)],
@@ -165,7 +165,11 @@ def large(folder):
         )
         for number in range(CONSTRAINTS)
     ]
-    return write(folder, [("", "root.toml", "".join(parts) + LOGIN)])
+    # The first context has 1,281 rows, so the page shows 719 of the second and none of the third.
+    texts = ["".join(parts[:20]), "".join(parts[20:]), parts[0]]
+    return write(
+        folder, [(path, f"d{path[1:]}.toml", text + LOGIN) for path, text in zip(["", "/x", "/y"], texts)]
+    )
 
 
 BUILT = {

@@ -15,7 +15,7 @@ WHO = {
     "uncovered-denied": ("nobody (uncovered, denied)", "nobody"),
 }
 FINDINGS = (
-    "opened",
+    "open",
     "uncovered",
     "read-otherwise",
     "head-differs",
@@ -81,6 +81,8 @@ def cells_of(context, row):
         return [hidden_cell(context)]
     if row["reach"] == "elsewhere":
         return [fixed_cell("hidden", "all", f"context {shown(row['context'])}")]
+    if row["reach"] == "unmatched":
+        return [fixed_cell("hidden", "all", "no request")]
     return [cell_of(it) for it in row["groups"]]
 
 
@@ -111,9 +113,20 @@ def paths_of(row):
     return "; ".join(parts)
 
 
+def shared(contexts):
+    """The contexts, each with how many of its rows and findings the page shows: the first ones of all."""
+    rows, findings = MAX_ROWS, MAX_FINDINGS
+    for it in contexts:
+        it["shownRows"] = min(rows, len(it["rows"]))
+        it["shownFindings"] = min(findings, len(it["findings"]))
+        rows -= it["shownRows"]
+        findings -= it["shownFindings"]
+    return contexts
+
+
 def rows_of(context):
     """The rows of a table: the pattern, the paths, what answers them, and the cells."""
-    for row in context["rows"][:MAX_ROWS]:
+    for row in context["rows"][: context["shownRows"]]:
         yield pattern_of(row), paths_of(row), answers_of(row), cells_of(context, row)
     yield ", ".join(context["hidden"]), "", "", [hidden_cell(context)]
     if context["loginPost"]:
@@ -126,18 +139,27 @@ def rows_of(context):
 
 def notes_of(context):
     """The notes below a table."""
-    count = len(context["rows"])
-    return [f"Only the first 2,000 of {count} rows are shown."] if count > MAX_ROWS else []
+    shown_rows, count = context["shownRows"], len(context["rows"])
+    if shown_rows == count:
+        return []
+    if not shown_rows:
+        return [f"None of its {count} rows are shown: the page shows {MAX_ROWS} rows at most."]
+    return [f"Only the first {shown_rows} of {count} rows are shown."]
 
 
 def findings_of(context):
     """The findings: the class, and what the text has."""
-    path, findings = context["context"], context["findings"]
-    for it in findings[:MAX_FINDINGS]:
+    path, findings, listed = context["context"], context["findings"], context["shownFindings"]
+    for it in findings[:listed]:
         subject = next(it[name] for name in SUBJECTS if it.get(name) is not None)
         words = [shown(subject) or '""' if isinstance(subject, str) else str(subject)]
         if it["line"] is not None:
             words.append(f" ({shown(context['file'])}:{it['line']})")
         yield "accepted" if it["accepted"] else "finding", path, words
-    if len(findings) > MAX_FINDINGS:
-        yield "", path, [f"Only the first 2,000 of {len(findings)} findings of {path} are listed."]
+    if listed == len(findings):
+        return
+    note = f"Only the first {listed} of {len(findings)} findings of {path} are listed."
+    if not listed:
+        limit = f"the page lists {MAX_FINDINGS} findings at most"
+        note = f"None of the {len(findings)} findings of {path} are listed: {limit}."
+    yield "", path, [note]
