@@ -8,6 +8,6 @@ pub returns : goal.returns
 returns c =
     let of_reaches : List (List ℕ) × List ℕ → Type 0 = λ reaches. GivesAnswer c.reported_rows.result (reported_rows c.args.patterns.now reaches c.in_ok-lists_prefix.field-0 c.args.nested.now c.args.rows) in
     let of_prefix : Bool → Type 0 = λ has_prefix.
-        GivesAnswer c.reported_rows.result (reported_rows c.args.patterns.now (c.args.context.now.surroundings.contexts, c.args.context.now.surroundings.path) has_prefix c.args.nested.now c.args.rows) in
+    GivesAnswer c.reported_rows.result (reported_rows c.args.patterns.now (c.args.context.now.surroundings.contexts, c.args.context.now.surroundings.path) has_prefix c.args.nested.now c.args.rows) in
     subst of_prefix (c.in_ok-lists_prefix.ensures ∙ ap (λ constraints. lists (all_patterns constraints) (codes "/*")) c.as_slice-2.ensures)
     (subst of_reaches (c.in_ok-of.ensures ∙ ap₂ (λ (paths : List (List ℕ)) (path : List ℕ). (paths, path)) c.as_slice.ensures c.as_str.ensures) c.reported_rows.ensures)
