@@ -79,11 +79,16 @@ line_of path (Some counts) = shown_context path ++ codes ": " ++ counts_text cou
 abbrev pub context_line : CheckedContext → List ℕ
 context_line context = line_of context.path context.counts
 
+-- a line for each context, or one that says that there is none
+abbrev pub context_lines : List CheckedContext → List ℕ
+context_lines [] = codes "no contexts\n"
+context_lines (first ∷ rest) = flat_map context_line (first ∷ rest)
+
 -- ---- the report
 
--- the text for these faults of a server; without a fault it is `ok` and a line for each context
+-- the text for these faults of a server; without a fault it is `ok` and the lines of the contexts
 abbrev pub IsText : List CommandFault → List CheckedContext → List ℕ → Type 0
-IsText [] contexts text = text ≡ codes "ok\n" ++ flat_map context_line contexts
+IsText [] contexts text = text ≡ codes "ok\n" ++ context_lines contexts
 IsText (found ∷ rest) contexts text = AreLines (found ∷ rest) text
 
 abbrev pub IsReport : CheckedServer → CheckReport → Type 0

@@ -16,7 +16,7 @@ use sv_uri::shown_context;
 
 /// Reads the server file of this name and everything else that [`run`](crate::run_command::run) reads. Opens no socket
 /// and calls no component. Writes `ok` and a line for each context, in the order of the server file, with the numbers
-/// of its components, constraints, users and files. If there are faults, it writes their lines instead: of each context
+/// of its components, constraints, users and files, or that there are no contexts. If there are faults, it writes their lines instead: of each context
 /// the first fault of its descriptor, of its users file, of its folder and of its classes, then that of a context beyond
 /// the last one that a container may have.
 ///
@@ -124,12 +124,16 @@ fn second_line(alloc: Global, detail: Option<Detail<'_>>) -> Result<Text, NoMemo
     }
 }
 
-/// Returns the line `ok`, and a line for each context.
+/// Returns the line `ok` and the lines of the contexts.
 fn count_lines(alloc: Global, contexts: &[CheckedContext]) -> Result<String, NoMemory>
-    ensures { IfOk result (λ text. string_bytes text ≡ codes "ok\n" ++ flat_map spec.context_line contexts.now) }
+    ensures { IfOk result (λ text. string_bytes text ≡ codes "ok\n" ++ spec.context_lines contexts.now) }
 {
     let mut text = String::new(alloc);
     text.push_str("ok\n")?;
+    if contexts.is_empty() {
+        text.push_str("no contexts\n")?;
+        return Ok(text);
+    }
     push_contexts(alloc, &mut text, contexts)?;
     Ok(text)
 }

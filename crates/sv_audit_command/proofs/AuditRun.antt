@@ -10,7 +10,7 @@ use Rattle.sv_program.specs.Configuration.{Step, server_in}
 use Rattle.sv_program.specs.ConfigurationFiles.{ReadsContexts, ReadsServer}
 use Rattle.sv_program.specs.FileStore.{AreRead, FileText, Giving, Reading}
 use Rattle.sv_program.specs.declared.command_fault.CommandFault.{CommandFault}
-use Rattle.sv_program.specs.declared.command_fault.CommandFault.TheVariants.{Input, Output, File, Server as ServerFault, Descriptor, Users, Class, Files, Start, Socket, Script, User, Method, NoMemory, Findings, Faults}
+use Rattle.sv_program.specs.declared.command_fault.CommandFault.TheVariants.{Input, Output, File, Folder, Server as ServerFault, Descriptor, Users, Class, Files, Start, Socket, Script, User, Method, NoMemory, Findings, Faults}
 use Rattle.sv_program.specs.declared.configuration.ContextTexts.{ContextTexts}
 use Rattle.sv_program.specs.declared.unavailable.Unavailable.TheVariants.{Missing}
 use Rattle.sv_text.specs.Gives.{Gives}
@@ -100,11 +100,12 @@ ends : (fault : CommandFault) (report : Step Report) (old new : Option (List ℕ
 ends Input report old new are h = absurd (are Input h)
 ends Output report old new are h = absurd (are Output h)
 ends (File name why) report old new are h = rw h refl
+ends (Folder name entry) report old new are h = rw h refl
 ends (ServerFault faulty) report old new are h = rw h refl
 ends (Descriptor context faulty) report old new are h = rw h refl
 ends (Users context faulty) report old new are h = rw h refl
 ends (Class name place known) report old new are h = rw h refl
-ends (Files context found) report old new are h = rw h refl
+ends (Files context found path) report old new are h = rw h refl
 ends (Start code context) report old new are h = rw h refl
 ends (Socket found) report old new are h = rw h refl
 ends (Script at) report old new are h = rw h refl
@@ -142,11 +143,12 @@ late Unwritten report (Ok done) old new is = tt
 late Unwritten report (Err Input) old new is = absurd is
 late Unwritten report (Err Output) old new is = λ before. absurd before
 late Unwritten report (Err (File name why)) old new is = absurd is
+late Unwritten report (Err (Folder name entry)) old new is = absurd is
 late Unwritten report (Err (ServerFault faulty)) old new is = absurd is
 late Unwritten report (Err (Descriptor context faulty)) old new is = absurd is
 late Unwritten report (Err (Users context faulty)) old new is = absurd is
 late Unwritten report (Err (Class name place known)) old new is = absurd is
-late Unwritten report (Err (Files context found)) old new is = absurd is
+late Unwritten report (Err (Files context found path)) old new is = absurd is
 late Unwritten report (Err (Start code context)) old new is = absurd is
 late Unwritten report (Err (Socket found)) old new is = absurd is
 late Unwritten report (Err (Script at)) old new is = absurd is

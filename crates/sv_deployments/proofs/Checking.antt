@@ -8,7 +8,7 @@ use Rattle.sv_realm.specs.declared.account.User.{User}
 use Rattle.sv_program.specs.CommandFault.{command_fault, status_of}
 use Rattle.sv_program.specs.Configuration.{Step, descriptor_in, each, users_in}
 use Rattle.sv_program.specs.declared.command_fault.CommandFault.{CommandFault}
-use Rattle.sv_program.specs.declared.command_fault.CommandFault.TheVariants.{Input, Output, File as FileFault, Server, Descriptor, Users, Class, Files, Start, Socket, Script, User as UserFault, Method, NoMemory, Findings, Faults}
+use Rattle.sv_program.specs.declared.command_fault.CommandFault.TheVariants.{Input, Output, File as FileFault, Folder, Server, Descriptor, Users, Class, Files, Start, Socket, Script, User as UserFault, Method, NoMemory, Findings, Faults}
 use Rattle.sv_program.specs.declared.configuration.ContextTexts.{ContextTexts}
 use Rattle.sv_deployments.specs.Check.{FindsFirstFault, checked_context, checked_server, class_fault_of, context_faults, counts_in, counts_of, fault_of, total_bytes}
 use Rattle.sv_deployments.specs.Counted.{AreTaken, AreTakenBy, IsAdded, IsNoMemory, IsTaken, app_counts, checked_app, classes_in, counts_for, faults_for, file_counts, joined, user_count}
@@ -29,11 +29,12 @@ pub is_no_memory : (fault : CommandFault) → IsNoMemory fault (nat_eq (status_o
 is_no_memory Input = refl
 is_no_memory Output = refl
 is_no_memory (FileFault name why) = refl
+is_no_memory (Folder name entry) = refl
 is_no_memory (Server faulty) = refl
 is_no_memory (Descriptor context faulty) = refl
 is_no_memory (Users context faulty) = refl
 is_no_memory (Class name place known) = refl
-is_no_memory (Files context found) = refl
+is_no_memory (Files context found path) = refl
 is_no_memory (Start code context) = refl
 is_no_memory (Socket found) = refl
 is_no_memory (Script line) = refl

@@ -1,7 +1,7 @@
 -- The fault of a part is the fault of the whole.
 use Rattle.std.proofs.Common.{◌≡◌, ℕ, List, Option, Some, None, MatchOption, Result, Ok, Err, IsErrAnd, refl}
 use Rattle.sv_text.specs.Gives.{Gives}
-use Rattle.sv_files.specs.Fault.{files_of}
+use Rattle.sv_files.specs.Fault.{bad_path, files_of, large_path}
 use Rattle.sv_files.specs.declared.fault.FilesFault.{FilesFault}
 use Rattle.sv_files.specs.declared.files.File.{File}
 use Rattle.sv_deployments.specs.Parts.{seen}
@@ -9,7 +9,7 @@ use Rattle.sv_program.specs.CommandFault.{command_fault}
 use Rattle.sv_program.specs.Configuration.{Step}
 use Rattle.sv_program.specs.declared.command_fault.CommandFault.{CommandFault}
 use Rattle.sv_program.specs.declared.command_fault.CommandFault.TheVariants as fault
-use Rattle.sv_deployments.specs.FilesFault.{files_fault, told}
+use Rattle.sv_deployments.specs.FilesFault.{path_for, served_files}
 use Rattle.sv_deployments.specs.Results.{both}
 
 -- if the whole fails with the fault of a part, a fault of that part is its result
@@ -27,8 +27,8 @@ ends {B = B} {X = X} view fault (Err e) part whole comes failed same = rw same (
 -- the result for a list of files that is refused
 pub refused_files : (path : List ℕ) (listed : List File) (found : Option FilesFault) (result : Step (List File))
     → MatchOption found (Unit {0}) (λ f. files_of listed ≡ Err f)
-    → MatchOption found (result ≡ Err fault.NoMemory) (λ f. Gives command_fault result (Err (files_fault path f)))
-    → Gives command_fault result (told path (files_of listed))
+    → MatchOption found (result ≡ Err fault.NoMemory) (λ f. Gives command_fault result (Err (fault.Files path f (path_for (bad_path listed) (large_path listed) f))))
+    → Gives command_fault result (served_files path listed)
 refused_files path listed None result h said = rw said tt
 refused_files path listed (Some f) result h said = rw h said
 

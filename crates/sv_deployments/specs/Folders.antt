@@ -3,12 +3,12 @@ use Rattle.std.specs.Prelude.{◌≡◌, ℕ, List, [], ◌∷◌, map, flat_map
 use Rattle.std.specs.Path.{path_with_file_name}
 use Rattle.sv_files.specs.declared.files.File.{File}
 use Rattle.sv_program.specs.declared.configuration.ContextTexts.{ContextTexts}
-use Rattle.sv_program.specs.declared.unavailable.Unavailable.{Unavailable}
+use Rattle.sv_program.specs.declared.unavailable.UnavailableEntry.{UnavailableEntry}
 use Rattle.sv_deployments.specs.declared.folders.FoundContext.{FoundContext}
 
--- the files of a folder, or why it is not available
+-- the files of a folder, or what of it is not available
 abbrev pub FolderFiles : Type 0
-FolderFiles = Result (List File) Unavailable
+FolderFiles = Result (List File) UnavailableEntry
 
 -- the requested name, and what a reading of the folder gave
 pub record FolderReading : Type 0 where

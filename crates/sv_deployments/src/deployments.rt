@@ -109,7 +109,10 @@ fn listed_files(alloc: Global, name: &str, files: FolderFiles) -> Result<Listed<
     }
     match files {
         Ok(files) => Ok(files),
-        Err(why) => Err(CommandFault::File(Text::copy_of(alloc, name)?, why)),
+        Err(entry) => {
+            let name = Text::copy_of(alloc, name)?;
+            Err(CommandFault::Folder { name, entry })
+        }
     }
 }
 

@@ -11,7 +11,7 @@ use std::io::{ErrorKind, Read};
 use std::rt::Files;
 use std::{fs, io};
 use sv_files::{File, MAX_FILE_BYTES, MAX_FILES};
-use sv_program::{Disk, Unavailable};
+use sv_program::{Disk, Unavailable, UnavailableEntry};
 use sv_text::{Listed, NoMemory, Text};
 
 impl<F: Files + AllocGlobal + Clone + Drop> FolderStore for Disk<'_, F> {
@@ -33,10 +33,9 @@ fn read_folder<F: Files + AllocGlobal + Clone + Drop>(
         waiting: Vec::new(alloc),
         files: Vec::new(alloc),
     };
-    match walk.read_all(alloc, files) {
-        Ok(()) => Ok(Ok(Listed::from_vec(walk.files))),
-        Err(error) if error.kind() == ErrorKind::OutOfMemory => Err(NoMemory),
-        Err(error) => Ok(Err(Unavailable::of(error.kind()))),
+    match walk.read_all(alloc, files)? {
+        None => Ok(Ok(Listed::from_vec(walk.files))),
+        Some(entry) => Ok(Err(entry)),
     }
 }
 
@@ -51,47 +50,61 @@ struct Walk<'a> {
 }
 
 impl Walk<'_> {
+    // Reads all folders. Returns the first entry that is not available.
     fn read_all<F: Files + AllocGlobal + Clone + Drop>(
         &mut self,
         alloc: Global,
         files: &F,
-    ) -> io::Result<()>
+    ) -> Result<Option<UnavailableEntry>, NoMemory>
         requires { length self.old.files.items ≤ MAX_FILES + 1 }
         ensures { length self.new.files.items ≤ MAX_FILES + 1 }
     {
         self.waiting.push(String::new(alloc))?;
         for _ in 0..u64::MAX {
             let Some(path) = self.waiting.pop() else {
-                return Ok(());
+                return Ok(None);
             };
-            self.read_entries(alloc, files, path.as_str())?;
-            if self.has_too_many() {
-                return Ok(());
+            let found = self.read_entries(alloc, files, path)?;
+            if found.is_some() || self.has_too_many() {
+                return Ok(found);
             }
         }
-        Err(io::Error::from(ErrorKind::Other))
+        let path = Text::from_string(String::new(alloc));
+        Ok(Some(unavailable(path, Unavailable::Other)))
     }
 
-    // Reads the entries of the folder at this path, up to the first file over the limit.
+    // Reads the entries of the folder at this path, up to the first file over the limit. Returns the first that is not
+    // available.
     fn read_entries<F: Files + AllocGlobal + Clone + Drop>(
         &mut self,
         alloc: Global,
         files: &F,
-        path: &str,
-    ) -> io::Result<()>
+        path: String,
+    ) -> Result<Option<UnavailableEntry>, NoMemory>
         requires { length self.old.files.items ≤ MAX_FILES + 1 }
         ensures { length self.new.files.items ≤ MAX_FILES + 1 }
     {
         let folder = format!(in alloc; "{}{path}", self.folder)?;
-        for entry in read_dir(files, folder.as_str())? {
+        let entries = match read_dir(files, folder.as_str()) {
+            Ok(entries) => entries,
+            Err(error) => return refused(Text::from_string(path), error),
+        };
+        for entry in entries {
             if self.has_too_many() {
-                return Ok(());
+                return Ok(None);
             }
-            let entry = entry?;
-            let path = format!(in alloc; "{path}/{}", entry.file_name())?;
-            self.take(alloc, files, &entry, path)?;
+            let found = match entry {
+                Ok(entry) => {
+                    let path = format!(in alloc; "{path}/{}", entry.file_name())?;
+                    self.take(alloc, files, &entry, path)?
+                }
+                Err(error) => return nameless(Text::from_string(path), error),
+            };
+            if found.is_some() {
+                return Ok(found);
+            }
         }
-        Ok(())
+        Ok(None)
     }
 
     fn has_too_many(&self) -> bool
@@ -100,32 +113,66 @@ impl Walk<'_> {
         self.files.len() > MAX_FILES
     }
 
-    // Handles the entry at this path: a folder is queued, and a regular file is read. Any other entry is an error.
+    // Handles the entry at this path: a folder is queued, and a regular file is read. Any other entry is not available.
     fn take<F: Files + AllocGlobal + Clone + Drop>(
         &mut self,
         alloc: Global,
         files: &F,
         entry: &DirEntry<F>,
         path: String,
-    ) -> io::Result<()>
+    ) -> Result<Option<UnavailableEntry>, NoMemory>
         requires { length self.old.files.items ≤ MAX_FILES }
         ensures { length self.new.files.items ≤ MAX_FILES + 1 }
     {
-        let kind = entry.file_type()?;
+        let kind = match entry.file_type() {
+            Ok(kind) => kind,
+            Err(error) => return refused(Text::from_string(path), error),
+        };
         if kind.is_dir() {
             self.waiting.push(path)?;
-            return Ok(());
+            return Ok(None);
         }
         if !kind.is_file() {
-            return Err(io::Error::from(ErrorKind::Unsupported));
+            let why = if kind.is_symlink() {
+                Unavailable::Link
+            } else {
+                Unavailable::SpecialFile
+            };
+            return Ok(Some(unavailable(Text::from_string(path), why)));
         }
-        let bytes = read_bytes(alloc, files, entry)?;
-        self.files.push(File {
-            path: Text::from_string(path),
-            bytes,
-        })?;
-        Ok(())
+        match read_bytes(alloc, files, entry) {
+            Ok(bytes) => {
+                self.files.push(File {
+                    path: Text::from_string(path),
+                    bytes,
+                })?;
+                Ok(None)
+            }
+            Err(error) => refused(Text::from_string(path), error),
+        }
     }
+}
+
+fn unavailable(path: Text, why: Unavailable) -> UnavailableEntry
+    ensures { (result.path ≡ path) × (result.why ≡ why) }
+{
+    UnavailableEntry { path, why }
+}
+
+// Returns the entry at this path, which the system refuses by this error.
+fn refused(path: Text, error: io::Error) -> Result<Option<UnavailableEntry>, NoMemory> {
+    if error.kind() == ErrorKind::OutOfMemory {
+        return Err(NoMemory);
+    }
+    Ok(Some(unavailable(path, Unavailable::of(error.kind()))))
+}
+
+// Returns the folder at this path, whose next entry the system refuses by this error.
+fn nameless(path: Text, error: io::Error) -> Result<Option<UnavailableEntry>, NoMemory> {
+    if error.kind() == ErrorKind::InvalidFilename {
+        return Ok(Some(unavailable(path, Unavailable::NamelessEntry)));
+    }
+    refused(path, error)
 }
 
 // Reads the bytes of a file, at most one more than it may have.

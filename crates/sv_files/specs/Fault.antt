@@ -1,6 +1,7 @@
 -- The faults of a list of files.
-use Rattle.std.specs.Prelude.{ℕ, Bool, not, ◌||◌, false, nat_lt, List, [], ◌∷◌, ◌++◌, length, codes, Option, Some, None, Result}
+use Rattle.std.specs.Prelude.{ℕ, Bool, not, ◌||◌, false, nat_lt, List, [], ◌∷◌, ◌++◌, length, codes, find, Option, Some, None, Result}
 use Rattle.std.specs.List.{list_any}
+use Rattle.std.specs.Option.{option_map}
 use Rattle.sv_text.specs.Faults.{when, first_or}
 use Rattle.sv_files.specs.Files.{is_file, is_file_path}
 use Rattle.sv_files.specs.declared.fault.FilesFault.{FilesFault}
@@ -19,6 +20,14 @@ list_faults files = when (list_any (λ file. not (is_file_path file.path)) files
     ++ when (repeats files) Duplicate
     ++ when (nat_lt MAX_FILES (length files)) TooMany
     ++ when (list_any (λ file. nat_lt MAX_FILE_BYTES (length file.bytes)) files) TooLarge
+
+-- The path of the first file with a path that no request can name.
+abbrev pub bad_path : List File → Option (List ℕ)
+bad_path files = option_map (λ file. file.path) (find (λ file. not (is_file_path file.path)) files)
+
+-- The path of the first file that is too large.
+abbrev pub large_path : List File → Option (List ℕ)
+large_path files = option_map (λ file. file.path) (find (λ file. nat_lt MAX_FILE_BYTES (length file.bytes)) files)
 
 -- The files of a list, or its first fault.
 abbrev pub files_of : List File → Result (List File) FilesFault

@@ -13,3 +13,4 @@ pub use answer::FileAnswer;
 pub use content_type::content_type_of;
 pub use fault::FilesFault;
 pub use files::{File, Files, MAX_FILE_BYTES, MAX_FILES, limits_of_files};
+pub use list::{first_bad_path, first_large_path};

@@ -3,14 +3,14 @@
 ghost use Rattle.std.specs.Prelude.{◌≡◌, nat_lt, length, not, MatchOption, IfOk, true, false};
 ghost use Rattle.std.specs.List.{list_any};
 ghost use Rattle.sv_text.specs.Gives.{GivesAnswer};
-ghost use Rattle.sv_files.specs.Fault.{repeats};
+ghost use Rattle.sv_files.specs.Fault.{bad_path, large_path, repeats};
 ghost use Rattle.sv_files.specs.Files as spec;
 ghost use Rattle.sv_files.specs.Index.{IsIndexOf};
 
 use crate::files::{File, MAX_FILE_BYTES};
 use crate::index::Index;
 use std::alloc::Global;
-use sv_text::NoMemory;
+use sv_text::{NoMemory, Text};
 use sv_uri::fault::CanonFault;
 use sv_uri::{canon, location};
 
@@ -24,6 +24,37 @@ pub(crate) fn has_bad_path(alloc: Global, files: &[File]) -> Result<bool, NoMemo
         }
     }
     Ok(false)
+}
+
+/// Returns the path of the first file whose path no request can name, or is a folder's.
+///
+/// # Errors
+/// `NoMemory` if memory runs out.
+pub fn first_bad_path(alloc: Global, files: &[File]) -> Result<Option<Text>, NoMemory>
+    ensures { GivesAnswer result (bad_path files.now) }
+{
+    for file in files {
+        let path = file.path.as_str();
+        if !is_file_path(alloc, path)? {
+            return Ok(Some(Text::copy_of(alloc, path)?));
+        }
+    }
+    Ok(None)
+}
+
+/// Returns the path of the first file that is longer than the limit.
+///
+/// # Errors
+/// `NoMemory` if memory runs out.
+pub fn first_large_path(alloc: Global, files: &[File]) -> Result<Option<Text>, NoMemory>
+    ensures { GivesAnswer result (large_path files.now) }
+{
+    for file in files {
+        if is_large(file) {
+            return Ok(Some(Text::copy_of(alloc, file.path.as_str())?));
+        }
+    }
+    Ok(None)
 }
 
 #[tactic(auto, unfolding(crate::specs::Files::is_file_path))]

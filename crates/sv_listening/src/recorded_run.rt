@@ -35,7 +35,7 @@ pub fn run_recorded<H: Net + Clock + Files + Eprint, W: Write, R: EventHandler +
         Ok(file) => file,
         Err(error) => return (Err(file_fault(alloc, name, error)), handler),
     };
-    let record = Record::new(alloc, WriteSink::new(file), StandardError { host });
+    let record = Record::new(alloc, WriteSink::new(file), StandardError { host, name });
     let recorder = Recorder::new(handler, record);
     let (served, recorder) = run_controlled(alloc, host, writer, options, recorder);
     (served, recorder.into_within())
@@ -53,12 +53,14 @@ fn open_to_append<H: Files>(host: &H, name: &str) -> io::Result<H::File> {
 #[derive(Drop)]
 struct StandardError<'a, H> {
     host: &'a H,
+    // The name of the journal.
+    name: &'a str,
 }
 
 impl<H: Eprint> Alarm for StandardError<'_, H> {
     fn is_losing(&mut self) {
         // If standard error cannot be written, the journal reports the loss once it can be written.
-        let _ = eprintln!(self.host; "sv: journal");
+        let _ = eprintln!(self.host; "sv: journal\n  {}: it cannot be written; its lines are lost until it can", self.name);
     }
 }
 

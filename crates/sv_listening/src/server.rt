@@ -1,6 +1,6 @@
 //! Serving all connections of an address at once.
 
-use crate::sockets::{address_fault, fault_of_run, file_fault};
+use crate::sockets::{address_fault, fault_of_run, socket_file_fault};
 use std::alloc::Global;
 use std::cell::Cell;
 use std::io::Write;
@@ -97,7 +97,7 @@ fn take_lines<H: Net + Files>(
     };
     match listening.take_lines_at(host, name) {
         Ok(()) => Ok(()),
-        Err(error) => Err(file_fault(alloc, name, error)),
+        Err(error) => Err(socket_file_fault(alloc, name, error)),
     }
 }
 

@@ -5,6 +5,7 @@ ghost use Rattle.sv_listening.specs.RunFault.{fault_of_run};
 
 use std::alloc::Global;
 use std::io;
+use std::io::ErrorKind;
 use std::net::{Ipv4Addr, Net, SocketAddr, SocketAddrV4, TcpListener};
 use sv_program::{CommandFault, SocketFault, Unavailable};
 use sv_run::RunFault;
@@ -39,8 +40,22 @@ pub(crate) fn address_fault(address: SocketAddr, error: io::Error) -> CommandFau
 
 /// Returns the fault for a file that cannot be used.
 pub(crate) fn file_fault(alloc: Global, name: &str, error: io::Error) -> CommandFault {
+    unavailable(alloc, name, Unavailable::of(error.kind()))
+}
+
+/// Returns the fault for a socket file that cannot be used. Its name is limited more than those of other files.
+pub(crate) fn socket_file_fault(alloc: Global, name: &str, error: io::Error) -> CommandFault {
+    let why = if error.kind() == ErrorKind::InvalidInput {
+        Unavailable::LongName
+    } else {
+        Unavailable::of(error.kind())
+    };
+    unavailable(alloc, name, why)
+}
+
+fn unavailable(alloc: Global, name: &str, why: Unavailable) -> CommandFault {
     match Text::copy_of(alloc, name) {
-        Ok(name) => CommandFault::File(name, Unavailable::of(error.kind())),
+        Ok(name) => CommandFault::File(name, why),
         Err(NoMemory) => CommandFault::NoMemory,
     }
 }

@@ -4,7 +4,7 @@ use Rattle.sv_program.specs.CommandFault.{command_fault}
 use Rattle.sv_program.specs.Configuration.{Step}
 use Rattle.sv_program.specs.Printed.{EndsBy, FindsText, Printing, Prints}
 use Rattle.sv_program.specs.declared.command_fault.CommandFault.{CommandFault}
-use Rattle.sv_program.specs.declared.command_fault.CommandFault.TheVariants.{Input, Output, File, Server, Descriptor, Users, Class, Files, Start, Socket, Script, User, Method, NoMemory, Findings, Faults}
+use Rattle.sv_program.specs.declared.command_fault.CommandFault.TheVariants.{Input, Output, File, Folder, Server, Descriptor, Users, Class, Files, Start, Socket, Script, User, Method, NoMemory, Findings, Faults}
 use Rattle.sv_program.proofs.Faults.{FaultsAreAsked}
 
 -- a fault of the text ends the run
@@ -13,11 +13,12 @@ ends : (fault : CommandFault) (text : Step (List ℕ)) (old : Option (List ℕ))
 ends Input text old asked h = absurd (asked Input h)
 ends Output text old asked h = absurd (asked Output h)
 ends (File name why) text old asked h = h
+ends (Folder name entry) text old asked h = h
 ends (Server faulty) text old asked h = h
 ends (Descriptor context faulty) text old asked h = h
 ends (Users context faulty) text old asked h = h
 ends (Class name place known) text old asked h = h
-ends (Files context found) text old asked h = h
+ends (Files context found path) text old asked h = h
 ends (Start code context) text old asked h = h
 ends (Socket found) text old asked h = h
 ends (Script at) text old asked h = h

@@ -9,7 +9,7 @@ use Rattle.sv_files.specs.Fault.{fault_number as files_number}
 use Rattle.sv_uri.specs.ContextPath.{shown_context}
 use Rattle.sv_program.specs.Shown.{printed_key}
 use Rattle.sv_program.specs.declared.command_fault.CommandFault.{CommandFault}
-use Rattle.sv_program.specs.declared.command_fault.CommandFault.TheVariants.{Input, Output, File, Server, Descriptor, Users, Class, Files, Start, Socket, Script, User, Method, NoMemory, Findings, Faults}
+use Rattle.sv_program.specs.declared.command_fault.CommandFault.TheVariants.{Input, Output, File, Folder, Server, Descriptor, Users, Class, Files, Start, Socket, Script, User, Method, NoMemory, Findings, Faults}
 
 -- the key of the fault in a configuration file, or `-` if the fault concerns the whole text or the key is empty
 abbrev pub key_text : List ℕ → List ℕ
@@ -24,11 +24,12 @@ abbrev pub fault_line : CommandFault → List ℕ
 fault_line Input = codes "sv: file stdin"
 fault_line Output = codes "sv: file stdout"
 fault_line (File name why) = codes "sv: file " ++ name
+fault_line (Folder name entry) = codes "sv: file " ++ name
 fault_line (Server faulty) = codes "sv: server " ++ fault_text faulty.found.fault
 fault_line (Descriptor context faulty) = codes "sv: descriptor " ++ shown_context context ++ codes " " ++ fault_text faulty.found.fault
 fault_line (Users context faulty) = codes "sv: users " ++ shown_context context ++ codes " " ++ fault_text faulty.found.fault
 fault_line (Class name place known) = codes "sv: class " ++ name
-fault_line (Files context found) = codes "sv: files " ++ shown_context context ++ codes " " ++ decimal (files_number found)
+fault_line (Files context found path) = codes "sv: files " ++ shown_context context ++ codes " " ++ decimal (files_number found)
 fault_line (Start code context) = codes "sv: start " ++ decimal (new_code_number code) ++ codes " " ++ shown_context context
 fault_line (Socket found) = codes "sv: socket"
 fault_line (Script line) = codes "sv: script " ++ decimal line
@@ -43,11 +44,12 @@ abbrev pub status_of : CommandFault → ℕ
 status_of Input = 1
 status_of Output = 1
 status_of (File name why) = 1
+status_of (Folder name entry) = 1
 status_of (Server faulty) = 1
 status_of (Descriptor context faulty) = 1
 status_of (Users context faulty) = 1
 status_of (Class name place known) = 1
-status_of (Files context found) = 1
+status_of (Files context found path) = 1
 status_of (Start code context) = 1
 status_of (Socket found) = 1
 status_of (Script line) = 2

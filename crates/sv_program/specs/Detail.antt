@@ -1,5 +1,5 @@
 -- The second line of a fault: the file, the place if it is known, the problem and the offending value.
-use Rattle.std.specs.Prelude.{◌≡◌, ◌≤◌, ℕ, ◌+◌, List, ◌++◌, codes, length, take, Option, Some, None, MatchOption}
+use Rattle.std.specs.Prelude.{◌≡◌, ◌≤◌, ℕ, ◌+◌, List, [], ◌∷◌, ◌++◌, codes, length, take, Option, Some, None, MatchOption}
 use Rattle.std.specs.Fmt.{decimal}
 use Rattle.std.specs.Net.Text.{socket_text}
 use Rattle.std.specs.Option.{option_and_then}
@@ -77,10 +77,22 @@ place_number (Filter place) = place + 1
 abbrev pub place_text : Place → List ℕ
 place_text place = place_kind place ++ codes " " ++ decimal (place_number place)
 
+-- a name, or that it is empty
+abbrev pub named : List ℕ → List ℕ
+named [] = codes "an empty name"
+named (first ∷ rest) = first ∷ rest
+
+-- the reason after the path of a file, if there is one
+abbrev pub with_path : Option (List ℕ) → List ℕ → List ℕ
+with_path None reason = reason
+with_path (Some path) reason = path ++ codes ": " ++ reason
+
 -- two spaces and the reason
 abbrev pub detail_text : Detail → List ℕ
 detail_text (detail.Line line) = line.now
-detail_text (detail.Named name why) = codes "  " ++ name.now ++ codes ": " ++ reason_text why
+detail_text (detail.Named name why) = codes "  " ++ named name.now ++ codes ": " ++ reason_text why
+detail_text (detail.Entry name path why) = codes "  " ++ name.now ++ path.now ++ codes ": " ++ reason_text why
+detail_text (detail.StaticFile path reason) = codes "  " ++ (path.now ++ (codes ": " ++ reason.now))
 detail_text (detail.Address address why) = codes "  " ++ socket_text address ++ codes ": " ++ reason_text why
 detail_text (detail.Component place) = codes "  " ++ place_text place ++ codes " of its descriptor: init failed"
 detail_text (detail.Classes place classes) = codes "  " ++ (place.now ++ (codes ": the program has " ++ classes.now))

@@ -6,7 +6,7 @@ use Rattle.sv_files.specs.declared.fault.FilesFault.TheVariants as files
 use Rattle.sv_journal.specs.declared.start_code.NewCode.{NewCode}
 use Rattle.sv_journal.specs.declared.start_code.NewCode.TheVariants as new
 use Rattle.sv_journal.specs.declared.start_code.StartCode.TheVariants as start
-use Rattle.sv_program.specs.Detail.{FaultInFile, IsDetail, detail_text, place_text}
+use Rattle.sv_program.specs.Detail.{FaultInFile, IsDetail, detail_text, named, place_text, with_path}
 use Rattle.sv_program.specs.FilePlace.{IsPlaceText, ValueInFile}
 use Rattle.sv_program.specs.Unavailable.{reason_text}
 use Rattle.sv_program.specs.declared.command_fault.CommandFault.{CommandFault}
@@ -16,12 +16,12 @@ use Rattle.sv_program.specs.declared.detail.Detail.TheVariants as detail
 use Rattle.sv_program.specs.declared.socket_fault.SocketFault.{SocketFault}
 use Rattle.sv_program.specs.declared.socket_fault.SocketFault.TheVariants as socket
 
--- why the static files of a context are refused
+-- why the static files of a context are refused, after the path of the file that has the fault
 abbrev pub files_reason : FilesFault → List ℕ
-files_reason files.BadPath = codes "a file has a path that no request target can name"
+files_reason files.BadPath = codes "no request target can name this path"
 files_reason files.Duplicate = codes "two files have the same path"
 files_reason files.TooMany = codes "there are more than 10,000 files"
-files_reason files.TooLarge = codes "a file has more than 1,048,576 bytes"
+files_reason files.TooLarge = codes "the file has more than 1,048,576 bytes"
 files_reason files.NoMemory = codes "memory ran out"
 
 -- why a container does not start
@@ -56,12 +56,13 @@ SaysClasses place known given =
 
 -- the second line of a fault; only that of memory has none
 abbrev pub IsFaultDetail : CommandFault → Option Detail → Type 0
-IsFaultDetail (fault.File name why) given = Says (name ++ codes ": " ++ reason_text why) given
+IsFaultDetail (fault.File name why) given = Says (named name ++ codes ": " ++ reason_text why) given
+IsFaultDetail (fault.Folder name entry) given = Says (name ++ entry.path ++ codes ": " ++ reason_text entry.why) given
 IsFaultDetail (fault.Server faulty) given = HasLine faulty given
 IsFaultDetail (fault.Descriptor context faulty) given = HasLine faulty given
 IsFaultDetail (fault.Users context faulty) given = HasLine faulty given
 IsFaultDetail (fault.Class name place known) given = SaysClasses place known given
-IsFaultDetail (fault.Files context found) given = Says (files_reason found) given
+IsFaultDetail (fault.Files context found path) given = Says (with_path path (files_reason found)) given
 IsFaultDetail (fault.Start code context) given = Says (start_reason code) given
 IsFaultDetail (fault.Socket found) given = Says (socket_reason found) given
 IsFaultDetail (fault.Script line) given = Says (codes "the line is malformed, or the container refuses what it requests") given

@@ -9,7 +9,7 @@ use crate::detail::{Detail, files_detail, socket_detail, start_detail};
 use crate::file_fault::FileFault;
 use crate::file_place::FilePlace;
 use crate::socket_fault::SocketFault;
-use crate::unavailable::Unavailable;
+use crate::unavailable::{Unavailable, UnavailableEntry};
 use std::alloc::{AllocError, AllocFailed};
 use std::error::Error;
 use std::fmt;
@@ -27,9 +27,16 @@ pub enum CommandFault {
     Input,
     /// Standard output could not be written: `sv: file stdout`, status 1. A part of the output may have been written.
     Output,
-    /// A file or a directory of this name is not available: `sv: file NAME`, status 1. The name is the one in the
-    /// arguments or in the server file, or `random` for the system's random source.
+    /// A file of this name is not available: `sv: file NAME`, status 1. The name is the one in the arguments or in the
+    /// server file, or `random` for the system's random source.
     File(Text, Unavailable),
+    /// A directory of static files is not available: `sv: file NAME`, status 1.
+    Folder {
+        /// The name of the directory in the server file.
+        name: Text,
+        /// What of the directory is not available.
+        entry: UnavailableEntry,
+    },
     /// The server file does not have the required format: `sv: server CODE KEY`, status 1.
     Server(FileFault),
     /// The deployment descriptor of the context does not have the required format: `sv: descriptor CONTEXT CODE KEY`,
@@ -62,6 +69,8 @@ pub enum CommandFault {
         context: Text,
         /// The reason.
         fault: FilesFault,
+        /// The path of the file that has a path that no target can name, or too many bytes.
+        path: Option<Text>,
     },
     /// The container does not start: `sv: start CODE CONTEXT`, status 1.
     Start {
@@ -98,6 +107,7 @@ impl CommandFault {
             CommandFault::Input
             | CommandFault::Output
             | CommandFault::File(_, _)
+            | CommandFault::Folder { .. }
             | CommandFault::Server(_)
             | CommandFault::Descriptor { .. }
             | CommandFault::Users { .. }
@@ -121,13 +131,18 @@ impl CommandFault {
     {
         match self {
             CommandFault::File(name, why) => Some(Detail::Named(name.as_str(), *why)),
+            CommandFault::Folder { name, entry } => Some(Detail::Entry(
+                name.as_str(),
+                entry.path.as_str(),
+                entry.why,
+            )),
             CommandFault::Server(fault) => Some(Detail::Line(fault.detail())),
             CommandFault::Descriptor { fault, .. } => Some(Detail::Line(fault.detail())),
             CommandFault::Users { fault, .. } => Some(Detail::Line(fault.detail())),
             CommandFault::Class { place, known, .. } => {
                 Some(Detail::Classes(place.text(), known.as_str()))
             }
-            CommandFault::Files { fault, .. } => Some(files_detail(*fault)),
+            CommandFault::Files { fault, path, .. } => Some(files_detail(path, *fault)),
             CommandFault::Start { code, .. } => Some(start_detail(*code)),
             CommandFault::Socket(fault) => Some(socket_detail(*fault)),
             CommandFault::Script { .. } => Some(Detail::Sentence(SCRIPT_REASON)),
@@ -174,6 +189,7 @@ impl CommandFault {
             CommandFault::Input => plain("sv: file stdin"),
             CommandFault::Output => plain("sv: file stdout"),
             CommandFault::File(name, _) => named("sv: file ", name.as_str()),
+            CommandFault::Folder { name, .. } => named("sv: file ", name.as_str()),
             CommandFault::Server(fault) => Line {
                 front: "sv: server",
                 place: "",
@@ -190,7 +206,7 @@ impl CommandFault {
                 end: LineEnd::Shown(numbered(fault)),
             },
             CommandFault::Class { name, .. } => named("sv: class ", name.as_str()),
-            CommandFault::Files { context, fault } => Line {
+            CommandFault::Files { context, fault, .. } => Line {
                 front: "sv: files ",
                 place: shown_context(context.as_str()),
                 end: LineEnd::Number(u64::from(fault.number())),

@@ -10,6 +10,7 @@ use std::fmt;
 use std::net::SocketAddr;
 use sv_files::FilesFault;
 use sv_journal::{NewCode, Place, StartCode};
+use sv_text::Text;
 
 /// The second line of a fault. It is printed without its line feed.
 #[derive(Clone, Copy)]
@@ -17,8 +18,12 @@ pub enum Detail<'a> {
     /// The line of a fault of a configuration file: `  FILE:LINE: PROBLEM: VALUE`. The number of the line is left out if
     /// it is not known, and the value if it is secret or the problem is not about a value.
     Line(&'a str),
-    /// The file or directory of this name is not available: `  NAME: REASON`.
+    /// The file of this name is not available: `  NAME: REASON`. An empty name is told in words.
     Named(&'a str, Unavailable),
+    /// The directory of this name, or the entry at this path within it, is not available: `  NAMEPATH: REASON`.
+    Entry(&'a str, &'a str, Unavailable),
+    /// The static file at this path is refused: `  PATH: REASON`.
+    StaticFile(&'a str, &'static str),
     /// The address is not available: `  ADDRESS: REASON`.
     Address(SocketAddr, Unavailable),
     /// The component whose `init` failed: `  servlet PLACE of its descriptor: init failed`. The place counts the
@@ -41,7 +46,12 @@ impl fmt::Display for Detail<'_> {
     fn fmt<W: fmt::Write>(&self, f: &mut fmt::Formatter<W>) -> fmt::Result {
         match self {
             Detail::Line(line) => write!(f, "{line}"),
+            Detail::Named(name, why) if name.is_empty() => {
+                write!(f, "  an empty name: {}", why.text())
+            }
             Detail::Named(name, why) => write!(f, "  {name}: {}", why.text()),
+            Detail::Entry(name, path, why) => write!(f, "  {name}{path}: {}", why.text()),
+            Detail::StaticFile(path, reason) => write!(f, "  {path}: {reason}"),
             Detail::Address(address, why) => write!(f, "  {address}: {}", why.text()),
             Detail::Component(place) => write!(
                 f,
@@ -77,17 +87,27 @@ fn number_of(place: Place) -> u128
     }
 }
 
-/// Returns the second line for static files that are refused.
-pub(crate) fn files_detail(fault: FilesFault) -> Detail<'static>
-    ensures { spec.detail_text result ≡ codes "  " ++ files_reason fault }
+/// Returns the second line for static files that are refused, because of the file at this path if there is one.
+pub(crate) fn files_detail(path: &Option<Text>, fault: FilesFault) -> Detail<'_>
+    ensures { spec.detail_text result ≡ codes "  " ++ spec.with_path path.now (files_reason fault) }
 {
-    Detail::Sentence(match fault {
-        FilesFault::BadPath => "a file has a path that no request target can name",
+    match path {
+        Some(path) => Detail::StaticFile(path.as_str(), files_reason(fault)),
+        None => Detail::Sentence(files_reason(fault)),
+    }
+}
+
+/// Returns why static files are refused, in words.
+fn files_reason(fault: FilesFault) -> &'static str
+    ensures { result.now ≡ files_reason fault }
+{
+    match fault {
+        FilesFault::BadPath => "no request target can name this path",
         FilesFault::Duplicate => "two files have the same path",
         FilesFault::TooMany => "there are more than 10,000 files",
-        FilesFault::TooLarge => "a file has more than 1,048,576 bytes",
+        FilesFault::TooLarge => "the file has more than 1,048,576 bytes",
         FilesFault::NoMemory => "memory ran out",
-    })
+    }
 }
 
 /// Returns the second line for a container that does not start.

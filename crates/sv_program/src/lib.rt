@@ -46,6 +46,6 @@ pub use output::{print_line, print_text, report_fault};
 pub use socket_fault::SocketFault;
 pub use sv_constraints::{OwnedDecision, OwnedWhy};
 pub use toml_value::quoted;
-pub use unavailable::Unavailable;
+pub use unavailable::{Unavailable, UnavailableEntry};
 pub use uncovered_command::uncovered;
 pub use uncovered_report::{gap_lines, uncovered_lines};

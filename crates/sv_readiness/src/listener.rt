@@ -45,9 +45,12 @@ impl Listening {
     /// user) may connect. An existing socket file without a listener is replaced.
     ///
     /// # Errors
-    /// The system's: another file has that name, another process listens there, or the socket or its mode could not be
-    /// set up. The socket file may then exist.
+    /// `AlreadyExists` if a file that is no socket has that name. Otherwise the system's: another process listens there,
+    /// or the socket or its mode could not be set up. The socket file may then exist.
     pub fn take_lines_at<H: Files + Net>(&mut self, host: &H, path: &str) -> io::Result<()> {
+        if is_other_file(host, path) {
+            return Err(io::Error::from(ErrorKind::AlreadyExists));
+        }
         if is_left(host, path) {
             remove_file(host, path)?;
         }
@@ -93,6 +96,14 @@ fn turn_away(listener: &UnixListener) {
         if listener.accept().is_err() {
             return;
         }
+    }
+}
+
+// Whether the path is that of a file that is no socket.
+fn is_other_file<H: Files>(host: &H, path: &str) -> bool {
+    match symlink_metadata(host, path) {
+        Ok(found) => !found.file_type().is_socket(),
+        Err(_) => false,
     }
 }
 

@@ -5,9 +5,8 @@ use Rattle.sv_text.specs.Steps.{◌>>=◌}
 use Rattle.sv_component.specs.declared.components.Named.{Named}
 use Rattle.sv_lifecycle.specs.declared.deployment.Deployment as context
 use Rattle.sv_descriptor.specs.declared.web_app.WebApp.{WebApp}
-use Rattle.sv_deployments.specs.FilesFault.{told}
+use Rattle.sv_deployments.specs.FilesFault.{served_files}
 use Rattle.sv_deployments.specs.Results.{both}
-use Rattle.sv_files.specs.Fault.{files_of}
 use Rattle.sv_files.specs.declared.files.File.{File}
 use Rattle.sv_program.specs.CommandFault.{command_fault}
 use Rattle.sv_program.specs.Configuration.{Step, descriptor_in, each, users_in}
@@ -35,7 +34,7 @@ configured texts = both (descriptor_in texts) (users_in texts)
 
 -- the descriptor, the users and the files, or the first fault among them
 abbrev pub read_of : List ℕ → List ℕ → List ℕ → List File → Step ((WebApp × List User) × List File)
-read_of path descriptor users files = both (configured (texts_of path descriptor users)) (told path (files_of files))
+read_of path descriptor users files = both (configured (texts_of path descriptor users)) (served_files path files)
 
 -- the deployment of a context, with its components as lists
 pub record Deployed (S F L : Type 0) : Type 0 where
