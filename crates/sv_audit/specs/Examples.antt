@@ -22,9 +22,9 @@ plain_paths = codes "/page" ∷ codes "/page.html" ∷ codes "/a/page" ∷ codes
 abbrev pub extension_fronts : List (List ℕ)
 extension_fronts = codes "/page." ∷ codes "/a/page." ∷ codes "/b/page." ∷ codes "/index." ∷ codes "/a/b/page." ∷ []
 
--- The paths of a prefix pattern, without the prefix.
+-- The paths of a prefix pattern, without the prefix; the last is the prefix itself.
 abbrev pub prefix_ends : List (List ℕ)
-prefix_ends = codes "/page" ∷ codes "/page.html" ∷ codes "/" ∷ codes "/b/page" ∷ codes "/index" ∷ []
+prefix_ends = codes "/page" ∷ codes "/page.html" ∷ codes "/" ∷ codes "/b/page" ∷ codes "/index" ∷ [] ∷ []
 
 -- The paths to try for a pattern, or for the paths that no pattern matches.
 abbrev pub candidates_of : Form → List (List ℕ)

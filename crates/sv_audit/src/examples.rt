@@ -28,8 +28,9 @@ const PLAIN_PATHS: [&str; 6] = [
 /// The paths to try for an extension pattern, without the extension.
 const EXTENSION_FRONTS: [&str; 5] = ["/page.", "/a/page.", "/b/page.", "/index.", "/a/b/page."];
 
-/// The paths to try for a prefix pattern, without the prefix.
-const PREFIX_ENDS: [&str; 5] = ["/page", "/page.html", "/", "/b/page", "/index"];
+/// The paths to try for a prefix pattern, without the prefix. The last is the prefix itself: of a prefix that ends in a
+/// slash no other path can be requested.
+const PREFIX_ENDS: [&str; 6] = ["/page", "/page.html", "/", "/b/page", "/index", ""];
 
 /// Returns a path of this context whose best match among the patterns is this one, or a path that no pattern matches
 /// (Jakarta Servlet 6.0, section 12.1). The others are the paths of the other contexts within this one, relative to it.

@@ -1,8 +1,9 @@
 -- Patterns that decide nothing (Jakarta Servlet 6.0, sections 3.5.2, 12.1 and 12.2).
-use Rattle.std.specs.Prelude.{ℕ, Bool, ◌&&◌, ◌||◌, ◌==◌, List, [], codes, filter, map, if◌then◌else◌}
-use Rattle.std.specs.List.{flat_map, list_all, list_any}
+use Rattle.std.specs.Prelude.{ℕ, Bool, ◌&&◌, ◌||◌, ◌==◌, List, [], codes, drop, filter, map, if◌then◌else◌}
+use Rattle.std.specs.List.{flat_map, list_all, list_any, slice_split}
 use Rattle.std.specs.Str.{byte, bytes_eq}
 use Rattle.sv_mapping.specs.Pattern.{is_extension_pattern}
+use Rattle.sv_uri.specs.Segment.{begins_with_digits}
 use Rattle.sv_constraints.specs.Covering.{patterns_in}
 use Rattle.sv_constraints.specs.declared.constraint.Constraint.{Constraint}
 use Rattle.sv_audit.specs.Shapes.{matches_nothing}
@@ -36,9 +37,10 @@ dead_patterns_in has_prefix constraint =
 abbrev pub dead_patterns : Bool → List Constraint → List Finding
 dead_patterns has_prefix constraints = flat_map (dead_patterns_in has_prefix) constraints
 
--- Whether the pattern has a percent sign. It is compared with the decoded path (section 3.5.2).
+-- Whether the pattern has an escape: a percent sign and two hexadecimal digits. It is compared with the decoded path
+-- (section 3.5.2).
 abbrev pub is_escaped : List ℕ → Bool
-is_escaped pattern = list_any (λ b. b == byte "%") pattern
+is_escaped pattern = list_any begins_with_digits (drop 1 (slice_split (λ b. b == byte "%") pattern))
 
 abbrev pub escaped_in : Constraint → List Finding
 escaped_in constraint = map (finding.Escaped constraint.number) (filter is_escaped (patterns_in constraint))

@@ -3,6 +3,7 @@
 ghost use Rattle.std.specs.Prelude.{◌≡◌, ◌++◌, IfOk, OnOk, codes, filter, map};
 ghost use Rattle.std.specs.List.{list_all, list_any};
 ghost use Rattle.sv_constraints.specs.Covering as covering;
+ghost use Rattle.sv_uri.specs.Segment.{begins_with_digits};
 ghost use Rattle.sv_findings.specs.Dead as spec;
 ghost use Rattle.sv_findings.specs.declared.finding.Finding.TheVariants as finding;
 
@@ -149,7 +150,7 @@ fn push_dead_of(
     Ok(())
 }
 
-/// Appends the patterns with percent signs.
+/// Appends the patterns with escapes.
 pub fn push_escaped(
     findings: &mut Vec<Finding>,
     alloc: Global,
@@ -194,5 +195,18 @@ fn push_escaped_of(
 fn is_escaped(pattern: &str) -> bool
     ensures { result ≡ spec.is_escaped pattern.now }
 {
-    pattern.as_bytes().contains(&b'%')
+    pattern
+        .as_bytes()
+        .split(|b| *b == b'%')
+        .skip(1)
+        .any(|behind_percent| begins_with_digits(behind_percent))
+}
+
+fn begins_with_digits(bytes: &[u8]) -> bool
+    ensures { result ≡ begins_with_digits bytes.now }
+{
+    match bytes {
+        [high, low, ..] => high.is_ascii_hexdigit() && low.is_ascii_hexdigit(),
+        _ => false,
+    }
 }
