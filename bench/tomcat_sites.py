@@ -16,6 +16,7 @@ import urllib.parse
 import xml.etree.ElementTree
 from pathlib import Path
 from typing import Callable, Iterator, NamedTuple, Optional
+from xml.sax.saxutils import quoteattr
 
 HERE = Path(__file__).resolve().parent
 TOP = HERE.parent
@@ -23,6 +24,7 @@ sys.path.insert(0, str(TOP / "tools"))
 
 from deciding import rank  # noqa: E402
 from importing import descriptor, users  # noqa: E402
+from importing.role_names import imported_role  # noqa: E402
 from importing.toml import Value  # noqa: E402
 from importing.told import Told  # noqa: E402
 
@@ -92,6 +94,8 @@ class Site:
         ]
         (self.room / "users.toml").write_text("\n".join(entries), encoding="utf-8")
         self.web_xml = compared_part(path)
+        # The importer replaces the names of some roles. Tomcat's callers have the old ones.
+        self.old_roles = {imported_role(it): it for it in roles_in(self.web_xml)}
         self.uses_form = b"<auth-method>FORM" in self.web_xml
 
     def _server_text(self, contexts: list[str]) -> str:
@@ -184,6 +188,12 @@ def compared_part(path: Path) -> bytes:
     return parse.tostring(root)
 
 
+def roles_in(web_xml: bytes) -> list[str]:
+    """The names of roles in a web.xml, as Tomcat reads them."""
+    root = xml.etree.ElementTree.fromstring(web_xml)
+    return [(it.text or "").strip() for it in root.findall(".//{*}role-name")]
+
+
 class Tomcat:
     """A Tomcat of its own, and the connection to it."""
 
@@ -220,10 +230,12 @@ class Tomcat:
     def _write_configuration(self, sites: list[Site]) -> None:
         classes = self._write_base("Reached.java")
         names = {
-            site.user(caller): roles for site in sites for caller, roles in site.callers.items()
+            site.user(caller): [site.old_roles[it] for it in roles]
+            for site in sites
+            for caller, roles in site.callers.items()
         }
         entries = [
-            f'<user username="{name}" password="{PASSWORD}" roles="{",".join(roles)}"/>'
+            f'<user username={quoteattr(name)} password="{PASSWORD}" roles={quoteattr(",".join(roles))}/>'
             for name, roles in names.items()
         ]
         (self.base / "conf/tomcat-users.xml").write_text(
