@@ -168,7 +168,8 @@ def large(folder):
     # The first context has 1,281 rows, so the page shows 719 of the second and none of the third.
     texts = ["".join(parts[:20]), "".join(parts[20:]), parts[0]]
     return write(
-        folder, [(path, f"d{path[1:]}.toml", text + LOGIN) for path, text in zip(["", "/x", "/y"], texts)]
+        folder,
+        [(path, f"d{path[1:]}.toml", text + LOGIN) for path, text in zip(["", "/x", "/y"], texts)],
     )
 
 
