@@ -106,9 +106,9 @@ def _methods(element: Element, told: Told) -> Table:
     listed, omitted = list(element.all("http-method")), list(element.all("http-method-omission"))
     if listed and omitted:
         told.tell(
-            Rank.SECURITY,
+            Rank.ERROR,
             omitted[0].line,
-            "a collection has one list of methods: http-method-omission is not read; Tomcat does not start such an application",
+            "a collection has http-method or http-method-omission, not both; Tomcat does not start such an application",
         )
     key = "http-method" if listed else "http-method-omission"
     methods = [child.text for child in listed or omitted if _is_method_told(child, told)]
