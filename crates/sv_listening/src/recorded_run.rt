@@ -60,7 +60,10 @@ struct StandardError<'a, H> {
 impl<H: Eprint> Alarm for StandardError<'_, H> {
     fn is_losing(&mut self) {
         // If standard error cannot be written, the journal reports the loss once it can be written.
-        let _ = eprintln!(self.host; "sv: journal\n  {}: it cannot be written; its lines are lost until it can", self.name);
+        let _ = eprintln!(self.host;
+            "sv: journal\n  {}: it cannot be written; its lines are lost until it can",
+            self.name
+        );
     }
 }
 
