@@ -195,8 +195,13 @@ fn push_escaped_of(
 fn is_escaped(pattern: &str) -> bool
     ensures { result ≡ spec.is_escaped pattern.now }
 {
-    pattern
-        .as_bytes()
+    has_escape(pattern.as_bytes())
+}
+
+fn has_escape(bytes: &[u8]) -> bool
+    ensures { result ≡ spec.is_escaped bytes.now }
+{
+    bytes
         .split(|b| *b == b'%')
         .skip(1)
         .any(|behind_percent| begins_with_digits(behind_percent))
