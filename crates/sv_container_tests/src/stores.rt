@@ -4,7 +4,7 @@ use bytes::Bytes;
 use std::alloc::Global;
 use sv_deployments::{FolderFiles, FolderStore};
 use sv_files::File;
-use sv_program::{FileStore, FileText, Unavailable};
+use sv_program::{FileStore, FileText, Unavailable, UnavailableEntry};
 use sv_text::{Listed, NoMemory, Text};
 
 /// The store of a server with a root context and the context `/two`.
@@ -67,7 +67,10 @@ impl FileStore for Store<'_> {
 impl FolderStore for Store<'_> {
     fn read_files(&mut self, alloc: Global, name: &str) -> Result<FolderFiles, NoMemory> {
         if !self.note(name)? {
-            return Ok(Err(Unavailable::Missing));
+            return Ok(Err(UnavailableEntry {
+                path: Text::copy_of(alloc, "")?,
+                why: Unavailable::Missing,
+            }));
         }
         let mut files = Vec::new(alloc);
         for path in self.files.split(' ') {
