@@ -7,7 +7,7 @@ mod options;
 
 pub use application::{exit_code, run_application};
 pub use options::Options;
-pub use sv_program::{CommandFault, Detail, FileFault, SocketFault, Unavailable};
+pub use sv_program::{CommandFault, Detail, FileFault, SocketFault, Unavailable, UnavailableEntry};
 pub use sv_web::{
     Attribute, Caller, Config, Deployment, Event, Exchange, ExchangeFault, Fault, Field, Filter,
     Gate, Init, Kind, Listener, Named, NewCookie, NoMemory, Param, RedirectKind, SameSite, Servlet,
