@@ -1,6 +1,6 @@
 -- The text of access tables and their findings.
-use Rattle.std.specs.Prelude.{ℕ, ◌-◌, Bool, nat_lt, List, [], ◌∷◌, ◌++◌, chars, codes, length, Option, replicate, if◌then◌else◌}
-use Rattle.std.specs.List.{flat_map}
+use Rattle.std.specs.Prelude.{ℕ, ◌-◌, Bool, true, false, nat_lt, List, [], ◌∷◌, ◌++◌, chars, codes, length, Option, replicate, if◌then◌else◌}
+use Rattle.std.specs.List.{flat_map, list_any}
 use Rattle.sv_uri.specs.ContextPath.{shown_context}
 use Rattle.sv_report.specs.Details.{detail_line}
 use Rattle.sv_report.specs.Escaped.{escaped}
@@ -14,6 +14,8 @@ use Rattle.sv_report.specs.declared.lines.TheConstants.{METHODS_WIDTH, PATTERN_W
 use Rattle.sv_report.specs.declared.report.ContextReport.{ContextReport}
 use Rattle.sv_report.specs.declared.report.ReportedRow.{ReportedRow}
 use Rattle.sv_report.specs.declared.report.Viewer.{Viewer}
+use Rattle.sv_audit.specs.declared.access.Access.{Access}
+use Rattle.sv_audit.specs.declared.access.Access.TheVariants.{NeedsTls}
 use Rattle.sv_audit.specs.declared.rows.Group.{Group}
 use Rattle.sv_findings.specs.declared.reach.Reach.{Reach}
 use Rattle.sv_findings.specs.declared.reach.Reach.TheVariants.{Reached, Hidden, Elsewhere, Unmatched}
@@ -71,12 +73,33 @@ login_line has_login = if has_login then line_text (codes "*/j_security_check") 
 abbrev pub other_line : List ℕ → List ℕ → List ℕ
 other_line context other = unreached_line (joined (escaped other ∷ codes "/*" ∷ [])) (context_text (joined (context ∷ other ∷ [])))
 
+-- Whether callers are refused only since the connection is plain (section 13.8.1).
+abbrev pub needs_tls : Access → Bool
+needs_tls NeedsTls = true
+needs_tls access = false
+
+-- The same of one of these groups, at a pattern that requests meet.
+abbrev pub reach_has_tls : Reach → List Group → Bool
+reach_has_tls Reached groups = list_any (λ group. needs_tls group.cell.access) groups
+reach_has_tls reach groups = false
+
+abbrev pub row_has_tls : ReportedRow → Bool
+row_has_tls reported = reach_has_tls reported.reach reported.row.groups
+
+-- Whether some request needs TLS.
+abbrev pub has_tls : ContextReport → Bool
+has_tls context = list_any row_has_tls context.rows
+
+-- A note that the table and the findings do not say who enters with TLS.
+abbrev pub transport_line : ContextReport → List ℕ
+transport_line context = if has_tls context then codes "some requests need TLS: --secure shows who enters then, and its findings\n" else []
+
 -- The lines of a context.
 abbrev pub context_lines : ContextReport → List ℕ
 context_lines context =
     heading_line context ++ title_line context.viewer
     ++ flat_map (row_lines context) context.rows ++ hidden_line context.viewer ++ login_line context.has_login
-    ++ flat_map (other_line context.path) context.others
+    ++ flat_map (other_line context.path) context.others ++ transport_line context
     ++ flat_map (finding_lines context) context.findings
 
 -- The lines of contexts, with an empty line between two.

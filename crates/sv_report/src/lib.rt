@@ -16,6 +16,7 @@ mod members;
 mod parts;
 mod places;
 mod report;
+mod transport;
 mod values;
 mod viewers;
 mod words;
@@ -34,5 +35,6 @@ pub use members::{put_text, put_text_if, put_texts, put_truth, put_truth_if, put
 pub use parts::{joined, push_all};
 pub use places::{constraint_text, line_at, line_of, number_text, place_text};
 pub use report::{Answers, ContextReport, ReportedFinding, ReportedRow, Viewer};
+pub use transport::has_tls;
 pub use viewers::{context_text, entry_text, hidden_text, unmatched_text, viewer_title};
 pub use words::{methods_text, names_text, pattern_text, shown_pattern, who_text};

@@ -14,6 +14,7 @@ use crate::folded_lines::folded;
 use crate::parts::{joined, push_all};
 use crate::places::constraint_text;
 use crate::report::{ContextReport, ReportedRow, Viewer};
+use crate::transport::push_transport;
 use crate::viewers::{context_text, entry_text, hidden_text, unmatched_text, viewer_title};
 use crate::words::{methods_text, pattern_text};
 use std::alloc::Global;
@@ -41,8 +42,9 @@ struct Columns<'a> {
 }
 
 /// Returns the text of the access tables of contexts: a line for each group of methods, one for an example, the answers
-/// and the exceptions of each row, lines for the folders that are never served, for the login post and for other contexts, and
-/// two lines for each finding. A row that no request meets has one line. Control characters are escaped, and no line has more than 100 characters (see `folded`).
+/// and the exceptions of each row, lines for the folders that are never served, for the login post and for other contexts, a
+/// line if some requests need TLS, and two lines for each finding. A row that no request meets has one line. Control
+/// characters are escaped, and no line has more than 100 characters (see `folded`).
 ///
 /// # Errors
 /// `NoMemory` if memory runs out.
@@ -97,6 +99,7 @@ fn push_context(text: &mut String, alloc: Global, context: &ContextReport) -> Re
         context.path.as_str(),
         context.others.as_slice(),
     )?;
+    push_transport(text, context)?;
     push_findings(text, alloc, context, context.findings.as_slice())
 }
 
