@@ -1,5 +1,5 @@
 -- What the cells of an access table mean, in a class and a sentence each (Jakarta Servlet 6.0).
-use Rattle.std.specs.Prelude.{ℕ, Bool, List, [], ◌∷◌, codes, Option, if◌then◌else◌}
+use Rattle.std.specs.Prelude.{ℕ, Bool, List, [], ◌∷◌, codes, Option, None, Some, if◌then◌else◌}
 use Rattle.sv_audit.specs.declared.access.Access.{Access}
 use Rattle.sv_audit.specs.declared.access.Access.TheVariants.{Unconstrained, Uncovered, UncoveredDenied, Precluded, NeedsTls, Everyone, AnyLogin, Roles}
 use Rattle.sv_report.specs.Parts.{joined}
@@ -31,6 +31,11 @@ reason has_login Everyone = codes "A constraint without an authorization constra
 reason has_login AnyLogin = login_reason has_login (codes "Every caller who logs in may enter (section 13.8.1).")
 reason has_login (Roles names) = login_reason has_login (codes "Only callers with one of the roles may enter (section 13.8.1).")
 
--- The same, with the constraint that decides.
+-- The constraint that decides, if there is one.
+abbrev pub constraint_sentence : List (Option ℕ) → Option ℕ → List ℕ
+constraint_sentence lines None = []
+constraint_sentence lines (Some number) = joined (codes " Constraint: " ∷ constraint_text lines (Some number) ∷ codes "." ∷ [])
+
+-- Why a cell is as it is, with the constraint.
 abbrev pub explanation : List (Option ℕ) → List ℕ → Option ℕ → List ℕ
-explanation lines reason constraint = joined (reason ∷ codes " Constraint: " ∷ constraint_text lines constraint ∷ codes "." ∷ [])
+explanation lines reason constraint = joined (reason ∷ constraint_sentence lines constraint ∷ [])

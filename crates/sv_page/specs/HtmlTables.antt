@@ -6,6 +6,7 @@ use Rattle.sv_page.specs.HtmlCells.{cell_html, foreign_cell, hidden_cell, row_ht
 use Rattle.sv_page.specs.Markup.{html_text}
 use Rattle.sv_report.specs.Parts.{joined}
 use Rattle.sv_report.specs.Places.{number_text}
+use Rattle.sv_report.specs.Text.{has_tls}
 use Rattle.sv_report.specs.Viewers.{viewer_title}
 use Rattle.sv_page.specs.declared.shares.TheConstants.{MAX_SHOWN_ROWS}
 use Rattle.sv_report.specs.declared.report.ContextReport.{ContextReport}
@@ -39,6 +40,10 @@ foreign_html context other = unanswered_row (joined (html_text other ∷ codes "
 abbrev pub other_rows : ContextReport → List ℕ
 other_rows context = joined (hidden_html context.viewer ∷ login_html context.has_login ∷ flat_map (foreign_html context.path) context.others ∷ [])
 
+-- A note if some requests need TLS.
+abbrev pub transport_html : ContextReport → List ℕ
+transport_html context = if has_tls context then codes "<p>Some requests need TLS: --secure shows who enters then, and its findings.</p>\n" else []
+
 abbrev pub none_shown : ℕ → List ℕ
 none_shown count = joined (codes "<p>None of its " ∷ number_text count ∷ codes " rows are shown: the page shows " ∷ number_text MAX_SHOWN_ROWS ∷ codes " rows at most.</p>\n" ∷ [])
 
@@ -53,4 +58,4 @@ note_html shown count = if shown == count then [] else if shown == 0 then none_s
 unfoldable pub section_html : ContextReport → List ReportedRow → List ℕ
 section_html context rows = joined (
     heading_html context ∷ title_html context.viewer ∷ flat_map (row_html context) rows ∷ other_rows context
-    ∷ codes "</table>\n</div>\n" ∷ note_html (length rows) (length context.rows) ∷ codes "</section>\n" ∷ [])
+    ∷ codes "</table>\n</div>\n" ∷ transport_html context ∷ note_html (length rows) (length context.rows) ∷ codes "</section>\n" ∷ [])

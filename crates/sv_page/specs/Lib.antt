@@ -3,4 +3,5 @@ pub mod CellWords
 pub mod HtmlCells
 pub mod Shares
 pub mod HtmlTables
+pub mod LeftOut
 pub mod Page

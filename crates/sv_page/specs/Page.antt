@@ -1,15 +1,15 @@
 -- The page of a report.
-use Rattle.std.specs.Prelude.{ℕ, ◌==◌, List, [], ◌∷◌, ◌++◌, codes, length, if◌then◌else◌}
+use Rattle.std.specs.Prelude.{ℕ, ◌==◌, List, [], ◌∷◌, codes, length, if◌then◌else◌}
 use Rattle.std.specs.List.{flat_map}
 use Rattle.sv_uri.specs.ContextPath.{shown_context}
 use Rattle.sv_report.specs.FindingWords.{heading, problem_text, remedy}
 use Rattle.sv_page.specs.HtmlTables.{section_html}
+use Rattle.sv_page.specs.LeftOut.{notes_html}
 use Rattle.sv_page.specs.Markup.{html_text}
 use Rattle.sv_page.specs.Shares.{finding_shares, row_shares}
 use Rattle.sv_report.specs.Parts.{joined}
-use Rattle.sv_report.specs.Places.{number_text, place_text}
+use Rattle.sv_report.specs.Places.{place_text}
 use Rattle.sv_page.specs.declared.page.TheConstants.{PAGE_START}
-use Rattle.sv_page.specs.declared.shares.TheConstants.{MAX_LISTED_FINDINGS}
 use Rattle.sv_report.specs.declared.report.ContextReport.{ContextReport}
 use Rattle.sv_report.specs.declared.report.ReportedFinding.{ReportedFinding}
 
@@ -24,26 +24,9 @@ item_html context reported = joined (
     ∷ codes "</b> <code>" ∷ html_text (shown_context context.path) ∷ codes "</code> " ∷ located_problem context reported
     ∷ codes "<br>" ∷ html_text (remedy reported.finding) ∷ codes "</li>\n" ∷ [])
 
-unfoldable pub none_listed : List ℕ → ℕ → List ℕ
-none_listed path count = joined (
-    codes "<li>None of the " ∷ number_text count ∷ codes " findings of <code>" ∷ html_text path
-    ∷ codes "</code> are listed: the page lists " ∷ number_text MAX_LISTED_FINDINGS ∷ codes " findings at most.</li>\n" ∷ [])
-
-unfoldable pub first_listed : List ℕ → ℕ → ℕ → List ℕ
-first_listed path listed count = joined (
-    codes "<li>Only the first " ∷ number_text listed ∷ codes " of " ∷ number_text count ∷ codes " findings of <code>" ∷ html_text path ∷ codes "</code> are listed.</li>\n" ∷ [])
-
--- A note if not all findings of a context are listed, given how many are listed and how many there are.
-abbrev pub left_out_html : List ℕ → ℕ → ℕ → List ℕ
-left_out_html path listed count = if listed == count then [] else if listed == 0 then none_listed path count else first_listed path listed count
-
--- These findings of a context, and whether it has more.
-unfoldable pub context_items : ContextReport → List ReportedFinding → List ℕ
-context_items context findings = flat_map (item_html context) findings ++ left_out_html (shown_context context.path) (length findings) (length context.findings)
-
 -- The items of the findings that the page lists.
 abbrev pub items_html : List ContextReport → List ℕ
-items_html contexts = flat_map (λ share. context_items share.0 share.1) (finding_shares contexts)
+items_html contexts = flat_map (λ share. flat_map (item_html share.0) share.1) (finding_shares contexts)
 
 -- The tables with the rows that the page shows.
 abbrev pub tables_html : List ContextReport → List ℕ
@@ -52,6 +35,6 @@ tables_html contexts = flat_map (λ share. section_html share.0 share.1) (row_sh
 abbrev pub list_html : List ℕ → List ℕ
 list_html items = if length items == 0 then codes "<p>There are no findings.</p>\n" else joined (codes "<ul>\n" ∷ items ∷ codes "</ul>\n" ∷ [])
 
--- The findings, then the tables.
+-- The notes on findings that are not listed, the findings, then the tables.
 abbrev pub audit_html : List ContextReport → List ℕ
-audit_html contexts = joined (PAGE_START.now ∷ list_html (items_html contexts) ∷ tables_html contexts ∷ codes "</body>\n</html>\n" ∷ [])
+audit_html contexts = joined (PAGE_START.now ∷ notes_html contexts ∷ list_html (items_html contexts) ∷ tables_html contexts ∷ codes "</body>\n</html>\n" ∷ [])

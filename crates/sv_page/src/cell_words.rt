@@ -76,7 +76,7 @@ fn login_reason(has_login: bool, reason: &'static str) -> &'static str
     }
 }
 
-/// Returns why a cell is as it is, and the constraint that decides it.
+/// Returns why a cell is as it is, and the constraint that decides it, if there is one.
 pub fn explanation(
     alloc: Global,
     lines: &[Option<u64>],
@@ -85,6 +85,20 @@ pub fn explanation(
 ) -> Result<Text, NoMemory>
     ensures { GivesAnswer result (spec.explanation lines.now reason.now constraint) }
 {
+    let constraint = constraint_sentence(alloc, lines, constraint)?;
+    joined(alloc, &[reason, constraint.as_str()])
+}
+
+fn constraint_sentence(
+    alloc: Global,
+    lines: &[Option<u64>],
+    constraint: Option<u64>,
+) -> Result<Text, NoMemory>
+    ensures { GivesAnswer result (spec.constraint_sentence lines.now constraint) }
+{
+    if constraint.is_none() {
+        return Text::copy_of(alloc, "");
+    }
     let constraint = constraint_text(alloc, lines, constraint)?;
-    joined(alloc, &[reason, " Constraint: ", constraint.as_str(), "."])
+    joined(alloc, &[" Constraint: ", constraint.as_str(), "."])
 }

@@ -10,7 +10,7 @@ use crate::html_cells::{cell_html, foreign_row, hidden_row, row_html, unanswered
 use crate::markup::html_text;
 use crate::shares::MAX_SHOWN_ROWS;
 use std::alloc::Global;
-use sv_report::{ContextReport, ReportedRow, Viewer, joined, number_text, viewer_title};
+use sv_report::{ContextReport, ReportedRow, Viewer, has_tls, joined, number_text, viewer_title};
 use sv_text::{NoMemory, Text};
 use sv_uri::shown_context;
 
@@ -27,6 +27,7 @@ pub fn section_html(
     let title = title_html(alloc, &context.viewer)?;
     let shown = rows_html(alloc, context, rows)?;
     let others = other_rows(alloc, context)?;
+    let transport = transport_html(alloc, context)?;
     let note = note_html(alloc, rows.len(), context.rows.as_slice().len())?;
     joined(
         alloc,
@@ -36,6 +37,7 @@ pub fn section_html(
             shown.as_str(),
             others.as_str(),
             "</table>\n</div>\n",
+            transport.as_str(),
             note.as_str(),
             "</section>\n",
         ],
@@ -153,6 +155,18 @@ fn login_html(alloc: Global, has_login: bool) -> Result<Text, NoMemory>
         "The container answers the login form (section 13.6.3.1).",
     )?;
     unanswered_row(alloc, "*/j_security_check", cell.as_str())
+}
+
+/// Returns a note if some requests need TLS.
+fn transport_html(alloc: Global, context: &ContextReport) -> Result<Text, NoMemory>
+    ensures { GivesAnswer result (spec.transport_html context.now) }
+{
+    let note = if has_tls(context) {
+        "<p>Some requests need TLS: --secure shows who enters then, and its findings.</p>\n"
+    } else {
+        ""
+    };
+    Text::copy_of(alloc, note)
 }
 
 /// Returns a note if not all rows are shown, given how many are shown and how many there are.

@@ -4,6 +4,7 @@
 mod cell_words;
 mod html_cells;
 mod html_tables;
+mod left_out;
 mod markup;
 mod page;
 mod shares;

@@ -1,19 +1,18 @@
 //! The page of a report.
 
-ghost use Rattle.std.specs.Prelude.{◌≡◌, ◌++◌, OnOk, length, string_bytes};
+ghost use Rattle.std.specs.Prelude.{◌≡◌, ◌++◌, OnOk, string_bytes};
 ghost use Rattle.std.specs.List.{flat_map};
 ghost use Rattle.sv_text.specs.Gives.{GivesAnswer};
-ghost use Rattle.sv_uri.specs.ContextPath.{shown_context as path_of};
 ghost use Rattle.sv_page.specs.HtmlTables as tables;
 ghost use Rattle.sv_page.specs.Page as spec;
 
 use crate::html_tables::section_html;
+use crate::left_out::notes_html;
 use crate::markup::html_text;
 use crate::shares::{MAX_LISTED_FINDINGS, MAX_SHOWN_ROWS, first_of};
 use std::alloc::Global;
 use sv_report::{
-    ContextReport, ReportedFinding, ReportedRow, heading, joined, number_text, place_text,
-    problem_text, remedy,
+    ContextReport, ReportedFinding, ReportedRow, heading, joined, place_text, problem_text, remedy,
 };
 use sv_text::{NoMemory, Text};
 use sv_uri::shown_context;
@@ -49,7 +48,8 @@ table { width: 100%; border-collapse: collapse; }
 th, td { padding: 0.4rem 0.6rem; border: 1px solid var(--line); text-align: left; vertical-align: top; }
 th[scope="row"] { width: 30%; font-weight: normal; }
 th small { display: block; }
-.by { width: 16%; color: var(--faint); font-size: 0.83em; overflow-wrap: anywhere; }
+.by { color: var(--faint); font-size: 0.83em; overflow-wrap: anywhere; }
+.by:not(:empty) { width: 18%; }
 details { display: inline-block; vertical-align: top; max-width: 24rem; margin: 0.1rem 0.2rem 0.1rem 0;
   padding: 0.15rem 0.6rem; border: 1px solid var(--line); border-radius: 0.3rem; }
 summary { cursor: pointer; }
@@ -60,7 +60,10 @@ summary { cursor: pointer; }
 .uncovered { background: var(--uncovered); color: #ffffff; font-weight: bold; }
 .tls { background: var(--tls); }
 .post { background: var(--post); }
-@media (max-width: 40rem) { body { padding: 0.4rem; } th, td { padding: 0.25rem 0.35rem; } }
+@media screen and (max-width: 40rem) { body { padding: 0.4rem; } table, tbody, tr, th, td { display: block; }
+  tr { padding: 0.3rem 0; border-bottom: 1px solid var(--line); } th, td { padding: 0 0.35rem; border: 0; }
+  th[scope="row"], .by:not(:empty) { width: auto; } th[scope="col"] { display: inline-block; }
+  .by:empty { display: none; } .by::before { content: "answered by "; } }
 @media print { body { max-width: none; padding: 0; font-size: 10px; } .table { overflow: visible; }
   tr, li { break-inside: avoid; } * { print-color-adjust: exact; } }
 </style>
@@ -71,13 +74,15 @@ summary { cursor: pointer; }
 
 /// Returns the access tables and the findings of contexts as a page of HTML, with the findings first. The page needs no
 /// other file and no script. It shows at most [`crate::MAX_SHOWN_ROWS`] rows and [`crate::MAX_LISTED_FINDINGS`] findings, the
-/// first ones of all contexts, and says so for each context that has more.
+/// first ones of all contexts, and says so for each context that has more: of findings before the first one, of rows after
+/// those of the context.
 ///
 /// # Errors
 /// `NoMemory` if memory runs out.
 pub fn audit_html(alloc: Global, contexts: &[ContextReport]) -> Result<Text, NoMemory>
     ensures { GivesAnswer result (spec.audit_html contexts.now) }
 {
+    let notes = notes_html(alloc, contexts)?;
     let items = items_html(alloc, contexts)?;
     let list = list_html(alloc, items.as_str())?;
     let tables = tables_html(alloc, contexts)?;
@@ -85,6 +90,7 @@ pub fn audit_html(alloc: Global, contexts: &[ContextReport]) -> Result<Text, NoM
         alloc,
         &[
             PAGE_START,
+            notes.as_str(),
             list.as_str(),
             tables.as_str(),
             "</body>\n</html>\n",
@@ -110,94 +116,13 @@ fn items_html(alloc: Global, contexts: &[ContextReport]) -> Result<Text, NoMemor
     let mut left = MAX_LISTED_FINDINGS;
     for context in contexts {
         let findings = context.findings.as_slice();
-        push_context(&mut text, alloc, context, first_of(findings, left))?;
+        push_items(&mut text, alloc, context, first_of(findings, left))?;
         left = left.saturating_sub(findings.len());
     }
     Ok(Text::from_string(text))
 }
 
-/// Appends the items of these findings of a context, and a note if it has more.
-#[tactic(auto, unfolding(crate::specs::Page::context_items))]
-fn push_context(
-    text: &mut String,
-    alloc: Global,
-    context: &ContextReport,
-    findings: &[ReportedFinding],
-) -> Result<(), NoMemory>
-    ensures { OnOk result (string_bytes text.new ≡ string_bytes text.old ++ spec.context_items context.now findings.now) }
-{
-    push_items(text, alloc, context, findings)?;
-    push_left_out(text, alloc, context, findings.len())
-}
-
-fn push_left_out(
-    text: &mut String,
-    alloc: Global,
-    context: &ContextReport,
-    listed: usize,
-) -> Result<(), NoMemory>
-    ensures { OnOk result (string_bytes text.new ≡ string_bytes text.old ++ spec.left_out_html (path_of context.now.path) listed (length context.now.findings)) }
-{
-    let path = shown_context(context.path.as_str());
-    let note = left_out_html(alloc, path, listed, context.findings.as_slice().len())?;
-    Ok(text.push_str(note.as_str())?)
-}
-
-/// Returns a note if not all findings of a context are listed, given how many are listed and how many there are.
-fn left_out_html(alloc: Global, path: &str, listed: usize, count: usize) -> Result<Text, NoMemory>
-    ensures { GivesAnswer result (spec.left_out_html path.now listed count) }
-{
-    if listed == count {
-        Text::copy_of(alloc, "")
-    } else if listed == 0 {
-        none_listed(alloc, path, count)
-    } else {
-        first_listed(alloc, path, listed, count)
-    }
-}
-
-#[tactic(auto, unfolding(crate::specs::Page::none_listed))]
-fn none_listed(alloc: Global, path: &str, count: usize) -> Result<Text, NoMemory>
-    ensures { GivesAnswer result (spec.none_listed path.now count) }
-{
-    let path = html_text(alloc, path)?;
-    let count = number_text(alloc, count as u64)?;
-    let most = number_text(alloc, MAX_LISTED_FINDINGS as u64)?;
-    joined(
-        alloc,
-        &[
-            "<li>None of the ",
-            count.as_str(),
-            " findings of <code>",
-            path.as_str(),
-            "</code> are listed: the page lists ",
-            most.as_str(),
-            " findings at most.</li>\n",
-        ],
-    )
-}
-
-#[tactic(auto, unfolding(crate::specs::Page::first_listed))]
-fn first_listed(alloc: Global, path: &str, listed: usize, count: usize) -> Result<Text, NoMemory>
-    ensures { GivesAnswer result (spec.first_listed path.now listed count) }
-{
-    let path = html_text(alloc, path)?;
-    let listed = number_text(alloc, listed as u64)?;
-    let count = number_text(alloc, count as u64)?;
-    joined(
-        alloc,
-        &[
-            "<li>Only the first ",
-            listed.as_str(),
-            " of ",
-            count.as_str(),
-            " findings of <code>",
-            path.as_str(),
-            "</code> are listed.</li>\n",
-        ],
-    )
-}
-
+/// Appends the items of these findings of a context.
 fn push_items(
     text: &mut String,
     alloc: Global,
