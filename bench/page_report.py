@@ -62,8 +62,8 @@ def entry_of(group):
 def cell_of(group):
     """The cell of a group: its kind, its methods, what it shows, and how its explanation ends."""
     methods, line = methods_of(group), group["line"]
-    number = "-" if group["constraint"] is None else str(group["constraint"])
-    ending = f" Constraint: {number}{'' if line is None else f', line {line}'}."
+    place = "" if line is None else f", line {line}"
+    ending = "." if group["constraint"] is None else f" Constraint: {group['constraint']}{place}."
     return WHO[group["because"]][1], methods, f"{methods} {entry_of(group)}", ending
 
 
@@ -139,6 +139,14 @@ def rows_of(context):
 
 def notes_of(context):
     """The notes below a table."""
+    groups = [group for row in context["rows"] for group in row["groups"]]
+    needs_tls = any(it["because"] == "transport" for it in groups)
+    note = "Some requests need TLS: --secure shows who enters then, and its findings."
+    return [note] * needs_tls + row_notes(context)
+
+
+def row_notes(context):
+    """The note on rows that are not shown."""
     shown_rows, count = context["shownRows"], len(context["rows"])
     if shown_rows == count:
         return []
@@ -156,10 +164,16 @@ def findings_of(context):
         if it["line"] is not None:
             words.append(f" ({shown(context['file'])}:{it['line']})")
         yield "accepted" if it["accepted"] else "finding", path, words
-    if listed == len(findings):
-        return
-    note = f"Only the first {listed} of {len(findings)} findings of {path} are listed."
-    if not listed:
-        limit = f"the page lists {MAX_FINDINGS} findings at most"
-        note = f"None of the {len(findings)} findings of {path} are listed: {limit}."
-    yield "", path, [note]
+
+
+def finding_notes(contexts):
+    """The notes before the findings, and what is said if there are none."""
+    notes = []
+    for it in contexts:
+        path, count, listed = it["context"], len(it["findings"]), it["shownFindings"]
+        if listed == 0 < count:
+            limit = f"the page lists {MAX_FINDINGS} findings at most"
+            notes.append(f"None of the {count} findings of {path} are listed: {limit}.")
+        elif listed < count:
+            notes.append(f"Only the first {listed} of {count} findings of {path} are listed.")
+    return notes if any(it["findings"] for it in contexts) else ["There are no findings."]

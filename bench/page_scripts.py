@@ -17,6 +17,7 @@ const finding = (it) => ({
     kind: it.className, context: text(it, 'code'), text: it.textContent});
 return {
     title: document.title,
+    notes: [...document.querySelectorAll('body > p')].map((note) => note.textContent),
     findings: [...document.querySelectorAll('li')].map(finding),
     sections: [...document.querySelectorAll('section')].map(section)};
 """
