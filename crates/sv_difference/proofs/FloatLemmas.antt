@@ -8,6 +8,7 @@ use Rattle.sv_report.proofs.JsonLemmas.{in_strings, in_text, in_truth, no_floats
 use Rattle.sv_report.specs.JsonParts.{roles_in}
 use Rattle.sv_difference.specs.DifferenceJson.{access_value, context_value, difference_value, file_in, login_in, report_value}
 use Rattle.sv_difference.specs.DifferenceText.{has_login}
+use Rattle.sv_difference.specs.OpenedFirst.{opened_first}
 use Rattle.sv_difference.specs.declared.contexts.ContextDifference.{ContextDifference}
 use Rattle.sv_difference.specs.declared.contexts.ServerDifference.{ServerDifference}
 
@@ -31,4 +32,4 @@ in_context context =
 
 pub in_report : (report : ServerDifference) → has_float (report_value report) ≡ false
 unfolding report_value
-in_report report = ap (λ a. a || false) (no_floats context_value in_context report.contexts)
+in_report report = ap (λ a. a || false) (no_floats context_value in_context (opened_first report.contexts))

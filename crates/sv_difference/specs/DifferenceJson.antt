@@ -10,6 +10,7 @@ use Rattle.sv_audit.specs.declared.access.Access.{Access}
 use Rattle.sv_audit.specs.declared.difference.Difference.{Difference}
 use Rattle.sv_report.specs.JsonParts.{are_excepted, enters, roles_in, strings, text_value, truth_value}
 use Rattle.sv_difference.specs.DifferenceText.{example_of, has_login, kind_word}
+use Rattle.sv_difference.specs.OpenedFirst.{opened_first}
 use Rattle.sv_difference.specs.declared.contexts.ContextDifference.{ContextDifference}
 use Rattle.sv_difference.specs.declared.contexts.ContextSide.{ContextSide}
 use Rattle.sv_difference.specs.declared.contexts.ServerDifference.{ServerDifference}
@@ -51,8 +52,9 @@ context_value context = object
     (member (codes "loginAfter") (truth_value (login_in context.after))
     (member (codes "loginBefore") (truth_value (login_in context.before)) no_members))))))
 
+-- Contexts in which something may have been opened come first.
 unfoldable pub report_value : ServerDifference → Data
-report_value report = object (member (codes "contexts") (array (items_of (map context_value report.contexts))) no_members)
+report_value report = object (member (codes "contexts") (array (items_of (map context_value (opened_first report.contexts)))) no_members)
 
 -- The value on one line.
 abbrev pub difference_json : ServerDifference → List ℕ

@@ -13,6 +13,7 @@ use Rattle.sv_report.specs.Escaped.{escaped}
 use Rattle.sv_report.specs.Folded.{folded}
 use Rattle.sv_report.specs.Parts.{joined}
 use Rattle.sv_report.specs.Words.{names_text, pattern_text, who_text}
+use Rattle.sv_difference.specs.OpenedFirst.{opened_first}
 use Rattle.sv_difference.specs.declared.contexts.ContextDifference.{ContextDifference}
 use Rattle.sv_difference.specs.declared.contexts.ContextSide.{ContextSide}
 use Rattle.sv_difference.specs.declared.contexts.ServerDifference.{ServerDifference}
@@ -82,9 +83,13 @@ context_lines context None after = heading_of context.path (codes " only in the 
 context_lines context (Some before) None = heading_of context.path (codes " only in the first\n")
 context_lines context (Some before) (Some after) = heading_of context.path (files_text before after) ++ or_none (lines_of context)
 
--- The lines of a report.
+-- The lines of contexts, one after the other.
+abbrev pub all_lines : List ContextDifference → List ℕ
+all_lines contexts = flat_map (λ context. context_lines context context.before context.after) contexts
+
+-- The lines of a report. Contexts in which something may have been opened come first.
 abbrev pub report_lines : ServerDifference → List ℕ
-report_lines report = flat_map (λ context. context_lines context context.before context.after) report.contexts
+report_lines report = all_lines (opened_first report.contexts)
 
 -- The text of a report, in lines of at most 100 characters.
 abbrev pub difference_text : ServerDifference → List ℕ

@@ -1,4 +1,5 @@
 pub mod ServerDifference
+pub mod OpenedFirst
 pub mod DifferenceText
 pub mod DifferenceJson
 pub mod ServerLaws

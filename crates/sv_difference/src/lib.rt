@@ -7,6 +7,7 @@ mod contexts;
 mod laws;
 mod lines;
 mod met_rows;
+mod opened_first;
 mod values;
 
 pub use comparison::server_difference;

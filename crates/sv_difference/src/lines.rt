@@ -1,12 +1,13 @@
 //! The text of what two servers decide differently.
 
-ghost use Rattle.std.specs.Prelude.{◌≡◌, ◌++◌, OnOk, string_bytes};
+ghost use Rattle.std.specs.Prelude.{◌≡◌, ◌++◌, OnOk, map, string_bytes};
 ghost use Rattle.std.specs.List.{flat_map};
 ghost use Rattle.sv_text.specs.Gives.{GivesAnswer};
 ghost use Rattle.sv_audit.specs.Reading as reading;
 ghost use Rattle.sv_difference.specs.DifferenceText as spec;
 
 use crate::contexts::{ContextDifference, ContextSide, ServerDifference};
+use crate::opened_first::opened_first;
 use std::alloc::Global;
 use sv_audit::{Difference, DifferenceKind};
 use sv_constraints::Methods;
@@ -16,20 +17,21 @@ use sv_text::{NoMemory, Text};
 use sv_uri::{location, shown_context};
 
 /// Returns the text of a report: a heading for each context path, a line if its login configuration came or went, and
-/// one for each difference, or `no difference`. Control characters are escaped, and lines of more than 100 characters are
-/// broken.
+/// one for each difference, or `no difference`. Contexts in which something may have been opened come first. Control
+/// characters are escaped, and lines of more than 100 characters are broken.
 ///
 /// # Errors
 /// `NoMemory` if memory runs out.
 pub fn difference_text(alloc: Global, report: &ServerDifference) -> Result<Text, NoMemory>
     ensures { GivesAnswer result (spec.difference_text report.now) }
 {
-    let text = report_lines(alloc, report.contexts.as_slice())?;
+    let contexts = opened_first(alloc, report.contexts.as_slice())?;
+    let text = report_lines(alloc, contexts.as_slice())?;
     folded(alloc, text.as_str())
 }
 
-fn report_lines(alloc: Global, contexts: &[ContextDifference]) -> Result<Text, NoMemory>
-    ensures { GivesAnswer result (flat_map (λ context. spec.context_lines context context.before context.after) contexts.now) }
+fn report_lines(alloc: Global, contexts: &[&ContextDifference]) -> Result<Text, NoMemory>
+    ensures { GivesAnswer result (spec.all_lines (map (λ context. context.now) contexts.now)) }
 {
     let mut text = String::new(alloc);
     for context in contexts {

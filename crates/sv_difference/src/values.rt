@@ -11,6 +11,7 @@ ghost use Rattle.sv_difference.specs.DifferenceText.{example_of, has_login};
 
 use crate::contexts::{ContextDifference, ContextSide, ServerDifference};
 use crate::lines::{example_of, has_login, kind_word};
+use crate::opened_first::opened_first;
 use serde_json::{Map, Value, json};
 use std::alloc::Global;
 use sv_audit::{Access, Difference};
@@ -21,7 +22,8 @@ use sv_report::{
 use sv_text::{NoMemory, Text};
 use sv_uri::shown_context;
 
-/// Returns a report as one line of JSON (RFC 8259). The members of objects are in byte order of their names.
+/// Returns a report as one line of JSON (RFC 8259). Contexts in which something may have been opened come first. The
+/// members of objects are in byte order of their names.
 ///
 /// # Errors
 /// `NoMemory` if memory runs out.
@@ -37,12 +39,13 @@ pub fn difference_json(alloc: Global, report: &ServerDifference) -> Result<Text,
 fn report_value(alloc: Global, report: &ServerDifference) -> Result<Value, NoMemory>
     ensures { IfOk result (λ value. view value ≡ spec.report_value report.now) }
 {
-    let contexts = context_values(alloc, report.contexts.as_slice())?;
+    let ordered = opened_first(alloc, report.contexts.as_slice())?;
+    let contexts = context_values(alloc, ordered.as_slice())?;
     Ok(json!(in alloc; {"contexts": contexts})?)
 }
 
-fn context_values(alloc: Global, contexts: &[ContextDifference]) -> Result<Value, NoMemory>
-    ensures { IfOk result (λ value. view value ≡ array (items_of (map spec.context_value contexts.now))) }
+fn context_values(alloc: Global, contexts: &[&ContextDifference]) -> Result<Value, NoMemory>
+    ensures { IfOk result (λ value. view value ≡ array (items_of (map spec.context_value (map (λ context. context.now) contexts.now)))) }
 {
     let mut values = Vec::with_capacity(alloc, contexts.len())?;
     for context in contexts {
