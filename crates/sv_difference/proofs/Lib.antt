@@ -1,3 +1,4 @@
 pub mod FloatLemmas
 pub mod ServerLemmas
+pub mod ExampleLemmas
 pub mod MetLemmas

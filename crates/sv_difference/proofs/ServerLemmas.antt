@@ -287,7 +287,7 @@ module _ (right : DifferencesAreRight) (befores afters : List ComparedContext) (
         ∙ (same ∙ fated logs_in afters its_path after method path is.differs.0 there request.chosen_after request.shown request.decided))),
   )
 
-  right_at : (difference : Difference) → In difference (difference_at befores afters its_path).differences → IsRight first_side second_side difference × ChangesOutcomes befores afters its_path first_side second_side difference
+  pub right_at : (difference : Difference) → In difference (difference_at befores afters its_path).differences → IsRight first_side second_side difference × ChangesOutcomes befores afters its_path first_side second_side difference
   right_at difference found =
       let is : IsRight first_side second_side difference =
       all_in (IsRight first_side second_side) difference (differences_of first_side second_side) (right first_side second_side (befores_url before its_path at) (afters_url after its_path there))

@@ -3,3 +3,4 @@ pub mod OpenedFirst
 pub mod DifferenceText
 pub mod DifferenceJson
 pub mod ServerLaws
+pub mod ExampleLaws

@@ -1,5 +1,6 @@
 //! Theorems about reports, each the contract of a function that only calls other theorems.
 
+ghost use Rattle.sv_difference.specs.ExampleLaws.{ReportedExamplesAreChanged, SameOutcomesHaveNoExamples};
 ghost use Rattle.sv_difference.specs.ServerLaws.{LoginsChangeOutcomes, ReportedDifferencesAreRight, UnchangedHaveSameOutcomes};
 
 use sv_audit::{differences_are_complete, differences_are_right, served_paths_are_rooted};
@@ -27,6 +28,18 @@ pub fn unchanged_have_same_outcomes()
 pub fn reported_differences_are_right()
     ensures differences { ReportedDifferencesAreRight }
     ensures logins { LoginsChangeOutcomes }
+{
+    differences_are_right();
+}
+
+/// The example that a report names for a difference shows it. There is a visitor for whom each request for the example,
+/// with a method of the difference, has another outcome before than after, unless it logs in; and there is such a method.
+/// The example must have a canonical path, which within the context is the path of the difference and in no hidden folder,
+/// and both servers must choose the context for it. So if each request of each visitor has the same outcome with both
+/// servers, no difference of the report has such an example.
+pub fn reported_examples_are_changed()
+    ensures changed { ReportedExamplesAreChanged }
+    ensures unchanged { SameOutcomesHaveNoExamples }
 {
     differences_are_right();
 }

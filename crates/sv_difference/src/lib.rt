@@ -12,6 +12,8 @@ mod values;
 
 pub use comparison::server_difference;
 pub use contexts::{ComparedContext, ContextDifference, ContextSide, ServerDifference};
-pub use laws::{reported_differences_are_right, unchanged_have_same_outcomes};
+pub use laws::{
+    reported_differences_are_right, reported_examples_are_changed, unchanged_have_same_outcomes,
+};
 pub use lines::difference_text;
 pub use values::difference_json;
