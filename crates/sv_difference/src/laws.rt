@@ -22,9 +22,9 @@ pub fn unchanged_have_same_outcomes()
 
 /// Each difference of a report says what the constraints of both contexts decide. There is a visitor for whom each of
 /// its requests has another outcome before than after, if the contexts serve the request, it does not log in, and it is
-/// not for a hidden folder. Whether clients can send such a request is not part of this theorem: rows that are hidden, that
-/// belong to another context, or whose pattern no canonical path matches are left out. If only one of two contexts with the same path has a
-/// login configuration, requests log in only there.
+/// not for a hidden folder. Whether clients can send such a request is not part of this theorem: rows that are hidden,
+/// that belong to another context, or whose pattern no canonical path matches are left out. If only one of two contexts
+/// with the same path has a login configuration, requests log in only there.
 pub fn reported_differences_are_right()
     ensures differences { ReportedDifferencesAreRight }
     ensures logins { LoginsChangeOutcomes }
