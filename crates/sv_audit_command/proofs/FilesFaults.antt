@@ -2,11 +2,13 @@
 use Rattle.std.proofs.Common.{◌≡◌, ℕ, Bool, true, false, if◌then◌else◌, List, [], ◌∷◌, Option, Some, None, Result, Ok, Err, refl, subst}
 use Rattle.std.specs.Prelude.{is_some, option_copied}
 use Rattle.std.specs.List.{list_any}
+use Rattle.sv_deployments.specs.Folders.{FolderFiles}
 use Rattle.sv_deployments.specs.declared.folders.FoundContext.{FoundContext}
 use Rattle.sv_descriptor.specs.Descriptor.{located_descriptor}
 use Rattle.sv_descriptor.specs.Fault.{Located}
 use Rattle.sv_descriptor.specs.Server.{located_server}
 use Rattle.sv_descriptor.specs.Users.{located_users}
+use Rattle.sv_descriptor.specs.declared.login.FormLogin.{FormLogin}
 use Rattle.sv_realm.specs.Realm.{caller_named}
 use Rattle.sv_explanation.specs.Explanation.{explanation}
 use Rattle.sv_explanation.specs.declared.explanation.Explanation.{Explanation}
@@ -17,7 +19,7 @@ use Rattle.sv_program.specs.Configuration.{Step, descriptor_in, each, read_from,
 use Rattle.sv_program.specs.FileStore.{FileText}
 use Rattle.sv_program.specs.Shown.{quoted}
 use Rattle.sv_program.specs.declared.command_fault.CommandFault.{CommandFault}
-use Rattle.sv_program.specs.declared.command_fault.CommandFault.TheVariants.{Input, Output, File, Findings}
+use Rattle.sv_program.specs.declared.command_fault.CommandFault.TheVariants.{Input, Output, File, Folder, Findings}
 use Rattle.sv_program.specs.declared.command_fault.CommandFault.TheVariants as command
 use Rattle.sv_program.specs.declared.configuration.ContextTexts.{ContextTexts}
 use Rattle.sv_audit_command.specs.AuditCommand.{report_for}
@@ -25,6 +27,7 @@ use Rattle.sv_audited_contexts.specs.Audited.{audited_context, audited_contexts,
 use Rattle.sv_audit_command.specs.Report.{access_report, asked_text, context_options, difference_report, report_by, report_on}
 use Rattle.sv_audit_command.specs.ComparedServers.{checked_server, other_context, other_server}
 use Rattle.sv_audit_command.specs.ExplainedRequest.{explained, method_of, sites_of, told}
+use Rattle.sv_audited_contexts.specs.ContextFiles.{audited_files, files_in}
 use Rattle.sv_audited_contexts.specs.LineFile.{located}
 use Rattle.sv_audit_command.specs.Viewer.{check_viewer}
 use Rattle.sv_audited_contexts.specs.declared.audited_context.AuditedContext.{AuditedContext}
@@ -91,14 +94,23 @@ kept_faults : (keeps : Bool) (at : ContextTexts) → AreOfFiles (kept_descriptor
 kept_faults false at = done None
 kept_faults true at = onward (descriptor_in at) _ (app_faults at) (λ app. done (Some app))
 
-parts_faults : (options : ContextOptions) (at : ContextTexts) → AreOfFiles (context_parts options at)
-parts_faults options at =
-    onward (kept_descriptor options.keeps_descriptor at) _ (kept_faults options.keeps_descriptor at)
-    (λ kept. onward (users_in at) _ (named_faults at.context.path at.context.users at.users) (λ users. done _))
+folder_faults : (name : List ℕ) (found : FolderFiles) → AreOfFiles (audited_files name found)
+folder_faults [] found = done None
+folder_faults (first ∷ rest) (Ok files) = done (Some files)
+folder_faults (first ∷ rest) (Err entry) = λ fault h. only (Folder (first ∷ rest) entry) fault tt h
+
+in_faults : (name : List ℕ) (found : FolderFiles) (login : Option FormLogin) → AreOfFiles (files_in name found login)
+in_faults name found login = onward (audited_files name found) _ (folder_faults name found) (λ files. done _)
+
+parts_faults : (options : ContextOptions) (at : FoundContext) (login : Option FormLogin) → AreOfFiles (context_parts options at login)
+parts_faults options at login =
+    onward (kept_descriptor options.keeps_descriptor at.texts) _ (kept_faults options.keeps_descriptor at.texts)
+    (λ kept. onward (users_in at.texts) _ (named_faults at.texts.context.path at.texts.context.users at.texts.users)
+    (λ users. onward (files_in at.texts.context.files at.files login) _ (in_faults at.texts.context.files at.files login) (λ files. done _)))
 
 context_faults : (options : ContextOptions) (paths : List (List ℕ)) (at : FoundContext) → AreOfFiles (audited_context options paths at)
 context_faults options paths at =
-    onward (descriptor_in at.texts) _ (app_faults at.texts) (λ app. onward (context_parts options at.texts) _ (parts_faults options at.texts) (λ parts. done _))
+    onward (descriptor_in at.texts) _ (app_faults at.texts) (λ app. onward (context_parts options at app.login) _ (parts_faults options at app.login) (λ parts. done _))
 
 other_faults : (is_secure : Bool) (at : ContextTexts) → AreOfFiles (other_context is_secure at)
 other_faults is_secure at =

@@ -1,6 +1,7 @@
 mod MappingLemmas
 mod AnswerLemmas
 mod AuditLemmas
+mod MethodLemmas
 mod FilesFaults
 mod AuditRun
 mod Collected

@@ -12,11 +12,12 @@ use Rattle.sv_constraints.specs.declared.constraint.Constraint.{Constraint}
 use Rattle.sv_constraints.specs.declared.constraint.Methods.{Methods}
 use Rattle.sv_mapping.specs.BestMatch.{best_pattern}
 use Rattle.sv_policy.specs.Patterns.{lists_pattern}
-use Rattle.sv_program.specs.Uncovered.{methods_text, names_text}
+use Rattle.sv_program.specs.Uncovered.{names_text}
 use Rattle.sv_report.specs.Escaped.{escaped}
 use Rattle.sv_report.specs.FindingWords.{kind_name}
 use Rattle.sv_report.specs.Words.{who_text}
 use Rattle.sv_uri.specs.ContextPath.{shown_context}
+use Rattle.sv_audit_command.specs.MethodsKey.{methods_key}
 
 -- The pattern, or two quotation marks for the empty one.
 abbrev pub pattern_word : List ℕ → List ℕ
@@ -35,9 +36,9 @@ words_of constraint = flat_map (λ collection. map pattern_word collection.patte
 abbrev pub patterns_text : List Constraint → ℕ → List ℕ
 patterns_text constraints number = option_map_or (λ constraint. names_text (words_of constraint)) (constraint_numbered constraints number) []
 
--- A pattern, and methods as a script has them: `*`, names, or `!` and names.
+-- A pattern and methods.
 abbrev pub covered_subject : List ℕ → Methods → List ℕ
-covered_subject pattern methods = pattern_word pattern ++ codes " " ++ methods_text methods
+covered_subject pattern methods = pattern_word pattern ++ codes " " ++ methods_key methods
 
 -- The same, and the pattern that decides on other servers.
 abbrev pub otherwise_subject : List ℕ → Methods → List ℕ → List ℕ

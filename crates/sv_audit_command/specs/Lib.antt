@@ -4,6 +4,7 @@ pub mod RowPaths
 pub mod Viewer
 pub mod Kinds
 pub mod Accepted
+pub mod MethodsKey
 pub mod Key
 pub mod ContextReports
 pub mod ExplainedRequest

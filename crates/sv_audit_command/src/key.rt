@@ -4,10 +4,10 @@ ghost use Rattle.std.specs.Prelude.{◌≡◌, ◌++◌, List, IfOk, OnOk, map, 
 ghost use Rattle.std.specs.String.{string_bytes};
 ghost use Rattle.sv_constraints.specs.declared.constraint.Constraint.{Constraint};
 ghost use Rattle.sv_policy.specs.Groups.{IsGrouped};
-ghost use Rattle.sv_program.specs.Uncovered.{methods_text, names_text, omission_text, others_text};
 ghost use Rattle.sv_text.specs.Gives.{GivesAnswer};
 ghost use Rattle.sv_audit_command.specs.Key as spec;
 
+use crate::methods_key::{push_methods, push_texts};
 use std::alloc::Global;
 use sv_audit::{Access, best_text};
 use sv_constraints::{Auth, Constraint, Methods, lists};
@@ -124,48 +124,6 @@ fn push_heads(
     key.push_str(get.as_str())?;
     key.push_str(" HEAD ")?;
     push_name(key, head.as_str())
-}
-
-/// Appends `*` for all methods, names for only these, or `!` and names for all but these.
-fn push_methods(key: &mut String, methods: &Methods) -> Result<(), NoMemory>
-    ensures { OnOk result (string_bytes key.new ≡ string_bytes key.old ++ methods_text methods.now) }
-{
-    match methods {
-        Methods::All => Ok(key.push_str("*")?),
-        Methods::Only(names) => push_texts(key, names.as_slice()),
-        Methods::Except(names) => push_omission(key, names.as_slice()),
-    }
-}
-
-fn push_omission(key: &mut String, names: &[Text]) -> Result<(), NoMemory>
-    ensures { OnOk result (string_bytes key.new ≡ string_bytes key.old ++ omission_text names.now) }
-{
-    if names.is_empty() {
-        return Ok(key.push_str("*")?);
-    }
-    key.push_str("!")?;
-    push_texts(key, names)
-}
-
-/// Appends texts, separated by commas.
-fn push_texts(key: &mut String, texts: &[Text]) -> Result<(), NoMemory>
-    ensures { OnOk result (string_bytes key.new ≡ string_bytes key.old ++ names_text texts.now) }
-{
-    let Some((text, others)) = texts.split_first() else {
-        return Ok(());
-    };
-    key.push_str(text.as_str())?;
-    push_others(key, others)
-}
-
-fn push_others(key: &mut String, others: &[Text]) -> Result<(), NoMemory>
-    ensures { OnOk result (string_bytes key.new ≡ string_bytes key.old ++ others_text others.now) }
-{
-    for other in others {
-        key.push_str(",")?;
-        key.push_str(other.as_str())?;
-    }
-    Ok(())
 }
 
 /// Appends the patterns of the constraint with this number, separated by commas.

@@ -1,9 +1,10 @@
--- A context of a server, from the texts of its descriptor and its users file.
+-- A context of a server, from its descriptor, its users file and its folder.
 use Rattle.std.specs.Prelude.{ℕ, Bool, true, false, List, [], Option, None, Some, Ok, Err, is_some, map, if◌then◌else◌}
 use Rattle.sv_text.specs.Steps.{◌>>=◌}
 use Rattle.sv_audit.specs.Secure.{secure}
 use Rattle.sv_constraints.specs.declared.constraint.Constraint.{Constraint}
 use Rattle.sv_deployments.specs.declared.folders.FoundContext.{FoundContext}
+use Rattle.sv_descriptor.specs.declared.login.FormLogin.{FormLogin}
 use Rattle.sv_descriptor.specs.declared.web_app.WebApp.{WebApp}
 use Rattle.sv_findings.specs.declared.surroundings.Surroundings.{Surroundings}
 use Rattle.sv_program.specs.Configuration.{Step, descriptor_in, each, users_in}
@@ -40,30 +41,28 @@ kept_descriptor true texts = do
   app ← descriptor_in texts
   Ok (Some app)
 
-abbrev pub parts_of : ContextTexts → Option WebApp → List User → ContextParts
-parts_of texts kept users = record { descriptor = kept; realm = users; held = held_in texts.context.users users }
+abbrev pub parts_of : ContextTexts → Option WebApp → List User → ContextFiles → ContextParts
+parts_of texts kept users its_files = record { descriptor = kept; realm = users; held = held_in texts.context.users users; files = its_files }
 
--- The descriptor if it is kept, the users and their roles.
-abbrev pub context_parts : ContextOptions → ContextTexts → Step ContextParts
-context_parts options texts = do
-  kept ← kept_descriptor options.keeps_descriptor texts
-  users ← users_in texts
-  Ok (parts_of texts kept users)
-
--- The parts of the files of a context with this descriptor that an audit uses.
-abbrev pub its_files : FoundContext → WebApp → ContextFiles
-its_files found app = files_in found.texts.context.files found.files app.login
+-- The descriptor if it is kept, the users and their roles, and the files in the folder, for a descriptor with this login
+-- page.
+abbrev pub context_parts : ContextOptions → FoundContext → Option FormLogin → Step ContextParts
+context_parts options found login = do
+  kept ← kept_descriptor options.keeps_descriptor found.texts
+  users ← users_in found.texts
+  files ← files_in found.texts.context.files found.files login
+  Ok (parts_of found.texts kept users files)
 
 -- What surrounds the constraints of a context, given the paths of all contexts.
-abbrev pub surroundings_of : List (List ℕ) → FoundContext → WebApp → Option (List (List ℕ)) → Surroundings
-surroundings_of paths found app its_held = record {
+abbrev pub surroundings_of : List (List ℕ) → ContextTexts → WebApp → Option (List (List ℕ)) → ContextFiles → Surroundings
+surroundings_of paths texts app its_held its_files = record {
   contexts = paths;
-  path = found.texts.context.path;
+  path = texts.context.path;
   has_login = is_some app.login;
   held = its_held;
   servlets = mapped_patterns app.servlet_mappings;
-  files = (its_files found app).paths;
-  login_page = (its_files found app).login_page;
+  files = its_files.paths;
+  login_page = its_files.login_page;
 }
 
 -- The context with this descriptor, these parts and these surroundings.
@@ -79,12 +78,12 @@ context_of is_secure its_source app parts its_surroundings = record {
   surroundings = its_surroundings;
 }
 
--- The context, given the paths of all contexts, or the first fault of its descriptor and then of its users.
+-- The context, given the paths of all contexts, or the first fault of its descriptor, then of its users, then of its folder.
 abbrev pub audited_context : ContextOptions → List (List ℕ) → FoundContext → Step AuditedContext
 audited_context options paths found = do
   app ← descriptor_in found.texts
-  parts ← context_parts options found.texts
-  Ok (context_of options.is_secure (source_of found.texts) app parts (surroundings_of paths found app parts.held))
+  parts ← context_parts options found app.login
+  Ok (context_of options.is_secure (source_of found.texts) app parts (surroundings_of paths found.texts app parts.held parts.files))
 
 -- The paths of contexts.
 abbrev pub paths_of : List FoundContext → List (List ℕ)

@@ -1,22 +1,26 @@
 -- The static files of a context, as an audit uses them (Jakarta Servlet 6.0, sections 10.10 and 13.6.3).
 use Rattle.std.specs.Prelude.{ℕ, List, [], ◌∷◌, map, Option, None, Some, option_and_then, Result, Ok, Err}
 use Rattle.std.specs.Option.{option_map}
+use Rattle.sv_text.specs.Steps.{◌>>=◌}
 use Rattle.sv_deployments.specs.Folders.{FolderFiles}
 use Rattle.sv_descriptor.specs.declared.login.FormLogin.{FormLogin}
 use Rattle.sv_files.specs.Files.{file_at}
 use Rattle.sv_files.specs.declared.files.File.{File}
 use Rattle.sv_findings.specs.declared.surroundings.LoginPage.{LoginPage}
+use Rattle.sv_program.specs.Configuration.{Step}
 use Rattle.sv_program.specs.FileLine.{text_of}
+use Rattle.sv_program.specs.declared.command_fault.CommandFault.TheVariants as fault
 use Rattle.sv_uri.specs.Canonical.{canonical}
 use Rattle.sv_uri.specs.declared.fault.PathFault.{PathFault}
 use Rattle.sv_uri.specs.declared.path.Canon.{Canon}
 use Rattle.sv_audited_contexts.specs.declared.context_files.ContextFiles.{ContextFiles}
 
--- The files in the folder of this name, if they are known. An empty name means no folder, of which nothing is known.
-abbrev pub known_files : List ℕ → FolderFiles → Option (List File)
-known_files [] found = None
-known_files (first ∷ rest) (Ok files) = Some files
-known_files (first ∷ rest) (Err why) = None
+-- The files in the folder of this name, or what of it is not available. An empty name means no folder, of which nothing is
+-- known.
+abbrev pub audited_files : List ℕ → FolderFiles → Step (Option (List File))
+audited_files [] found = Ok None
+audited_files (first ∷ rest) (Ok files) = Ok (Some files)
+audited_files (first ∷ rest) (Err entry) = Err (fault.Folder (first ∷ rest) entry)
 
 abbrev pub paths_of : List File → List (List ℕ)
 paths_of files = map (λ file. file.path) files
@@ -24,7 +28,7 @@ paths_of files = map (λ file. file.path) files
 -- The path of a location within a context, without its query.
 abbrev pub path_in : Result Canon PathFault → Option (List ℕ)
 path_in (Ok canon) = Some canon.path
-path_in (Err fault) = None
+path_in (Err found) = None
 
 abbrev pub page_with : List ℕ → List ℕ → LoginPage
 page_with its_path its_text = record { path = its_path; text = its_text }
@@ -49,5 +53,8 @@ abbrev pub used_of : Option (List File) → Option FormLogin → ContextFiles
 used_of None login = record { paths = None; login_page = None }
 used_of (Some files) login = files_of files login
 
-abbrev pub files_in : List ℕ → FolderFiles → Option FormLogin → ContextFiles
-files_in name found login = used_of (known_files name found) login
+-- The same of the folder of this name, or what of it is not available.
+abbrev pub files_in : List ℕ → FolderFiles → Option FormLogin → Step ContextFiles
+files_in name found login = do
+  files ← audited_files name found
+  Ok (used_of files login)

@@ -5,7 +5,7 @@ ghost use Rattle.sv_program.specs.CommandFault.{command_fault};
 ghost use Rattle.sv_program.specs.Configuration.{each};
 ghost use Rattle.sv_audited_contexts.specs.Audited as spec;
 
-use crate::context_files::files_in;
+use crate::context_files::{ContextFiles, files_in};
 use crate::descriptor_lines::{SourceLines, source_lines};
 use crate::held::held_in;
 use crate::mapped_patterns::servlet_patterns;
@@ -13,7 +13,7 @@ use std::alloc::Global;
 use sv_audit::without_transport;
 use sv_constraints::{Constraint, Rules};
 use sv_deployments::FoundContext;
-use sv_descriptor::{Descriptor, ServletMapping, WebApp};
+use sv_descriptor::{Descriptor, FormLogin, ServletMapping, WebApp};
 use sv_findings::Surroundings;
 use sv_program::{CommandFault, ContextTexts, FileText, descriptor_in, realm_in};
 use sv_realm::Realm;
@@ -64,8 +64,9 @@ pub struct Source {
 /// connection whose transport is guaranteed. Descriptors are kept if they are asked for.
 ///
 /// # Errors
-/// The first fault, of the descriptor and then of the users of each context, in order: [`CommandFault::File`],
-/// [`CommandFault::Descriptor`] or [`CommandFault::Users`]. Or [`CommandFault::NoMemory`].
+/// The first fault, of the descriptor, then of the users and then of the folder of each context, in order:
+/// [`CommandFault::File`], [`CommandFault::Descriptor`], [`CommandFault::Users`] or [`CommandFault::Folder`]. Or
+/// [`CommandFault::NoMemory`].
 pub fn audited_contexts(
     alloc: Global,
     found: &[FoundContext],
@@ -114,32 +115,46 @@ fn audited_context(
     ensures { Gives command_fault result (spec.audited_context options paths.now found.now) }
 {
     let web_app = descriptor_in(alloc, &found.texts)?.into_web_app();
-    let parts = context_parts(alloc, &found.texts, options)?;
-    Ok(context_of(alloc, found, web_app, parts, paths, options.is_secure)?)
+    let parts = context_parts(alloc, found, &web_app.login, options)?;
+    Ok(context_of(
+        alloc,
+        &found.texts,
+        web_app,
+        parts,
+        paths,
+        options.is_secure,
+    )?)
 }
 
-/// The parts of a context besides its constraints: the descriptor if it is kept, the users, and their roles.
+/// The parts of a context besides its constraints: the descriptor if it is kept, the users, their roles, and the static
+/// files.
 #[derive(Drop)]
 pub struct ContextParts {
     descriptor: Option<Descriptor>,
     realm: Realm,
     held: Option<Listed<Text>>,
+    files: ContextFiles,
 }
 
+/// Reads the parts of a context whose descriptor has this login page.
 fn context_parts(
     alloc: Global,
-    texts: &ContextTexts,
+    found: &FoundContext,
+    login: &Option<FormLogin>,
     options: ContextOptions,
 ) -> Result<ContextParts, CommandFault>
-    ensures { Gives command_fault result (spec.context_parts options texts.now) }
+    ensures { Gives command_fault result (spec.context_parts options found.now login.now) }
 {
+    let texts = &found.texts;
     let descriptor = kept_descriptor(alloc, texts, options.keeps_descriptor)?;
     let realm = realm_in(alloc, texts)?;
     let held = held_in(alloc, &texts.context.users, &realm)?;
+    let files = files_in(alloc, texts.context.files.as_str(), &found.files, login)?;
     Ok(ContextParts {
         descriptor,
         realm,
         held,
+        files,
     })
 }
 
@@ -162,16 +177,16 @@ fn kept_descriptor(
 /// Returns the context with this descriptor and these parts.
 fn context_of(
     alloc: Global,
-    found: &FoundContext,
+    texts: &ContextTexts,
     web_app: WebApp,
     parts: ContextParts,
     paths: &[Text],
     is_secure: bool,
 ) -> Result<AuditedContext, NoMemory>
-    ensures { GivesAnswer result (spec.context_of is_secure (spec.source_of found.now.texts) web_app parts (spec.surroundings_of paths.now found.now web_app parts.held)) }
+    ensures { GivesAnswer result (spec.context_of is_secure (spec.source_of texts.now) web_app parts (spec.surroundings_of paths.now texts.now web_app parts.held parts.files)) }
 {
-    let source = source_of(alloc, &found.texts)?;
-    let surroundings = surroundings_of(alloc, found, &web_app, parts.held, paths)?;
+    let source = source_of(alloc, texts)?;
+    let surroundings = surroundings_of(alloc, texts, &web_app, parts.held, parts.files, paths)?;
     let has_login = web_app.login.is_some();
     let constraints = constraints_over(alloc, is_secure, web_app.constraints)?;
     Ok(AuditedContext {
@@ -189,19 +204,18 @@ fn context_of(
 /// Returns what surrounds the constraints of a context with this descriptor, given the paths of all contexts.
 fn surroundings_of(
     alloc: Global,
-    found: &FoundContext,
+    texts: &ContextTexts,
     web_app: &WebApp,
     held: Option<Listed<Text>>,
+    files: ContextFiles,
     paths: &[Text],
 ) -> Result<Surroundings, NoMemory>
-    ensures { GivesAnswer result (spec.surroundings_of paths.now found.now web_app.now held) }
+    ensures { GivesAnswer result (spec.surroundings_of paths.now texts.now web_app.now held files) }
 {
-    let folder = found.texts.context.files.as_str();
-    let files = files_in(alloc, folder, &found.files, &web_app.login)?;
     let servlets = servlet_patterns(alloc, web_app.servlet_mappings.as_slice())?;
     Ok(Surroundings {
         contexts: copied_texts(alloc, paths)?,
-        path: Text::copy_of(alloc, found.texts.context.path.as_str())?,
+        path: Text::copy_of(alloc, texts.context.path.as_str())?,
         has_login: web_app.login.is_some(),
         held,
         servlets,

@@ -2,7 +2,9 @@
 
 ghost use Rattle.std.specs.Prelude.{◌≡◌, find, option_and_then, option_copied};
 ghost use Rattle.std.specs.Str.{bytes_eq};
-ghost use Rattle.sv_text.specs.Gives.{GivesAnswer};
+ghost use Rattle.sv_program.specs.CommandFault.{command_fault};
+ghost use Rattle.sv_program.specs.declared.command_fault.CommandFault.TheVariants as fault;
+ghost use Rattle.sv_text.specs.Gives.{Gives, GivesAnswer};
 ghost use Rattle.sv_uri.specs.Canonical.{canonical};
 ghost use Rattle.sv_audited_contexts.specs.ContextFiles as spec;
 
@@ -12,6 +14,7 @@ use sv_deployments::FolderFiles;
 use sv_descriptor::FormLogin;
 use sv_files::File;
 use sv_findings::LoginPage;
+use sv_program::{CommandFault, UnavailableEntry};
 use sv_text::{Listed, NoMemory, Text};
 use sv_uri::canon;
 use sv_uri::fault::CanonFault;
@@ -25,37 +28,46 @@ pub struct ContextFiles {
     pub login_page: Option<LoginPage>,
 }
 
-/// Returns what an audit uses of the files in the folder of this name. A folder that is not available is no fault: then
-/// no files are known, as without a folder.
+/// Returns what an audit uses of the files in the folder of this name. An empty name means no folder: then it is not
+/// known what answers where no servlet does.
+///
+/// # Errors
+/// [`CommandFault::Folder`] if the folder has a name and is not available, or [`CommandFault::NoMemory`].
 pub fn files_in(
     alloc: Global,
     name: &str,
     found: &FolderFiles,
     login: &Option<FormLogin>,
-) -> Result<ContextFiles, NoMemory>
-    ensures { GivesAnswer result (spec.files_in name.now found.now login.now) }
+) -> Result<ContextFiles, CommandFault>
+    ensures { Gives command_fault result (spec.files_in name.now found.now login.now) }
 {
-    match known_files(name, found) {
-        Some(files) => files_of(alloc, files, login),
-        None => Ok(ContextFiles {
+    if name.is_empty() {
+        return Ok(ContextFiles {
             paths: None,
             login_page: None,
-        }),
+        });
+    }
+    match found {
+        Ok(files) => Ok(files_of(alloc, files.as_slice(), login)?),
+        Err(entry) => Err(folder_fault(alloc, name, entry)?),
     }
 }
 
-/// Returns the files in the folder of this name, if they are known. An empty name means no folder: then it is not known
-/// what answers where no servlet does.
-fn known_files<'a>(name: &str, found: &'a FolderFiles) -> Option<&'a [File]>
-    ensures { option_copied result ≡ spec.known_files name.now found.now }
+/// Returns the fault of the folder of this name, of which this entry is not available.
+fn folder_fault(
+    alloc: Global,
+    name: &str,
+    entry: &UnavailableEntry,
+) -> Result<CommandFault, NoMemory>
+    ensures { GivesAnswer result (fault.Folder name.now entry.now) }
 {
-    if name.is_empty() {
-        return None;
-    }
-    match found {
-        Ok(files) => Some(files.as_slice()),
-        Err(_) => None,
-    }
+    Ok(CommandFault::Folder {
+        name: Text::copy_of(alloc, name)?,
+        entry: UnavailableEntry {
+            path: Text::copy_of(alloc, entry.path.as_str())?,
+            why: entry.why,
+        },
+    })
 }
 
 fn files_of(

@@ -1,5 +1,5 @@
 -- The check of a context, from its steps.
-use Rattle.std.proofs.Common.{◌≡◌, ◌∙◌, ℕ, Bool, true, false, nat_eq, List, [], ◌∷◌, ◌++◌, length, map, flat_map, Option, Some, None, MatchOption, MatchResult, Result, Ok, Err, refl, sym, ap, append-nil, append_assoc}
+use Rattle.std.proofs.Common.{◌≡◌, ◌∙◌, ℕ, Bool, true, false, nat_eq, List, [], ◌∷◌, ◌++◌, length, map, Option, Some, None, MatchOption, MatchResult, Ok, Err, refl, sym, ap, append-nil, append_assoc}
 use Rattle.sv_text.specs.Gives.{Gives}
 use Rattle.sv_text.specs.Steps.{◌>>=◌}
 use Rattle.sv_descriptor.specs.declared.web_app.WebApp.{WebApp}
@@ -10,15 +10,14 @@ use Rattle.sv_program.specs.Configuration.{Step, descriptor_in, each, users_in}
 use Rattle.sv_program.specs.declared.command_fault.CommandFault.{CommandFault}
 use Rattle.sv_program.specs.declared.command_fault.CommandFault.TheVariants.{Input, Output, File as FileFault, Folder, Server, Descriptor, Users, Class, Files, Start, Socket, Script, User as UserFault, Method, NoMemory, Findings, Faults}
 use Rattle.sv_program.specs.declared.configuration.ContextTexts.{ContextTexts}
-use Rattle.sv_deployments.specs.Check.{FindsFirstFault, checked_context, checked_server, class_fault_of, context_faults, counts_in, counts_of, fault_of, total_bytes}
+use Rattle.sv_deployments.specs.Check.{FindsFirstFault, checked_server, class_fault_of, context_faults, counts_in, counts_of, fault_of, total_bytes}
 use Rattle.sv_deployments.specs.Counted.{AreTaken, AreTakenBy, IsAdded, IsNoMemory, IsTaken, app_counts, checked_app, classes_in, counts_for, faults_for, file_counts, joined, user_count}
-use Rattle.sv_deployments.specs.Deployments.{Deployed, components_in, deployment_for, deployment_of}
+use Rattle.sv_deployments.specs.Deployments.{Deployed, components_in, deployment_of}
 use Rattle.sv_deployments.specs.Files.{files_in}
 use Rattle.sv_deployments.specs.Folders.{FolderFiles}
 use Rattle.sv_deployments.specs.Parts.{Components}
 use Rattle.sv_deployments.specs.declared.check.AppCounts.{AppCounts}
 use Rattle.sv_deployments.specs.declared.check.CheckedApp.{CheckedApp}
-use Rattle.sv_deployments.specs.declared.check.ContextCounts.{ContextCounts}
 use Rattle.sv_deployments.specs.declared.check.FileCounts.{FileCounts}
 use Rattle.sv_deployments.specs.declared.folders.FoundContext.{FoundContext}
 

@@ -9,7 +9,7 @@ use Rattle.sv_program.specs.CommandFault.{command_fault}
 use Rattle.sv_program.specs.Configuration.{Step}
 use Rattle.sv_program.specs.declared.command_fault.CommandFault.{CommandFault}
 use Rattle.sv_program.specs.declared.command_fault.CommandFault.TheVariants as fault
-use Rattle.sv_deployments.specs.FilesFault.{path_for, served_files}
+use Rattle.sv_deployments.specs.FilesFault.{refusal, served_files}
 use Rattle.sv_deployments.specs.Results.{both}
 
 -- if the whole fails with the fault of a part, a fault of that part is its result
@@ -25,12 +25,13 @@ ends {B = B} {X = X} view fault (Err e) part whole comes failed same = rw same (
     at (Some f) h = comes f h
 
 -- the result for a list of files that is refused
-pub refused_files : (path : List ℕ) (listed : List File) (found : Option FilesFault) (result : Step (List File))
+pub refused_files : (path : List ℕ) (listed : List File) (bad large : Option (List ℕ)) (found : Option FilesFault) (result : Step (List File))
+    → bad ≡ bad_path listed → large ≡ large_path listed
     → MatchOption found (Unit {0}) (λ f. files_of listed ≡ Err f)
-    → MatchOption found (result ≡ Err fault.NoMemory) (λ f. Gives command_fault result (Err (fault.Files path f (path_for (bad_path listed) (large_path listed) f))))
+    → MatchOption found (result ≡ Err fault.NoMemory) (λ f. Gives command_fault result (Err (refusal path bad large f)))
     → Gives command_fault result (served_files path listed)
-refused_files path listed None result h said = rw said tt
-refused_files path listed (Some f) result h said = rw h said
+refused_files path listed bad large None result is_bad is_large h said = rw said tt
+refused_files path listed bad large (Some f) result is_bad is_large h said = rw h (rw (is_bad, is_large) at said)
 
 -- the result is both readings, or the first fault
 pub both_given : {A B : Type 0} (one : Result A CommandFault) (other : Result B CommandFault) (first : Step A) (second : Step B)

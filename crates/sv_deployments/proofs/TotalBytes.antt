@@ -1,11 +1,10 @@
 -- The bytes of static files together.
-use Rattle.std.proofs.Common.{◌≡◌, ℕ, ◌+◌, ◌*◌, ◌≤◌, Bool, true, false, nat_lt, ◌||◌, List, [], ◌∷◌, ◌++◌, length, sum_by, arith, refl, rules, not}
+use Rattle.std.proofs.Common.{◌≡◌, ℕ, ◌*◌, ◌≤◌, Bool, true, false, nat_lt, ◌||◌, List, [], ◌∷◌, ◌++◌, length, arith, refl, rules, not}
 use Rattle.std.proofs.lemmas.List.Sums.{sum_by-cons}
 use Rattle.std.specs.List.{list_any}
 use Rattle.sv_text.specs.Faults.{when}
 use Rattle.sv_files.specs.Fault.{list_faults, repeats}
 use Rattle.sv_files.specs.Files.{is_file_path}
-use Rattle.sv_files.specs.declared.fault.FilesFault.{FilesFault}
 use Rattle.sv_files.specs.declared.fault.FilesFault.TheVariants.{BadPath, Duplicate, TooMany, TooLarge}
 use Rattle.sv_files.specs.declared.files.File.{File}
 use Rattle.sv_files.specs.declared.files.TheConstants.{MAX_FILES, MAX_FILE_BYTES}

@@ -32,85 +32,104 @@ fn read_folder<F: Files + AllocGlobal + Clone + Drop>(
         folder: name,
         waiting: Vec::new(alloc),
         files: Vec::new(alloc),
+        refusal: None,
     };
-    match walk.read_all(alloc, files)? {
-        None => Ok(Ok(Listed::from_vec(walk.files))),
-        Some(entry) => Ok(Err(entry)),
+    match walk.read_all(alloc, files) {
+        Ok(()) => Ok(Ok(Listed::from_vec(walk.files))),
+        Err(error) if error.kind() == ErrorKind::OutOfMemory => Err(NoMemory),
+        Err(error) => Ok(Err(refusal_of(alloc, walk.refusal, error))),
     }
 }
 
-/// A walk through a folder and the folders below it, which ends at the first file over the limit. Paths are relative to
-/// the folder; its own path is empty.
+// Returns the entry that ended a walk, or else the folder itself.
+fn refusal_of(
+    alloc: Global,
+    refusal: Option<UnavailableEntry>,
+    error: io::Error,
+) -> UnavailableEntry {
+    match refusal {
+        Some(entry) => entry,
+        None => UnavailableEntry {
+            path: Text::from_string(String::new(alloc)),
+            why: Unavailable::of(error.kind()),
+        },
+    }
+}
+
+/// A walk through a folder and the folders below it, which ends at the first file over the limit, and at the first entry
+/// that is not available. Paths are relative to the folder; its own path is empty.
 #[derive(Drop)]
 struct Walk<'a> {
     folder: &'a str,
     /// The paths of the folders that remain to be read.
     waiting: Vec<String>,
     files: Vec<File>,
+    /// The entry that is not available.
+    refusal: Option<UnavailableEntry>,
 }
 
 impl Walk<'_> {
-    // Reads all folders. Returns the first entry that is not available.
     fn read_all<F: Files + AllocGlobal + Clone + Drop>(
         &mut self,
         alloc: Global,
         files: &F,
-    ) -> Result<Option<UnavailableEntry>, NoMemory>
+    ) -> io::Result<()>
         requires { length self.old.files.items ≤ MAX_FILES + 1 }
         ensures { length self.new.files.items ≤ MAX_FILES + 1 }
     {
         self.waiting.push(String::new(alloc))?;
         for _ in 0..u64::MAX {
             let Some(path) = self.waiting.pop() else {
-                return Ok(None);
+                return Ok(());
             };
-            let found = self.read_entries(alloc, files, path)?;
-            if found.is_some() || self.has_too_many() {
-                return Ok(found);
+            match self.read_entries(alloc, files, path.as_str()) {
+                Ok(()) => {}
+                Err(error) => return self.refuse(path, folder_reason(error.kind()), error),
+            }
+            if self.has_too_many() {
+                return Ok(());
             }
         }
-        let path = Text::from_string(String::new(alloc));
-        Ok(Some(unavailable(path, Unavailable::Other)))
+        Err(io::Error::from(ErrorKind::Other))
     }
 
-    // Reads the entries of the folder at this path, up to the first file over the limit. Returns the first that is not
-    // available.
+    // Reads the entries of the folder at this path, up to the first file over the limit.
     fn read_entries<F: Files + AllocGlobal + Clone + Drop>(
         &mut self,
         alloc: Global,
         files: &F,
-        path: String,
-    ) -> Result<Option<UnavailableEntry>, NoMemory>
+        path: &str,
+    ) -> io::Result<()>
         requires { length self.old.files.items ≤ MAX_FILES + 1 }
         ensures { length self.new.files.items ≤ MAX_FILES + 1 }
     {
         let folder = format!(in alloc; "{}{path}", self.folder)?;
-        let entries = match read_dir(files, folder.as_str()) {
-            Ok(entries) => entries,
-            Err(error) => return refused(Text::from_string(path), error),
-        };
-        for entry in entries {
+        for entry in read_dir(files, folder.as_str())? {
             if self.has_too_many() {
-                return Ok(None);
+                return Ok(());
             }
-            let found = match entry {
-                Ok(entry) => {
-                    let path = format!(in alloc; "{path}/{}", entry.file_name())?;
-                    self.take(alloc, files, &entry, path)?
-                }
-                Err(error) => return nameless(Text::from_string(path), error),
-            };
-            if found.is_some() {
-                return Ok(found);
-            }
+            let entry = entry?;
+            let path = format!(in alloc; "{path}/{}", entry.file_name())?;
+            self.take(alloc, files, &entry, path)?;
         }
-        Ok(None)
+        Ok(())
     }
 
     fn has_too_many(&self) -> bool
         ensures { result ≡ nat_lt MAX_FILES (length self.now.files.items) }
     {
         self.files.len() > MAX_FILES
+    }
+
+    // Notes the entry at this path as the one that is not available, unless one was noted before, and returns the error.
+    fn refuse(&mut self, path: String, why: Unavailable, error: io::Error) -> io::Result<()>
+        ensures { self.new.files ≡ self.old.files }
+    {
+        if self.refusal.is_none() {
+            let path = Text::from_string(path);
+            self.refusal = Some(UnavailableEntry { path, why });
+        }
+        Err(error)
     }
 
     // Handles the entry at this path: a folder is queued, and a regular file is read. Any other entry is not available.
@@ -120,59 +139,46 @@ impl Walk<'_> {
         files: &F,
         entry: &DirEntry<F>,
         path: String,
-    ) -> Result<Option<UnavailableEntry>, NoMemory>
+    ) -> io::Result<()>
         requires { length self.old.files.items ≤ MAX_FILES }
         ensures { length self.new.files.items ≤ MAX_FILES + 1 }
     {
-        let kind = match entry.file_type() {
-            Ok(kind) => kind,
-            Err(error) => return refused(Text::from_string(path), error),
-        };
+        let kind = entry.file_type()?;
         if kind.is_dir() {
             self.waiting.push(path)?;
-            return Ok(None);
+            return Ok(());
         }
         if !kind.is_file() {
-            let why = if kind.is_symlink() {
-                Unavailable::Link
-            } else {
-                Unavailable::SpecialFile
-            };
-            return Ok(Some(unavailable(Text::from_string(path), why)));
+            let why = special_reason(kind.is_symlink());
+            return self.refuse(path, why, io::Error::from(ErrorKind::Unsupported));
         }
         match read_bytes(alloc, files, entry) {
             Ok(bytes) => {
-                self.files.push(File {
-                    path: Text::from_string(path),
-                    bytes,
-                })?;
-                Ok(None)
+                let path = Text::from_string(path);
+                self.files.push(File { path, bytes })?;
+                Ok(())
             }
-            Err(error) => refused(Text::from_string(path), error),
+            Err(error) => self.refuse(path, Unavailable::of(error.kind()), error),
         }
     }
 }
 
-fn unavailable(path: Text, why: Unavailable) -> UnavailableEntry
-    ensures { (result.path ≡ path) × (result.why ≡ why) }
-{
-    UnavailableEntry { path, why }
+// Returns why a folder is not available whose entries the system refuses by an error of this kind.
+fn folder_reason(kind: ErrorKind) -> Unavailable {
+    if kind == ErrorKind::InvalidFilename {
+        Unavailable::NamelessEntry
+    } else {
+        Unavailable::of(kind)
+    }
 }
 
-// Returns the entry at this path, which the system refuses by this error.
-fn refused(path: Text, error: io::Error) -> Result<Option<UnavailableEntry>, NoMemory> {
-    if error.kind() == ErrorKind::OutOfMemory {
-        return Err(NoMemory);
+// Returns why an entry is not available that is neither a file nor a directory.
+fn special_reason(is_link: bool) -> Unavailable {
+    if is_link {
+        Unavailable::Link
+    } else {
+        Unavailable::SpecialFile
     }
-    Ok(Some(unavailable(path, Unavailable::of(error.kind()))))
-}
-
-// Returns the folder at this path, whose next entry the system refuses by this error.
-fn nameless(path: Text, error: io::Error) -> Result<Option<UnavailableEntry>, NoMemory> {
-    if error.kind() == ErrorKind::InvalidFilename {
-        return Ok(Some(unavailable(path, Unavailable::NamelessEntry)));
-    }
-    refused(path, error)
 }
 
 // Reads the bytes of a file, at most one more than it may have.

@@ -4,8 +4,7 @@ ghost use Rattle.std.specs.Prelude.{◌≡◌, Err, MatchOption};
 ghost use Rattle.sv_text.specs.Gives.{Gives};
 ghost use Rattle.sv_files.specs.Fault.{list_fault};
 ghost use Rattle.sv_program.specs.CommandFault.{command_fault};
-ghost use Rattle.sv_program.specs.declared.command_fault.CommandFault.TheVariants as fault;
-ghost use Rattle.sv_deployments.specs.FilesFault.{path_for, served_files};
+ghost use Rattle.sv_deployments.specs.FilesFault.{path_for, refusal, served_files};
 
 use std::alloc::Global;
 use sv_files::{File, Files, FilesFault, first_bad_path, first_large_path};
@@ -56,7 +55,7 @@ fn refused<T>(
     faulty: Faulty,
 ) -> Result<T, CommandFault>
     ensures { MatchOption (list_fault fault) (result ≡ Err CommandFault.NoMemory)
-        (λ found. Gives command_fault result (Err (fault.Files path.now found (path_for faulty.bad faulty.large found)))) }
+        (λ found. Gives command_fault result (Err (refusal path.now faulty.bad faulty.large found))) }
 {
     if fault == FilesFault::NoMemory {
         return Err(CommandFault::NoMemory);

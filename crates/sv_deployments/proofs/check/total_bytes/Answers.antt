@@ -1,8 +1,7 @@
-use Rattle.std.proofs.Common.{◌≡◌, ◌+◌, ◌≤◌, ap, arith, length, take}
+use Rattle.std.proofs.Common.{◌≡◌, ◌+◌, ap, arith, length}
 use Rattle.std.proofs.lemmas.List.Sums.{sum_by_more, sum_by-take-le}
 use Rattle.sv_files.specs.declared.files.File.{File}
 use Rattle.sv_deployments.proofs.TotalBytes.{few_bytes}
-use Rattle.sv_deployments.specs.Check.{total_bytes}
 use Rattle.sv_deployments.proofs.check.total_bytes.Goals as goal
 
 pub overflow_add-total : goal.overflow_add-total

@@ -1,5 +1,4 @@
-use Rattle.std.proofs.Common.{◌≡◌, length, sum_by, take}
-use Rattle.sv_files.specs.declared.files.File.{File}
+use Rattle.std.proofs.Common.{◌≡◌, take}
 use Rattle.sv_deployments.specs.Check.{total_bytes}
 use Rattle.sv_deployments.proofs.check.total_bytes.Given as goal
 
