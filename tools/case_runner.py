@@ -1,6 +1,7 @@
 """Runs a program on the rows of cases, and says what differs from what they expect."""
 import concurrent.futures
 import contextlib
+import functools
 import os
 import re
 import resource
@@ -19,6 +20,8 @@ SECONDS = 60
 EXAMPLES = os.fsencode(os.path.dirname(os.path.dirname(os.path.realpath(__file__)))) + b"/examples"
 # How each limit is set in a shell.
 LIMITS = {"memory": "ulimit -v", "descriptors": "ulimit -n"}
+# By this the modes of files bind a program that root runs.
+BOUND = ["setpriv", "--bounding-set=-dac_override,-dac_read_search"]
 # The streams that fail: which, the file in its place, and how it is opened.
 STREAMS = {
     "stdin folder": ("stdin", "/", os.O_RDONLY),
@@ -88,19 +91,32 @@ def steps_of(case, cells):
 
 
 def limits_of(case):
-    return [(kind, int(most)) for kind, most in (line.split() for line in case.lines("limits"))]
+    lines = [line.split() for line in case.lines("limits") if line != "modes"]
+    return [(kind, int(most)) for kind, most in lines]
 
 
 def limited(command, case):
     """A command under the limits of a case."""
     sets = "".join(f"{LIMITS[kind]} {most} && " for kind, most in limits_of(case))
+    if "modes" in case.lines("limits") and os.geteuid() == 0:
+        command = [*BOUND, *command]
     return ["sh", "-c", f'{sets}exec "$0" "$@"', *command] if sets else command
 
 
+@functools.cache
+def is_bound_by_modes():
+    """Whether the modes of files bind this process, or it can run a program that they bind."""
+    if os.geteuid() != 0:
+        return True
+    return shutil.which(BOUND[0]) and subprocess.run([*BOUND, "true"], check=False).returncode == 0
+
+
 def is_granted(case):
-    """Whether the machine grants the descriptors of a case, and as many to this process."""
+    """Whether the machine grants the limits of a case, and as many descriptors to this process."""
     most = resource.getrlimit(resource.RLIMIT_NOFILE)[1]
     counts = [count for kind, count in limits_of(case) if kind == "descriptors"]
+    if "modes" in case.lines("limits") and not is_bound_by_modes():
+        return False
     return most == resource.RLIM_INFINITY or all(2 * count <= most for count in counts)
 
 

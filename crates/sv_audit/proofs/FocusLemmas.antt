@@ -1,10 +1,12 @@
 -- Constraints decide at a pattern as without all that does not concern it.
-use Rattle.std.proofs.Common.{◌≡◌, ℕ, Bool, true, false, not, ◌||◌, ◌&&◌, List, [], ◌∷◌, ◌++◌, length, map, min, refl, ap, ap₂, sym, ◌∙◌, cond, append-nil, Some, ◌==◌}
+use Rattle.std.proofs.Common.{◌≡◌, ℕ, Bool, true, false, not, ◌||◌, ◌&&◌, List, [], ◌∷◌, ◌++◌, length, map, min, refl, ap, ap₂, sym, ◌∙◌, cond, append-nil, Option, Some, ◌==◌}
 use Rattle.std.specs.Prelude.{filter}
 use Rattle.std.specs.List.{flat_map, list_any, reduce}
 use Rattle.std.specs.Str.{bytes_eq}
+use Rattle.sv_realm.specs.declared.caller.Caller.{Caller}
 use Rattle.sv_constraints.specs.Covering.{covers, covers_method, lists}
-use Rattle.sv_constraints.specs.Verdict.{is_open, least_number, least_where, permits_plain, precludes}
+use Rattle.sv_constraints.specs.Decision.{why_of}
+use Rattle.sv_constraints.specs.Verdict.{admits_caller, is_open, least_number, least_where, permits_plain, precludes, verdict_at}
 use Rattle.sv_constraints.specs.declared.constraint.Collection.{Collection}
 use Rattle.sv_constraints.specs.declared.constraint.Constraint.{Constraint}
 use Rattle.sv_constraints.specs.declared.constraint.Methods.{Methods}
@@ -16,10 +18,11 @@ use Rattle.sv_policy.specs.Merged.{admits_everyone}
 use Rattle.sv_policy.specs.Uncovered.{rising}
 use Rattle.sv_audit.proofs.Filters.{filter_map, map_twice}
 use Rattle.sv_audit.proofs.Made.{map_agree, row_with}
-use Rattle.sv_audit.specs.Access.{cell_at, roles_meant, roles_of}
+use Rattle.sv_audit.specs.Access.{access_at, cell_at, cell_with, fitting_caller, roles_meant, roles_of}
 use Rattle.sv_audit.specs.Focus.{focused, focused_collection, focused_collections}
 use Rattle.sv_audit.specs.Rows.{exceptions, groups_of, named_cell, row_at}
 use Rattle.sv_audit.specs.Same.{same_cell}
+use Rattle.sv_audit.specs.declared.access.Cell.{Cell}
 use Rattle.sv_audit.specs.declared.rows.NamedCell.{NamedCell}
 
 kept_at : {A : Type 0} (test : A → Bool) (x : A) (xs : List A) (b rest : Bool) → test x ≡ b → list_any test xs ≡ rest → list_any test (cond b (x ∷ xs) xs) ≡ (b || rest)
@@ -114,20 +117,37 @@ module _ (pattern : List ℕ) where
   roles_focused : (rules : Rules) (members : List Constraint) → roles_of rules (map (focused pattern) members) ≡ roles_of rules members
   roles_focused rules members = ap rising (joined_seen (focused pattern) (λ (c : Constraint). roles_meant rules.declared c.auth) members)
 
-  cell_focused : (rules : Rules) (members : List Constraint) → cell_at rules (Some pattern) (map (focused pattern) members) ≡ cell_at rules (Some pattern) members
-  unfolding cell_at
-  cell_focused rules members =
+  access_focused : (rules : Rules) (members : List Constraint) → access_at rules (Some pattern) (map (focused pattern) members) ≡ access_at rules (Some pattern) members
+  access_focused rules members =
       rw (
         length_seen (focused pattern) members,
         any_seen precludes (focused pattern) members,
         any_seen permits_plain (focused pattern) members,
         any_seen is_open (focused pattern) members,
         any_seen admits_everyone (focused pattern) members,
-        passing_focused precludes members,
-        passing_focused is_open members,
-        least_focused members,
         roles_focused rules members,
       )
+
+  verdict_focused : (rules : Rules) (caller : Option Caller) (members : List Constraint) → verdict_at rules caller (Some pattern) (map (focused pattern) members) ≡ verdict_at rules caller (Some pattern) members
+  verdict_focused rules caller members =
+      rw (
+        length_seen (focused pattern) members,
+        any_seen precludes (focused pattern) members,
+        any_seen permits_plain (focused pattern) members,
+        any_seen is_open (focused pattern) members,
+        any_seen (admits_caller rules caller) (focused pattern) members,
+        passing_focused precludes members,
+        passing_focused is_open members,
+        passing_focused (admits_caller rules caller) members,
+        least_focused members,
+      )
+
+  cell_focused : (rules : Rules) (members : List Constraint) → cell_at rules (Some pattern) (map (focused pattern) members) ≡ cell_at rules (Some pattern) members
+  unfolding cell_at
+  cell_focused rules members =
+      ap (cell_with rules (Some pattern) (map (focused pattern) members)) (access_focused rules members)
+      ∙ ap (λ decision. let made : Cell = record { access = access_at rules (Some pattern) members; constraint = (why_of decision).number } in made)
+      (verdict_focused rules (fitting_caller (access_at rules (Some pattern) members)) members)
 
   pub row_focused : (constraints : List Constraint) (rules : Rules) → row_at (map (focused pattern) constraints) rules pattern ≡ row_at constraints rules pattern
   unfolding exceptions

@@ -192,4 +192,4 @@ answers best_exists best_is_a_match best_same constraints rules method path call
 pub numbers : BestExists → BestIsAMatch → BestIsOfTexts → NumbersAreRight
 unfolding cell_at
 numbers best_exists best_is_a_match best_same constraints rules method path rooted =
-    ap (map (λ (cell : Cell). cell.constraint)) (cells_are best_exists best_is_a_match best_same constraints rules method path rooted)
+    rw (cells_are best_exists best_is_a_match best_same constraints rules method path rooted) (refl, tt)

@@ -2,6 +2,7 @@ pub mod Filters
 pub mod Pushed
 pub mod Equal
 pub mod Said
+pub mod FittingLemmas
 pub mod RowCells
 pub mod Found
 pub mod Shapes

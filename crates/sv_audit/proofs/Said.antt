@@ -28,7 +28,7 @@ any_rising : (test : List ℕ → Bool) (xs : List (List ℕ)) → list_any test
 any_rising test xs = any_listed test (rising xs) xs (rising_lists xs)
 
 -- ---- A caller is admitted exactly if every caller is, or the caller holds one of the roles.
-admitted_one : (declared : List (List ℕ)) (caller : Caller) (its_auth : Auth) → admits declared (Some caller) its_auth ≡ (names_everyone its_auth || list_any (lists caller.roles) (roles_meant declared its_auth))
+pub admitted_one : (declared : List (List ℕ)) (caller : Caller) (its_auth : Auth) → admits declared (Some caller) its_auth ≡ (names_everyone its_auth || list_any (lists caller.roles) (roles_meant declared its_auth))
 admitted_one declared caller auth.Absent = refl
 admitted_one declared caller (auth.Roles names) = refl
 

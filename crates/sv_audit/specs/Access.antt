@@ -1,9 +1,11 @@
 -- Who may make a request, by the constraints that cover it (Jakarta Servlet 6.0, sections 13.8.1, 13.8.3 and 13.8.4).
 use Rattle.std.specs.Prelude.{ℕ, Bool, not, cond, ◌==◌, List, [], ◌∷◌, length, Option, None, Some, is_none, is_some, if◌then◌else◌}
 use Rattle.std.specs.List.{flat_map, list_any}
+use Rattle.std.specs.Option.{option_or}
+use Rattle.sv_realm.specs.declared.caller.Caller.{Caller}
 use Rattle.sv_constraints.specs.Decision.{why_of}
 use Rattle.sv_constraints.specs.Roles.{roles_read}
-use Rattle.sv_constraints.specs.Verdict.{is_open, permits_plain, precludes, verdict_at}
+use Rattle.sv_constraints.specs.Verdict.{is_open, least_where, permits_plain, precludes, verdict_at}
 use Rattle.sv_constraints.specs.declared.constraint.Auth.{Auth}
 use Rattle.sv_constraints.specs.declared.constraint.Auth.TheVariants as auth
 use Rattle.sv_constraints.specs.declared.constraint.Constraint.{Constraint}
@@ -52,9 +54,26 @@ access_at rules pattern members = first_access (access_cases rules pattern membe
 abbrev pub login_access : Rules → List Constraint → Access
 login_access rules members = if list_any admits_everyone members then AnyLogin else Roles (roles_of rules members)
 
--- The same, with the number of the constraint that decides the request without a caller.
+-- A caller who has just what the access asks for: no role, or those that it lists. Where no login is needed, no caller.
+abbrev pub fitting_caller : Access → Option Caller
+fitting_caller AnyLogin = Some (record { number = 0; name = []; roles = [] })
+fitting_caller (Roles names) = Some (record { number = 0; name = []; roles = names })
+fitting_caller access = None
+
+-- The access with the number of the constraint that decides the request of a caller who has just what it asks for.
+abbrev pub cell_with : Rules → Option (List ℕ) → List Constraint → Access → Cell
+cell_with rules pattern members its_access = record { access = its_access; constraint = (why_of (verdict_at rules (fitting_caller its_access) pattern members)).number }
+
 unfoldable pub cell_at : Rules → Option (List ℕ) → List Constraint → Cell
-cell_at rules pattern members = record { access = access_at rules pattern members; constraint = (why_of (verdict_at rules None pattern members)).number }
+cell_at rules pattern members = cell_with rules pattern members (access_at rules pattern members)
+
+-- Whether the constraint means a role.
+abbrev pub means_role : Rules → Constraint → Bool
+means_role rules constraint = not (length (roles_meant rules.declared constraint.auth) == 0)
+
+-- The least number of a constraint that admits every caller or, if there is none, of one that means a role, or else of any.
+abbrev pub login_number : Rules → Option ℕ → List Constraint → Option ℕ
+login_number rules covering members = option_or (option_or (least_where admits_everyone members) (least_where (means_role rules) members)) covering
 
 -- The cell by the findings without a caller, or none if only callers may make the request.
 abbrev pub found_cell : Rules → Findings → Option Cell

@@ -1,5 +1,5 @@
 -- What an access table says of a request (Jakarta Servlet 6.0, sections 12.1 and 13.8).
-use Rattle.std.specs.Prelude.{◌≡◌, ℕ, Bool, true, false, List, [], ◌∷◌, filter, map, Option, None, Some, IsTrue, if◌then◌else◌}
+use Rattle.std.specs.Prelude.{◌≡◌, ℕ, Bool, true, false, List, [], ◌∷◌, filter, map, Option, None, Some, All, IsTrue, if◌then◌else◌}
 use Rattle.std.specs.List.{flat_map, list_any}
 use Rattle.std.specs.Option.{option_to_list}
 use Rattle.std.specs.Str.{bytes_eq}
@@ -17,6 +17,7 @@ use Rattle.sv_constraints.specs.declared.constraint.Constraint.{Constraint}
 use Rattle.sv_constraints.specs.declared.constraint.Rules.{Rules}
 use Rattle.sv_constraints.specs.declared.owned_decision.OwnedDecision.{OwnedDecision}
 use Rattle.sv_constraints.specs.declared.owned_decision.OwnedDecision.TheVariants.{Open, Login, Denied}
+use Rattle.sv_audit.specs.Access.{fitting_caller}
 use Rattle.sv_audit.specs.Rows.{table_of}
 use Rattle.sv_audit.specs.declared.access.Access.{Access}
 use Rattle.sv_audit.specs.declared.access.Access.TheVariants as access
@@ -76,10 +77,10 @@ abbrev pub TablesAreRight : Type 0
 TablesAreRight = (constraints : List Constraint) (rules : Rules) (method path : List ℕ) (caller : Option Caller) → IsTrue (is_rooted path) →
     map (λ cell. said_to caller cell.access) (cells_for (table_of constraints rules) method path) ≡ kind_and_cause (verdict constraints rules method path caller) ∷ []
 
--- The number in that cell is that of the verdict without a caller.
+-- The number in that cell is that of the verdict on a caller who has just what the access asks for.
 abbrev pub NumbersAreRight : Type 0
 NumbersAreRight = (constraints : List Constraint) (rules : Rules) (method path : List ℕ) → IsTrue (is_rooted path) →
-    map (λ cell. cell.constraint) (cells_for (table_of constraints rules) method path) ≡ (why_of (verdict constraints rules method path None)).number ∷ []
+    All (λ cell. cell.constraint ≡ (why_of (verdict constraints rules method path (fitting_caller cell.access))).number) (cells_for (table_of constraints rules) method path)
 
 -- Each path that a context serves is such a path within it (section 3.5).
 abbrev pub ServedPathsAreRooted : Type 0

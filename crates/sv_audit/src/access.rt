@@ -33,7 +33,8 @@ pub enum Access {
 pub struct Cell {
     /// Who may make it.
     pub access: Access,
-    /// The number of the constraint that decides the request without a caller, or none if no constraint covers it.
+    /// The number of the constraint that decides the request of a caller who has just what the access asks for: a login
+    /// for `AnyLogin`, the roles of `Roles`. None if no constraint covers the request.
     pub constraint: Option<u64>,
 }
 

@@ -6,7 +6,7 @@ ghost use Rattle.sv_text.specs.Gives.{GivesAnswer};
 ghost use Rattle.sv_audit.specs.Access.{cell_at, found_cell, uncovered_access};
 
 use crate::access::{Access, Cell};
-use crate::roles::login_access;
+use crate::roles::{login_access, login_number};
 use std::alloc::Global;
 use sv_constraints::{Constraint, Findings, Rules, one_more_is_found};
 use sv_text::{NoMemory, copied_texts};
@@ -20,7 +20,7 @@ pub fn cell_at(alloc: Global, rules: &Rules, members: &[&Constraint]) -> Result<
         Some(cell) => Ok(cell),
         None => Ok(Cell {
             access: login_access(alloc, rules, members)?,
-            constraint: found.covering,
+            constraint: login_number(rules, found.covering, members),
         }),
     }
 }

@@ -1,16 +1,17 @@
 //! The roles that constraints name.
 
-ghost use Rattle.std.specs.Prelude.{◌≡◌, ◌++◌, IfOk, OnOk, map};
+ghost use Rattle.std.specs.Prelude.{◌≡◌, ◌++◌, ◌==◌, IfOk, OnOk, length, map, not};
 ghost use Rattle.std.specs.List.{flat_map, list_any};
 ghost use Rattle.sv_constraints.specs.Roles.{roles_named, roles_read};
+ghost use Rattle.sv_constraints.specs.Verdict.{least_where};
 ghost use Rattle.sv_policy.specs.Merged.{admits_everyone};
 ghost use Rattle.sv_text.specs.Gives.{GivesAnswer};
-ghost use Rattle.sv_audit.specs.Access.{login_access, roles_meant, roles_of};
+ghost use Rattle.sv_audit.specs.Access.{login_access, login_number, means_role, roles_meant, roles_of};
 
 use crate::access::Access;
 use crate::order::{copied_texts, sorted};
 use std::alloc::Global;
-use sv_constraints::{Auth, Constraint, EVERY_CALLER, EVERY_ROLE, Rules};
+use sv_constraints::{Auth, Constraint, EVERY_CALLER, EVERY_ROLE, Rules, lesser, one_more_is_found};
 use sv_policy::{names_everyone, push_texts};
 use sv_text::{Listed, NoMemory, Text};
 
@@ -33,6 +34,81 @@ pub fn login_access(
         return Ok(Access::AnyLogin);
     }
     Ok(Access::Roles(roles_of(alloc, rules, members)?))
+}
+
+/// Returns the number of the constraint that decides the request of a caller who has just what the constraints ask for,
+/// if only callers may pass: the least number of one that admits every caller or, if there is none, of one that means a
+/// role, or else the least number of all, which is given.
+pub fn login_number(
+    rules: &Rules,
+    covering: Option<u64>,
+    members: &[&Constraint],
+) -> Option<u64>
+    ensures { result ≡ login_number rules.now covering (map (λ member. member.now) members.now) }
+{
+    least_for_everyone(members)
+        .or(least_for_role(rules, members))
+        .or(covering)
+}
+
+/// Returns the least number of a constraint that admits every caller, if there is one.
+fn least_for_everyone(members: &[&Constraint]) -> Option<u64>
+    ensures { result ≡ least_where admits_everyone (map (λ member. member.now) members.now) }
+{
+    one_more_is_found();
+    let mut least = None;
+    for member in members {
+        least = lesser(
+            least,
+            names_everyone(&member.auth).then_some(member.number),
+        );
+    }
+    least
+}
+
+/// Returns the least number of a constraint that means a role, if there is one.
+fn least_for_role(rules: &Rules, members: &[&Constraint]) -> Option<u64>
+    ensures { result ≡ least_where (means_role rules.now) (map (λ member. member.now) members.now) }
+{
+    one_more_is_found();
+    let mut least = None;
+    for member in members {
+        least = lesser(
+            least,
+            means_role(rules, &member.auth).then_some(member.number),
+        );
+    }
+    least
+}
+
+/// Returns whether the authorization constraint means a role.
+fn means_role(rules: &Rules, auth: &Auth) -> bool
+    ensures { result ≡ not (length (roles_meant rules.now.declared auth.now) == 0) }
+{
+    match auth {
+        Auth::Absent => false,
+        Auth::Roles(names) => mean_role(rules.declared.as_slice(), names.as_slice()),
+    }
+}
+
+/// Returns whether one of the names means a role.
+fn mean_role(declared: &[Text], names: &[Text]) -> bool
+    ensures { result ≡ not (length (roles_read declared.now names.now) == 0) }
+{
+    names
+        .iter()
+        .any(|name| is_role(declared, name.as_str()))
+}
+
+/// Returns whether the name means a role.
+fn is_role(declared: &[Text], name: &str) -> bool
+    ensures { result ≡ not (length (roles_named declared.now name.now) == 0) }
+{
+    if name == EVERY_ROLE {
+        !declared.is_empty()
+    } else {
+        name != EVERY_CALLER
+    }
 }
 
 /// Returns the roles that the constraints mean, in ascending byte order.
