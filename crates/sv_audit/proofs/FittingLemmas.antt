@@ -1,5 +1,5 @@
 -- The number of the constraint that decides for a caller who has just what constraints ask for.
-use Rattle.std.proofs.Common.{◌≡◌, ℕ, Bool, true, false, not, ◌||◌, List, [], ◌∷◌, ◌++◌, length, refl, ap, ap₂, sym, ◌∙◌, cond, Option, None, Some, is_none, is_some, ◌==◌}
+use Rattle.std.proofs.Common.{arith, ◌≡◌, ℕ, Bool, true, false, not, ◌||◌, List, [], ◌∷◌, ◌++◌, length, refl, ap, ap₂, sym, ◌∙◌, cond, Option, None, Some, is_none, is_some, ◌==◌}
 use Rattle.std.specs.Prelude.{filter}
 use Rattle.std.specs.List.{flat_map, list_any}
 use Rattle.std.specs.Option.{option_or}
@@ -25,9 +25,12 @@ use Rattle.sv_audit.specs.Access.{fitting_caller, login_access, login_number, me
 use Rattle.sv_audit.specs.declared.access.Access.TheVariants.{AnyLogin, Roles}
 
 -- ---- Whether names mean a role.
+some : {A : Type 0} (x : A) (xs : List A) → not (length (x ∷ xs) == 0) ≡ true
+some x xs = grind arith
+
 some_appended : {A : Type 0} (first second : List A) → not (length (first ++ second) == 0) ≡ (not (length first == 0) || not (length second == 0))
 some_appended [] second = refl
-some_appended (x ∷ first) second = refl
+some_appended (x ∷ first) second = some x (first ++ second) ∙ sym (ap (λ b. b || not (length second == 0)) (some x first))
 
 pub some_joined : {X A : Type 0} (f : X → List A) (xs : List X) → not (length (flat_map f xs) == 0) ≡ list_any (λ x. not (length (f x) == 0)) xs
 some_joined f [] = refl
@@ -54,6 +57,7 @@ held_some : (names roles : List (List ℕ)) → ((role : List ℕ) → lists rol
 held_some names [] within = refl
 held_some names (role ∷ roles) within =
     ap (λ b. b || list_any (lists names) roles) (within role (or_left (bytes_eq role role) (lists roles role) ((bytes_eq-Decides role role).1 refl)))
+    ∙ sym (some role roles)
 
 with_roles : (rules : Rules) (names : List (List ℕ)) (m : Constraint) → admits_everyone m ≡ false → ((role : List ℕ) → lists (roles_meant rules.declared m.auth) role ≡ true → lists names role ≡ true)
     → admits_caller rules (Some (caller_with names)) m ≡ means_role rules m

@@ -6,7 +6,7 @@ use Rattle.std.specs.Cmp.Lexicographic.{slice_cmp}
 use Rattle.std.specs.List.{flat_map, list_any}
 use Rattle.std.specs.List.Sorted.{IsStrictlySortedBy}
 use Rattle.std.specs.Str.{bytes_eq}
-use Rattle.std.proofs.lemmas.List.Elements.{filter-append}
+use Rattle.std.proofs.lemmas.List.Elements.{All-cons, All-nil, filter-append}
 use Rattle.std.proofs.lemmas.List.Folds.{list_any-append}
 use Rattle.std.proofs.lemmas.List.Kept.{IsStrictlySortedBy-filter}
 use Rattle.std.proofs.lemmas.Slice.Eq.{bytes_eq-Decides}
@@ -14,6 +14,8 @@ use Rattle.sv_mapping.specs.BestMatch.{BestExists, BestIsAMatch, best_pattern}
 use Rattle.sv_mapping.specs.Pattern.{form, is_extension_pattern, matches}
 use Rattle.sv_mapping.specs.Segments.{is_rooted}
 use Rattle.sv_constraints.specs.Covering.{all_patterns, covering, lists}
+use Rattle.sv_constraints.specs.Decision.{why_of}
+use Rattle.sv_constraints.specs.Verdict.{verdict}
 use Rattle.sv_constraints.specs.declared.constraint.Constraint.{Constraint}
 use Rattle.sv_constraints.specs.declared.constraint.Rules.{Rules}
 use Rattle.sv_policy.proofs.Best.{or_right}
@@ -24,7 +26,7 @@ use Rattle.sv_policy.specs.Uncovered.{IsRising, rising}
 use Rattle.sv_audit.proofs.Filters.{filter_map, filter_none, filter_twice}
 use Rattle.sv_audit.proofs.RowCells.{row_cell}
 use Rattle.sv_audit.proofs.Said.{said}
-use Rattle.sv_audit.specs.Access.{access_at, cell_at}
+use Rattle.sv_audit.specs.Access.{access_at, cell_at, fitting_caller}
 use Rattle.sv_audit.specs.Reading.{NumbersAreRight, TablesAreRight, cells_for, cells_in, is_same, row_patterns, said_to}
 use Rattle.sv_audit.specs.Rows.{in_row_order, match_every_path, other_paths, row_at, table_of}
 use Rattle.sv_audit.specs.declared.access.Cell.{Cell}
@@ -192,4 +194,7 @@ answers best_exists best_is_a_match best_same constraints rules method path call
 pub numbers : BestExists → BestIsAMatch → BestIsOfTexts → NumbersAreRight
 unfolding cell_at
 numbers best_exists best_is_a_match best_same constraints rules method path rooted =
-    rw (cells_are best_exists best_is_a_match best_same constraints rules method path rooted) (refl, tt)
+    rw (cells_are best_exists best_is_a_match best_same constraints rules method path rooted)
+    (All-cons (λ (cell : Cell). cell.constraint ≡ (why_of (verdict constraints rules method path (fitting_caller cell.access))).number)
+    (cell_at rules (best_pattern (all_patterns constraints) path) (covering constraints (best_pattern (all_patterns constraints) path) method)) [] refl
+    (All-nil (λ (cell : Cell). cell.constraint ≡ (why_of (verdict constraints rules method path (fitting_caller cell.access))).number)))

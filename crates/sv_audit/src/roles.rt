@@ -11,7 +11,9 @@ ghost use Rattle.sv_audit.specs.Access.{login_access, login_number, means_role, 
 use crate::access::Access;
 use crate::order::{copied_texts, sorted};
 use std::alloc::Global;
-use sv_constraints::{Auth, Constraint, EVERY_CALLER, EVERY_ROLE, Rules, lesser, one_more_is_found};
+use sv_constraints::{
+    Auth, Constraint, EVERY_CALLER, EVERY_ROLE, Rules, lesser, one_more_is_found,
+};
 use sv_policy::{names_everyone, push_texts};
 use sv_text::{Listed, NoMemory, Text};
 
@@ -39,11 +41,7 @@ pub fn login_access(
 /// Returns the number of the constraint that decides the request of a caller who has just what the constraints ask for,
 /// if only callers may pass: the least number of one that admits every caller or, if there is none, of one that means a
 /// role, or else the least number of all, which is given.
-pub fn login_number(
-    rules: &Rules,
-    covering: Option<u64>,
-    members: &[&Constraint],
-) -> Option<u64>
+pub fn login_number(rules: &Rules, covering: Option<u64>, members: &[&Constraint]) -> Option<u64>
     ensures { result ≡ login_number rules.now covering (map (λ member. member.now) members.now) }
 {
     least_for_everyone(members)
@@ -58,10 +56,7 @@ fn least_for_everyone(members: &[&Constraint]) -> Option<u64>
     one_more_is_found();
     let mut least = None;
     for member in members {
-        least = lesser(
-            least,
-            names_everyone(&member.auth).then_some(member.number),
-        );
+        least = lesser(least, names_everyone(&member.auth).then_some(member.number));
     }
     least
 }
@@ -93,11 +88,9 @@ fn means_role(rules: &Rules, auth: &Auth) -> bool
 
 /// Returns whether one of the names means a role.
 fn mean_role(declared: &[Text], names: &[Text]) -> bool
-    ensures { result ≡ not (length (roles_read declared.now names.now) == 0) }
+    ensures { result ≡ list_any (λ name. not (length (roles_named declared.now name) == 0)) names.now }
 {
-    names
-        .iter()
-        .any(|name| is_role(declared, name.as_str()))
+    names.iter().any(|name| is_role(declared, name.as_str()))
 }
 
 /// Returns whether the name means a role.

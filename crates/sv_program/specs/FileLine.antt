@@ -1,8 +1,8 @@
 -- The lines of a file on which a value begins: those after first lines that are TOML by themselves and lack the value, up
 -- to the next first lines that are TOML, if these have it.
-use Rattle.std.specs.Prelude.{◌≡◌, ℕ, ◌+◌, ◌<◌, ◌≤◌, List, [], ◌∷◌, length, take, slice_index_or, Option, Some, None, IfSome, is_some, if◌then◌else◌}
+use Rattle.std.specs.Prelude.{◌≡◌, ℕ, Bool, false, ◌==◌, ◌+◌, ◌<◌, ◌≤◌, drop, List, [], ◌∷◌, length, take, slice_index_or, Option, Some, None, IfSome, is_some, if◌then◌else◌}
 use Rattle.std.specs.Option.{option_and_then}
-use Rattle.std.specs.Str.{is_utf8}
+use Rattle.std.specs.Str.{byte, is_utf8}
 use Rattle.toml.specs.Data.{Members}
 use Rattle.toml.specs.Parse.{parse_document}
 use Rattle.sv_descriptor.specs.declared.fault.ValueStep.{ValueStep}
@@ -31,6 +31,10 @@ presence_in steps (Some table) = if is_some (value_in steps table) then Present 
 abbrev pub presence : List ValueStep → List ℕ → Presence
 presence steps bytes = presence_in steps (table_of bytes)
 
+abbrev pub begins_with_bracket : List ℕ → Bool
+begins_with_bracket [] = false
+begins_with_bracket (first ∷ rest) = first == byte "["
+
 -- the number of bytes up to each end of a line, after this number of bytes, and up to the end
 abbrev pub ends_from : ℕ → List ℕ → List ℕ
 ends_from at [] = at ∷ []
@@ -52,6 +56,11 @@ pub record BeginsBetween (state : ℕ → Presence) (last : ℕ) (number : ℕ) 
   pub present : state has ≡ Present
   pub skipped : (between : ℕ) → number < between → between < has → state between ≡ NotToml
 
+-- how many lines are before each of these ends, if a bracket follows, as at a header
+abbrev pub headers_from : ℕ → List ℕ → List ℕ → List ℕ
+headers_from number text [] = []
+headers_from number text (end ∷ ends) = if begins_with_bracket (drop end text) then number ∷ headers_from (number + 1) text ends else headers_from (number + 1) text ends
+
 -- how many lines a text has
 abbrev pub line_count : List ℕ → ℕ
 line_count text = length (ends_from 0 text)
@@ -62,7 +71,7 @@ IsRegionBetween text steps region number has =
     BeginsBetween (presence_to steps text (line_ends text)) (line_count text) number has
     × (region ≡ record { line = number + 1; start = slice_index_or (line_ends text) number 0; end = slice_index_or (line_ends text) has 0 })
 
--- the lines on which the value begins; there are none for a long text, or if the text does not have the value
+-- the lines on which the value begins; there are none if the text does not have the value, and may be none if it is long
 abbrev pub IsRegion : List ℕ → List ValueStep → Option Region → Type 0
 IsRegion text steps None =
     let state = presence_to steps text (line_ends text) in

@@ -2,7 +2,7 @@
 //!
 //! The TOML reader gives no places. So the text is cut after whole lines, and fronts are read: the value begins after a
 //! front that lacks it, if the next front that is TOML has it. Fronts that end inside a value are not TOML, and are
-//! skipped.
+//! skipped. In a long text the fronts before headers are read first.
 
 ghost use Rattle.std.specs.Prelude.{◌≡◌, IfOk, Some, option_copied, option_map, take};
 ghost use Rattle.sv_text.specs.Gives.{GivesAnswer};
@@ -10,7 +10,7 @@ ghost use Rattle.toml.specs.Parse.{parse_document};
 ghost use Rattle.toml.specs.View.{table_view};
 ghost use Rattle.sv_program.specs.FileLine as spec;
 
-use crate::limits::MAX_LOCATED_BYTES;
+use crate::limits::{MAX_LOCATED_BYTES, MAX_SEARCHED_BYTES, MAX_SEARCHED_LINES};
 use crate::offending_value::value_in;
 use crate::place::ends_line;
 use std::alloc::Global;
@@ -30,7 +30,8 @@ pub(crate) struct Region {
 }
 
 /// Returns the lines on which the value after these steps begins: those between a front that lacks it and the next one
-/// that has it. There are none if the text has no such value, or is longer than [`MAX_LOCATED_BYTES`].
+/// that has it. There are none if the text has no such value. In a text of more than [`MAX_LOCATED_BYTES`] there may be
+/// none: if it has more than [`MAX_SEARCHED_BYTES`], or too many lines from a header to the next.
 pub(crate) fn region_of(
     alloc: Global,
     text: &[u8],
@@ -39,7 +40,7 @@ pub(crate) fn region_of(
     ensures region { IfOk result (λ region. spec.IsRegion text.now steps.now region) }
     ensures within { IfOk result (λ region. spec.EndsWithin text.now region) }
 {
-    if text.len() > MAX_LOCATED_BYTES {
+    if text.len() > MAX_SEARCHED_BYTES {
         return Ok(None);
     }
     let ends = line_ends(alloc, text)?;
@@ -106,7 +107,7 @@ struct Fronts<'a> {
 }
 
 impl Fronts<'_> {
-    ghost use Rattle.std.specs.Prelude.{◌≡◌, ◌<◌, ◌≤◌, IfOk, length};
+    ghost use Rattle.std.specs.Prelude.{◌≡◌, ◌<◌, ◌≤◌, IfOk, length, true};
     ghost use Rattle.sv_text.specs.Gives.{GivesAnswer};
     ghost use Rattle.sv_program.specs.FileLine as spec;
 
@@ -126,7 +127,11 @@ impl Fronts<'_> {
         if last == 0 {
             return Ok(None);
         }
-        let bounds = self.bounds(alloc, last)?;
+        let between = self.between_headers(alloc, last)?;
+        if self.is_dear(between) {
+            return Ok(None);
+        }
+        let bounds = self.bounds(alloc, between)?;
         Ok(Some(Region {
             line: bounds.low + 1,
             start: self.ends[bounds.low],
@@ -134,16 +139,74 @@ impl Fronts<'_> {
         }))
     }
 
-    /// Returns the lines before the value, and those of the next front that has it, if the front of no lines lacks it and
-    /// the front of `last` lines has it.
-    fn bounds(&self, alloc: Global, last: usize) -> Result<Bounds, NoMemory>
+    /// Returns fewer lines that lack the value and at most `last` that have it, if the front of no lines lacks it and
+    /// the front of `last` lines has it: in a long text those before a header and before a later one, as far as these
+    /// fronts are TOML.
+    fn between_headers(&self, alloc: Global, last: usize) -> Result<Bounds, NoMemory>
         requires within { last < length self.now.ends.now }
         requires narrowed { spec.IsNarrowed (spec.presence_to self.now.steps.now self.now.text.now self.now.ends.now) 0 0 last }
-        ensures { IfOk result (λ bounds. spec.BeginsBetween (spec.presence_to self.now.steps.now self.now.text.now self.now.ends.now) last bounds.low bounds.high) }
+        ensures { IfOk result (λ bounds. (bounds.high ≤ last) × spec.IsNarrowed (spec.presence_to self.now.steps.now self.now.text.now self.now.ends.now) bounds.low bounds.low bounds.high) }
     {
-        let mut low = 0;
-        let mut bound = 0;
-        let mut high = last;
+        let mut bounds = Bounds { low: 0, high: last };
+        if self.text.len() <= MAX_LOCATED_BYTES {
+            return Ok(bounds);
+        }
+        let headers = self.headers(alloc)?;
+        let mut rest = headers.as_slice();
+        while !rest.is_empty() {
+            let (before, after) = rest.split_at(rest.len() / 2);
+            let number = after[0];
+            if number <= bounds.low || bounds.high <= number {
+                return Ok(bounds);
+            }
+            match self.presence_at(alloc, number)? {
+                Presence::NotToml => return Ok(bounds),
+                Presence::Lacking => {
+                    bounds.low = number;
+                    rest = &after[1..];
+                }
+                Presence::Present => {
+                    bounds.high = number;
+                    rest = before;
+                }
+            }
+        }
+        Ok(bounds)
+    }
+
+    /// Returns how many lines are before each line that begins with a bracket, as a header does.
+    fn headers(&self, alloc: Global) -> Result<Vec<usize>, NoMemory>
+        ensures { IfOk result (λ numbers. numbers.items ≡ spec.headers_from 0 self.now.text.now self.now.ends.now) }
+    {
+        let mut numbers = Vec::new(alloc);
+        let mut number = 0;
+        for end in self.ends {
+            if self.text.get(*end).copied() == Some(b'[') {
+                numbers.push(number)?;
+            }
+            number += 1;
+        }
+        Ok(numbers)
+    }
+
+    /// Returns whether the text is long, and it takes too long to search between these lines.
+    fn is_dear(&self, bounds: Bounds) -> bool
+        ensures { result ≡ true → MAX_LOCATED_BYTES < length self.now.text.now }
+    {
+        self.text.len() > MAX_LOCATED_BYTES
+            && bounds.high.saturating_sub(bounds.low) > MAX_SEARCHED_LINES / self.text.len()
+    }
+
+    /// Returns the lines before the value, and those of the next front that has it, if the first bound lacks it and the
+    /// second has it.
+    fn bounds(&self, alloc: Global, between: Bounds) -> Result<Bounds, NoMemory>
+        requires within { between.high < length self.now.ends.now }
+        requires narrowed { spec.IsNarrowed (spec.presence_to self.now.steps.now self.now.text.now self.now.ends.now) between.low between.low between.high }
+        ensures { IfOk result (λ bounds. spec.BeginsBetween (spec.presence_to self.now.steps.now self.now.text.now self.now.ends.now) between.high bounds.low bounds.high) }
+    {
+        let mut low = between.low;
+        let mut bound = between.low;
+        let mut high = between.high;
         while bound + 1 < high {
             let middle = bound + (high - bound) / 2;
             match self.last_toml(alloc, bound, middle)? {
