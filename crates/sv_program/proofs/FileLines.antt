@@ -127,3 +127,13 @@ module _ (state : ℕ → Presence) where
     present = narrowed.present;
     skipped = λ between after before. narrowed.skipped between after (omega (arith, next, before));
   }
+
+  -- what is found among fewer fronts
+  pub found_within : (bound last low high : ℕ) → bound ≤ last → BeginsBetween state bound low high → BeginsBetween state last low high
+  found_within bound last low high below found = record {
+    lacking = found.lacking;
+    after = found.after;
+    within = omega (arith, below, found.within);
+    present = found.present;
+    skipped = found.skipped;
+  }

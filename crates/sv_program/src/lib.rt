@@ -39,8 +39,8 @@ pub use first_command::{denies_uncovered, first, first_line};
 pub use key_law::{each_key_is_described, no_key_is_described_twice};
 pub use keys::{Format, KEYS, KeyDescription, KeyRow};
 pub use limits::{
-    MAX_FILE_BYTES, MAX_INPUT_BYTES, MAX_LOCATED_BYTES, MAX_SAMPLED_BYTES, MAX_SEARCHED_BYTES, MAX_SEARCHED_LINES, MAX_SHOWN_CHARACTERS,
-    limits_are_as_stated, limits_of_the_second_line,
+    MAX_FILE_BYTES, MAX_INPUT_BYTES, MAX_LOCATED_BYTES, MAX_SAMPLED_BYTES, MAX_SEARCHED_BYTES,
+    MAX_SEARCHED_LINES, MAX_SHOWN_CHARACTERS, limits_are_as_stated, limits_of_the_second_line,
 };
 pub use output::{print_line, print_text, report_fault};
 pub use socket_fault::SocketFault;

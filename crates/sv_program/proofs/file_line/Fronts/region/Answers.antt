@@ -1,5 +1,5 @@
 use native.Mathlib.Numerals.{unary_clauses}
-use Rattle.sv_program.proofs.FileLines.{line_ends_within, same_region}
+use Rattle.sv_program.proofs.FileLines.{found_within, line_ends_within, same_region}
 use Rattle.sv_program.proofs.file_line.Fronts.region.Goals as goal
 
 pub returns-clause-region : goal.returns-clause-region
@@ -7,7 +7,7 @@ returns-clause-region c = λ short. (
   c.in_ok-bounds.bounds.low,
   c.in_ok-bounds.bounds.high,
   (
-    simp unary_clauses at (rw c.requires at c.in_ok-bounds.ensures),
+    found_within _ c.in_ok-between.between.high _ c.in_ok-bounds.bounds.low c.in_ok-bounds.bounds.high (simp unary_clauses at (rw c.requires at c.in_ok-between.ensures.0)) (rw c.requires at c.in_ok-bounds.ensures),
     same_region _ _ c.in_ok-bounds.bounds.low c.in_ok-bounds.bounds.high c.requires,
   ),
 )
