@@ -27,7 +27,7 @@ _sv() {
     *:first:*:-*) names="";;
     *:policy:*:-*) names="";;
     *:uncovered:*:-*) names="";;
-    *:audit:*:-*) names="--secure --format --as --role --fail-on --accept --lines --path --method --diff ";;
+    *:audit:*:-*) names="--secure --format --as --role --fail-on --accept --lines --unknown-files --path --method --diff ";;
     *:check:*:-*) names="";;
     *:replay:*:-*) names="";;
     *:serve:*:-*) names="";;

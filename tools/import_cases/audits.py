@@ -36,7 +36,8 @@ files = ""
 SHOP = SERVER.replace('path = ""', 'path = "/shop"')
 LINES = f"{NAME}\n3\n7\nrole 12\n"
 USAGE = """sv audit WEB.XML [OPTION ..]
-    imports the web.xml, and shows who may enter where by it; sets --lines, except with --diff, and has three more options:
+    imports the web.xml, and shows who may enter where by it; sets --lines, and without --files also --unknown-files,
+    but neither with --diff; has three more options:
     --users FILE            the users: a tomcat-users.xml, or a users file
     --context PATH          the context path; the root without it
     --files FOLDER          the folder of the application, which has its files and its login page
@@ -77,7 +78,8 @@ def shown(words: list[str], files: dict[str, str]) -> str:
 def audits_that_pass() -> Iterator[tuple[list[str], str]]:
     """The arguments of audits that an importer lets pass, and what the program prints for them."""
     web = {"FOLDER/web/server.toml": SERVER, "FOLDER/web/web.lines": LINES}
-    words = ["audit", "FOLDER/web/server.toml", "--lines", "FOLDER/web/web.lines"]
+    located = ["audit", "FOLDER/web/server.toml", "--lines", "FOLDER/web/web.lines"]
+    words = [*located, "--unknown-files"]
     options = ["--format", "a  b", "", "--secure", "--path", "--users", "--method", "M", "--as"]
     yield [NAME, *options], shown([*words, *options], web)
     yield (
@@ -92,11 +94,18 @@ def audits_that_pass() -> Iterator[tuple[list[str], str]]:
         shown(words, {**web, "FOLDER/web/server.toml": SERVER + 'users = "ROOM/our.toml"\n'}),
     )
     yield (
-        [NAME, "--files", "pages/../app"],
-        shown(
-            words,
-            {**web, "FOLDER/web/server.toml": SERVER.replace('files = ""', 'files = "ROOM/app"')},
-        ),
+        [NAME, "--secure", "--unknown-files", "--as", "ann"],
+        shown([*located, "--secure", "--unknown-files", "--as", "ann"], web),
+    )
+    yield (
+        [NAME, "--as", "--unknown-files", "--format", "json"],
+        shown([*words, "--as", "--unknown-files", "--format", "json"], web),
+    )
+    files = {**web, "FOLDER/web/server.toml": SERVER.replace('files = ""', 'files = "ROOM/app"')}
+    yield [NAME, "--files", "pages/../app"], shown(located, files)
+    yield (
+        [NAME, "--unknown-files", "--files", "app"],
+        shown([*located, "--unknown-files"], files),
     )
     diff = ["--secure", "--diff", "FOLDER/other/server.toml", "--format", "json"]
     yield (

@@ -7,7 +7,7 @@ use Rattle.std.specs.Str.{bytes_eq}
 use Rattle.sv_arguments.specs.Options.{IsProper, IsValue}
 use Rattle.sv_arguments.specs.Settings.{Setting, Keyed, key_word, own_words, setting_words, takes_word, words_of}
 use Rattle.sv_arguments.specs.declared.key.Key.{Key}
-use Rattle.sv_arguments.specs.declared.key.Key.TheVariants.{Control, Journal, Listen, SameSeed, Connections, IdleSeconds, HeldMebibytes, Secure, Format, As, Role, FailOn, Accept, Lines, Path, Method, Diff}
+use Rattle.sv_arguments.specs.declared.key.Key.TheVariants.{Control, Journal, Listen, SameSeed, Connections, IdleSeconds, HeldMebibytes, Secure, Format, As, Role, FailOn, Accept, Lines, UnknownFiles, Path, Method, Diff}
 use Rattle.sv_arguments.specs.declared.option_set.OptionSet.{OptionSet}
 
 -- the option of a word
@@ -27,6 +27,7 @@ key_at word =
     else if bytes_eq word (codes "--fail-on") then Some FailOn
     else if bytes_eq word (codes "--accept") then Some Accept
     else if bytes_eq word (codes "--lines") then Some Lines
+    else if bytes_eq word (codes "--unknown-files") then Some UnknownFiles
     else if bytes_eq word (codes "--path") then Some Path
     else if bytes_eq word (codes "--method") then Some Method
     else if bytes_eq word (codes "--diff") then Some Diff
@@ -48,6 +49,7 @@ key_at-key_word Role = refl
 key_at-key_word FailOn = refl
 key_at-key_word Accept = refl
 key_at-key_word Lines = refl
+key_at-key_word UnknownFiles = refl
 key_at-key_word Path = refl
 key_at-key_word Method = refl
 key_at-key_word Diff = refl
@@ -68,6 +70,7 @@ some_word x xs same = cc
 pub flag_empty : (key : Key) (word : List ℕ) → IsValue key word → takes_word key ≡ false → word ≡ []
 flag_empty SameSeed word is none = is
 flag_empty Secure word is none = is
+flag_empty UnknownFiles word is none = is
 flag_empty other word is none = absurd (true≢false none)
 
 same_tails : (takes : Bool) (v w : List ℕ) (xs ys : List (List ℕ)) → (takes ≡ false → v ≡ []) → (takes ≡ false → w ≡ [])

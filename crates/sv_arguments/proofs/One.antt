@@ -11,7 +11,7 @@ use Rattle.sv_arguments.specs.Laws.{AreSame, AskForOne, AuditsOne, SameAccess, S
 use Rattle.sv_arguments.specs.RunOptions.{GiveRun}
 use Rattle.sv_arguments.specs.Settings.{Setting, values, words_of}
 use Rattle.sv_arguments.specs.Values.{IsAddress, IsCount, IsGiven, IsName, Says, SaysOr}
-use Rattle.sv_arguments.specs.declared.key.Key.TheVariants.{Accept, As, Connections, Control, Diff, FailOn, Format, HeldMebibytes, IdleSeconds, Journal, Lines, Listen, Method, Path, Role, SameSeed, Secure}
+use Rattle.sv_arguments.specs.declared.key.Key.TheVariants.{Accept, As, Connections, Control, Diff, FailOn, Format, HeldMebibytes, IdleSeconds, Journal, Lines, Listen, Method, Path, Role, SameSeed, Secure, UnknownFiles}
 use Rattle.sv_arguments.specs.declared.option_set.OptionSet.TheVariants as set
 use Rattle.sv_arguments.specs.declared.run_options.RunOptions.{RunOptions}
 use Rattle.sv_audit_command.specs.declared.access_options.AccessOptions.{AccessOptions}
@@ -121,9 +121,10 @@ access_one settings one other a b = (
   names_one (values FailOn settings) one.fail_on other.fail_on a.3 b.3,
   names_one (values Accept settings) one.accept other.accept a.4 b.4,
   names_one (values Lines settings) one.lines other.lines a.5 b.5,
-  names_one (values Path settings) one.path other.path a.6 b.6,
-  names_one (values Method settings) one.method other.method a.7 b.7,
-  names_one (values Diff settings) one.diff other.diff a.8 b.8,
+  given_one (values UnknownFiles settings) one.has_unknown_files other.has_unknown_files a.6 b.6,
+  names_one (values Path settings) one.path other.path a.7 b.7,
+  names_one (values Method settings) one.method other.method a.8 b.8,
+  names_one (values Diff settings) one.diff other.diff a.9 b.9,
 )
 
 pub audits_one : AuditsOne

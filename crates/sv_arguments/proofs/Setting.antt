@@ -12,7 +12,7 @@ use Rattle.sv_arguments.specs.OptionFault.{IsFree}
 use Rattle.sv_arguments.specs.Options.{AreProper, IsProper, IsValue}
 use Rattle.sv_arguments.specs.Settings.{Setting, Keyed, given_rival, has_word, is_given, key_word, own_words, rivals, setting_words, takes_word, value_in, values}
 use Rattle.sv_arguments.specs.declared.key.Key.{Key}
-use Rattle.sv_arguments.specs.declared.key.Key.TheVariants.{Accept, As, Diff, FailOn, Format, Lines, Method, Path, Role, SameSeed, Secure}
+use Rattle.sv_arguments.specs.declared.key.Key.TheVariants.{Accept, As, Diff, FailOn, Format, Lines, Method, Path, Role, SameSeed, Secure, UnknownFiles}
 use Rattle.sv_arguments.specs.declared.option_set.OptionSet.{OptionSet}
 
 -- two options are the same or not
@@ -83,13 +83,14 @@ each_back Role = All-from_recursion (λ b. Contains (rivals b) Role) (rivals Rol
 each_back FailOn = All-from_recursion (λ b. Contains (rivals b) FailOn) (rivals FailOn) ((1, omega arith, refl), tt)
 each_back Accept = All-from_recursion (λ b. Contains (rivals b) Accept) (rivals Accept) ((2, omega arith, refl), ((2, omega arith, refl), tt))
 each_back Lines = All-from_recursion (λ b. Contains (rivals b) Lines) (rivals Lines) ((3, omega arith, refl), tt)
+each_back UnknownFiles = All-from_recursion (λ b. Contains (rivals b) UnknownFiles) (rivals UnknownFiles) ((4, omega arith, refl), tt)
 each_back Path =
     All-from_recursion (λ b. Contains (rivals b) Path) (rivals Path)
-    ((0, omega arith, refl), ((0, omega arith, refl), ((0, omega arith, refl), ((4, omega arith, refl), tt))))
-each_back Method = All-from_recursion (λ b. Contains (rivals b) Method) (rivals Method) ((5, omega arith, refl), tt)
+    ((0, omega arith, refl), ((0, omega arith, refl), ((0, omega arith, refl), ((5, omega arith, refl), tt))))
+each_back Method = All-from_recursion (λ b. Contains (rivals b) Method) (rivals Method) ((6, omega arith, refl), tt)
 each_back Diff =
     All-from_recursion (λ b. Contains (rivals b) Diff) (rivals Diff)
-    ((1, omega arith, refl), ((1, omega arith, refl), ((1, omega arith, refl), ((0, omega arith, refl), ((3, omega arith, refl), ((0, omega arith, refl), tt))))))
+    ((1, omega arith, refl), ((1, omega arith, refl), ((1, omega arith, refl), ((0, omega arith, refl), ((0, omega arith, refl), ((3, omega arith, refl), ((0, omega arith, refl), tt)))))))
 each_back other = All-nil (λ b. Contains (rivals b) other)
 
 rivals_back : (a b : Key) → Contains (rivals a) b → Contains (rivals b) a
@@ -102,11 +103,12 @@ each_other Role = All-from_recursion (λ b. b ≡ Role → ⊥) (rivals Role) (�
 each_other FailOn = All-from_recursion (λ b. b ≡ FailOn → ⊥) (rivals FailOn) (λ same. cc, tt)
 each_other Accept = All-from_recursion (λ b. b ≡ Accept → ⊥) (rivals Accept) (λ same. cc, (λ same. cc, tt))
 each_other Lines = All-from_recursion (λ b. b ≡ Lines → ⊥) (rivals Lines) (λ same. cc, tt)
+each_other UnknownFiles = All-from_recursion (λ b. b ≡ UnknownFiles → ⊥) (rivals UnknownFiles) (λ same. cc, tt)
 each_other Path = All-from_recursion (λ b. b ≡ Path → ⊥) (rivals Path) (λ same. cc, (λ same. cc, (λ same. cc, (λ same. cc, tt))))
 each_other Method = All-from_recursion (λ b. b ≡ Method → ⊥) (rivals Method) (λ same. cc, tt)
 each_other Diff =
     All-from_recursion (λ b. b ≡ Diff → ⊥) (rivals Diff)
-    (λ same. cc, (λ same. cc, (λ same. cc, (λ same. cc, (λ same. cc, (λ same. cc, tt))))))
+    (λ same. cc, (λ same. cc, (λ same. cc, (λ same. cc, (λ same. cc, (λ same. cc, (λ same. cc, tt)))))))
 each_other other = All-nil (λ b. b ≡ other → ⊥)
 
 own_rival : (a : Key) → Contains (rivals a) a → ⊥
@@ -196,6 +198,7 @@ value_proper set key word (Keyed own value ∷ settings) all is =
 pub flag_value : (key : Key) → takes_word key ≡ false → IsValue key []
 flag_value SameSeed none = refl
 flag_value Secure none = refl
+flag_value UnknownFiles none = refl
 flag_value other none = absurd (true≢false none)
 
 -- the words of an option

@@ -53,9 +53,10 @@ listed_key key.Role = (3, omega arith, refl)
 listed_key key.FailOn = (4, omega arith, refl)
 listed_key key.Accept = (5, omega arith, refl)
 listed_key key.Lines = (6, omega arith, refl)
-listed_key key.Path = (7, omega arith, refl)
-listed_key key.Method = (8, omega arith, refl)
-listed_key key.Diff = (9, omega arith, refl)
+listed_key key.UnknownFiles = (7, omega arith, refl)
+listed_key key.Path = (8, omega arith, refl)
+listed_key key.Method = (9, omega arith, refl)
+listed_key key.Diff = (10, omega arith, refl)
 
 pub own_keys : (its : OptionSet) → map set_of (option_keys its) ≡ map (λ any. its) (option_keys its)
 own_keys set.Run = refl

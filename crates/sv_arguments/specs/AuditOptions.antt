@@ -5,7 +5,7 @@ use Rattle.sv_arguments.specs.Options.{AreComplete}
 use Rattle.sv_arguments.specs.Settings.{Setting, values, words_of}
 use Rattle.sv_arguments.specs.Values.{IsGiven, IsName, Says, SaysOr}
 use Rattle.sv_arguments.specs.declared.audit_options.AuditOptions.{AuditOptions}
-use Rattle.sv_arguments.specs.declared.key.Key.TheVariants.{Accept, As, Diff, FailOn, Format, Lines, Method, Path, Role, Secure}
+use Rattle.sv_arguments.specs.declared.key.Key.TheVariants.{Accept, As, Diff, FailOn, Format, Lines, Method, Path, Role, Secure, UnknownFiles}
 use Rattle.sv_arguments.specs.declared.option_set.OptionSet.TheVariants.{Audit}
 use Rattle.sv_audit_command.specs.declared.access_options.AccessOptions.{AccessOptions}
 use Rattle.sv_audit_command.specs.declared.access_options.Asked.{Asked}
@@ -28,6 +28,7 @@ GiveAccess settings options =
     × Says IsName (values FailOn settings) options.fail_on
     × Says IsName (values Accept settings) options.accept
     × Says IsName (values Lines settings) options.lines
+    × IsGiven (values UnknownFiles settings) options.has_unknown_files
     × Says IsName (values Path settings) options.path
     × Says IsName (values Method settings) options.method
     × Says IsName (values Diff settings) options.diff

@@ -45,13 +45,14 @@ SameViewer (Some (asked.User one)) (Some (asked.User other)) = one.now ≡ other
 SameViewer (Some (asked.Role one)) (Some (asked.Role other)) = one.now ≡ other.now
 SameViewer one other = ⊥
 
--- the same form, caller, kinds and names
+-- the same form, caller, kinds, names and options without a value
 abbrev pub SameAccess : AccessOptions → AccessOptions → Type 0
 SameAccess one other =
     (one.format ≡ other.format) × (one.is_secure ≡ other.is_secure) × SameViewer one.viewer other.viewer
     × (option_copied one.fail_on ≡ option_copied other.fail_on) × (option_copied one.accept ≡ option_copied other.accept)
-    × (option_copied one.lines ≡ option_copied other.lines) × (option_copied one.path ≡ option_copied other.path)
-    × (option_copied one.method ≡ option_copied other.method) × (option_copied one.diff ≡ option_copied other.diff)
+    × (option_copied one.lines ≡ option_copied other.lines) × (one.has_unknown_files ≡ other.has_unknown_files)
+    × (option_copied one.path ≡ option_copied other.path) × (option_copied one.method ≡ option_copied other.method)
+    × (option_copied one.diff ≡ option_copied other.diff)
 
 abbrev pub AuditsOne : Type 0
 AuditsOne = (arguments : List (List ℕ)) (one other : AuditOptions) → IsAudit arguments one → IsAudit arguments other

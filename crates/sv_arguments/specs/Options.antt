@@ -6,7 +6,7 @@ use Rattle.sv_arguments.specs.Settings.{Setting, Keyed, given_rival, is_given, n
 use Rattle.sv_arguments.specs.Values.{IsAddress, IsCount}
 use Rattle.sv_arguments.specs.AuditWords.{IsFormat}
 use Rattle.sv_arguments.specs.declared.key.Key.{Key}
-use Rattle.sv_arguments.specs.declared.key.Key.TheVariants.{Listen, SameSeed, Connections, IdleSeconds, HeldMebibytes, Secure, Format, FailOn}
+use Rattle.sv_arguments.specs.declared.key.Key.TheVariants.{Listen, SameSeed, Connections, IdleSeconds, HeldMebibytes, Secure, Format, FailOn, UnknownFiles}
 use Rattle.sv_arguments.specs.declared.option_set.OptionSet.{OptionSet}
 use Rattle.std.specs.declared.net.socket_addr.SocketAddr.{SocketAddr}
 
@@ -20,6 +20,7 @@ IsValue HeldMebibytes word = (count : ℕ) × IsCount 1048576 word count
 IsValue Secure word = word ≡ []
 IsValue Format word = (format : report.Format) × IsFormat word format
 IsValue FailOn word = AreKinds word
+IsValue UnknownFiles word = word ≡ []
 IsValue other word = Unit {0}
 
 -- an option of the command with a value of it

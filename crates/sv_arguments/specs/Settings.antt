@@ -3,7 +3,7 @@ use Rattle.std.specs.Prelude.{◌≡◌, ℕ, Bool, true, false, List, [], ◌�
 use Rattle.std.specs.List.{find, flat_map}
 use Rattle.std.specs.Str.{bytes_eq}
 use Rattle.sv_arguments.specs.declared.key.Key.{Key}
-use Rattle.sv_arguments.specs.declared.key.Key.TheVariants.{Control, Journal, Listen, SameSeed, Connections, IdleSeconds, HeldMebibytes, Secure, Format, As, Role, FailOn, Accept, Lines, Path, Method, Diff}
+use Rattle.sv_arguments.specs.declared.key.Key.TheVariants.{Control, Journal, Listen, SameSeed, Connections, IdleSeconds, HeldMebibytes, Secure, Format, As, Role, FailOn, Accept, Lines, UnknownFiles, Path, Method, Diff}
 use Rattle.sv_arguments.specs.declared.option_set.OptionSet.{OptionSet}
 use Rattle.sv_arguments.specs.declared.option_set.OptionSet.TheVariants.{Run, Audit}
 
@@ -26,6 +26,7 @@ key_word Role = codes "--role"
 key_word FailOn = codes "--fail-on"
 key_word Accept = codes "--accept"
 key_word Lines = codes "--lines"
+key_word UnknownFiles = codes "--unknown-files"
 key_word Path = codes "--path"
 key_word Method = codes "--method"
 key_word Diff = codes "--diff"
@@ -46,6 +47,7 @@ value_name Role = codes "ROLE"
 value_name FailOn = codes "any, or kinds that \"sv help audit\" lists, joined by commas"
 value_name Accept = codes "FILE"
 value_name Lines = codes "FILE"
+value_name UnknownFiles = codes "nothing"
 value_name Path = codes "TARGET"
 value_name Method = codes "METHOD"
 value_name Diff = codes "a server file"
@@ -53,7 +55,7 @@ value_name Diff = codes "a server file"
 -- the options of a command, in the order of its help
 abbrev pub option_keys : OptionSet → List Key
 option_keys Run = Control ∷ Journal ∷ Listen ∷ SameSeed ∷ Connections ∷ IdleSeconds ∷ HeldMebibytes ∷ []
-option_keys Audit = Secure ∷ Format ∷ As ∷ Role ∷ FailOn ∷ Accept ∷ Lines ∷ Path ∷ Method ∷ Diff ∷ []
+option_keys Audit = Secure ∷ Format ∷ As ∷ Role ∷ FailOn ∷ Accept ∷ Lines ∷ UnknownFiles ∷ Path ∷ Method ∷ Diff ∷ []
 
 abbrev pub option_words : OptionSet → List (List ℕ)
 option_words set = map key_word (option_keys set)
@@ -67,6 +69,7 @@ set_of Role = Audit
 set_of FailOn = Audit
 set_of Accept = Audit
 set_of Lines = Audit
+set_of UnknownFiles = Audit
 set_of Path = Audit
 set_of Method = Audit
 set_of Diff = Audit
@@ -80,6 +83,7 @@ IsKey set word key = (set_of key ≡ set) × (word ≡ key_word key)
 abbrev pub takes_word : Key → Bool
 takes_word SameSeed = false
 takes_word Secure = false
+takes_word UnknownFiles = false
 takes_word other = true
 
 -- the options that cannot be given with this one, in the order of the help
@@ -90,9 +94,10 @@ rivals Role = As ∷ Diff ∷ []
 rivals FailOn = Path ∷ []
 rivals Accept = Path ∷ Diff ∷ []
 rivals Lines = Diff ∷ []
+rivals UnknownFiles = Diff ∷ []
 rivals Path = Format ∷ FailOn ∷ Accept ∷ Diff ∷ []
 rivals Method = Diff ∷ []
-rivals Diff = As ∷ Role ∷ Accept ∷ Lines ∷ Path ∷ Method ∷ []
+rivals Diff = As ∷ Role ∷ Accept ∷ Lines ∷ UnknownFiles ∷ Path ∷ Method ∷ []
 rivals other = []
 
 -- the option that must be given with this one

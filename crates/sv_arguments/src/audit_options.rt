@@ -27,9 +27,9 @@ pub struct AuditOptions<'a> {
 impl<'a> AuditOptions<'a> {
     /// Parses the arguments: the name of the server file, followed by options in any order, each at most once. The
     /// options are `--secure`, `--format FORMAT` (`text`, `json`, `html` or `keys`; `text` without it), `--as USER` or
-    /// `--role ROLE`, but not both, `--fail-on KINDS`, `--accept FILE`, `--lines FILE`, `--path TARGET`,
-    /// `--method METHOD`, which needs `--path`, and `--diff OTHER`. `--path` excludes `--format`, `--fail-on` and
-    /// `--accept`, and `--diff` excludes all but `--secure`, `--format` and `--fail-on`.
+    /// `--role ROLE`, but not both, `--fail-on KINDS`, `--accept FILE`, `--lines FILE`, `--unknown-files`,
+    /// `--path TARGET`, `--method METHOD`, which needs `--path`, and `--diff OTHER`. `--path` excludes `--format`,
+    /// `--fail-on` and `--accept`, and `--diff` excludes all but `--secure`, `--format` and `--fail-on`.
     ///
     /// # Errors
     /// The first fault, from the left, or else an option without the one that it needs.
@@ -47,6 +47,7 @@ impl<'a> AuditOptions<'a> {
                 fail_on: given.value(Key::FailOn),
                 accept: given.value(Key::Accept),
                 lines: given.value(Key::Lines),
+                has_unknown_files: given.has(Key::UnknownFiles),
                 path: given.value(Key::Path),
                 method: given.value(Key::Method),
                 diff: given.value(Key::Diff),

@@ -48,6 +48,8 @@ pub enum Key {
     Accept,
     /// `--lines FILE`: the name of the file of the lines on which the constraints of an imported descriptor begin.
     Lines,
+    /// `--unknown-files`: contexts without a folder may have files that are not known.
+    UnknownFiles,
     /// `--path TARGET`: the target of the request that is explained.
     Path,
     /// `--method METHOD`: the method of that request.
@@ -76,6 +78,7 @@ impl Key {
             Key::FailOn => "--fail-on",
             Key::Accept => "--accept",
             Key::Lines => "--lines",
+            Key::UnknownFiles => "--unknown-files",
             Key::Path => "--path",
             Key::Method => "--method",
             Key::Diff => "--diff",
@@ -101,6 +104,7 @@ impl Key {
             Key::FailOn => "any, or kinds that \"sv help audit\" lists, joined by commas",
             Key::Accept => "FILE",
             Key::Lines => "FILE",
+            Key::UnknownFiles => "nothing",
             Key::Path => "TARGET",
             Key::Method => "METHOD",
             Key::Diff => "a server file",
@@ -126,6 +130,7 @@ impl Key {
             Key::FailOn => true,
             Key::Accept => true,
             Key::Lines => true,
+            Key::UnknownFiles => false,
             Key::Path => true,
             Key::Method => true,
             Key::Diff => true,
@@ -151,6 +156,7 @@ impl Key {
             Key::FailOn => &[Key::Path],
             Key::Accept => &[Key::Path, Key::Diff],
             Key::Lines => &[Key::Diff],
+            Key::UnknownFiles => &[Key::Diff],
             Key::Path => &[Key::Format, Key::FailOn, Key::Accept, Key::Diff],
             Key::Method => &[Key::Diff],
             Key::Diff => &[
@@ -158,6 +164,7 @@ impl Key {
                 Key::Role,
                 Key::Accept,
                 Key::Lines,
+                Key::UnknownFiles,
                 Key::Path,
                 Key::Method,
             ],
@@ -184,6 +191,7 @@ impl Key {
             Key::FailOn => are_kinds(word),
             Key::Accept => true,
             Key::Lines => true,
+            Key::UnknownFiles => word.is_empty(),
             Key::Path => true,
             Key::Method => true,
             Key::Diff => true,

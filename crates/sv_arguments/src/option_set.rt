@@ -110,6 +110,9 @@ fn audit_key(word: &str) -> Option<Key>
     if word == "--lines" {
         return Some(Key::Lines);
     }
+    if word == "--unknown-files" {
+        return Some(Key::UnknownFiles);
+    }
     if word == "--path" {
         return Some(Key::Path);
     }

@@ -39,7 +39,7 @@ const RUN_OPTIONS: [&str; 7] = [
 ];
 
 /// The options of `audit`, in the order of its help.
-const AUDIT_OPTIONS: [&str; 10] = [
+const AUDIT_OPTIONS: [&str; 11] = [
     "--secure",
     "--format",
     "--as",
@@ -47,6 +47,7 @@ const AUDIT_OPTIONS: [&str; 10] = [
     "--fail-on",
     "--accept",
     "--lines",
+    "--unknown-files",
     "--path",
     "--method",
     "--diff",

@@ -27,7 +27,7 @@ use Rattle.sv_audited_contexts.specs.Audited.{audited_context, audited_contexts,
 use Rattle.sv_audit_command.specs.Report.{access_report, asked_text, context_options, difference_report, report_by, report_on}
 use Rattle.sv_audit_command.specs.ComparedServers.{checked_server, other_context, other_server}
 use Rattle.sv_audit_command.specs.ExplainedRequest.{explained, method_of, sites_of, told}
-use Rattle.sv_audited_contexts.specs.ContextFiles.{audited_files, files_in}
+use Rattle.sv_audited_contexts.specs.ContextFiles.{audited_files, files_in, files_without_folder}
 use Rattle.sv_audited_contexts.specs.LineFile.{located}
 use Rattle.sv_audit_command.specs.Viewer.{check_viewer}
 use Rattle.sv_audited_contexts.specs.declared.audited_context.AuditedContext.{AuditedContext}
@@ -94,19 +94,20 @@ kept_faults : (keeps : Bool) (at : ContextTexts) → AreOfFiles (kept_descriptor
 kept_faults false at = done None
 kept_faults true at = onward (descriptor_in at) _ (app_faults at) (λ app. done (Some app))
 
-folder_faults : (name : List ℕ) (found : FolderFiles) → AreOfFiles (audited_files name found)
-folder_faults [] found = done None
-folder_faults (first ∷ rest) (Ok files) = done (Some files)
-folder_faults (first ∷ rest) (Err entry) = λ fault h. only (Folder (first ∷ rest) entry) fault tt h
+folder_faults : (has_unknown : Bool) (name : List ℕ) (found : FolderFiles) → AreOfFiles (audited_files has_unknown name found)
+folder_faults has_unknown [] found = done (files_without_folder has_unknown)
+folder_faults has_unknown (first ∷ rest) (Ok files) = done (Some files)
+folder_faults has_unknown (first ∷ rest) (Err entry) = λ fault h. only (Folder (first ∷ rest) entry) fault tt h
 
-in_faults : (name : List ℕ) (found : FolderFiles) (login : Option FormLogin) → AreOfFiles (files_in name found login)
-in_faults name found login = onward (audited_files name found) _ (folder_faults name found) (λ files. done _)
+in_faults : (has_unknown : Bool) (name : List ℕ) (found : FolderFiles) (login : Option FormLogin) → AreOfFiles (files_in has_unknown name found login)
+in_faults has_unknown name found login = onward (audited_files has_unknown name found) _ (folder_faults has_unknown name found) (λ files. done _)
 
 parts_faults : (options : ContextOptions) (at : FoundContext) (login : Option FormLogin) → AreOfFiles (context_parts options at login)
 parts_faults options at login =
     onward (kept_descriptor options.keeps_descriptor at.texts) _ (kept_faults options.keeps_descriptor at.texts)
     (λ kept. onward (users_in at.texts) _ (named_faults at.texts.context.path at.texts.context.users at.texts.users)
-    (λ users. onward (files_in at.texts.context.files at.files login) _ (in_faults at.texts.context.files at.files login) (λ files. done _)))
+    (λ users. onward (files_in options.has_unknown_files at.texts.context.files at.files login) _
+    (in_faults options.has_unknown_files at.texts.context.files at.files login) (λ files. done _)))
 
 context_faults : (options : ContextOptions) (paths : List (List ℕ)) (at : FoundContext) → AreOfFiles (audited_context options paths at)
 context_faults options paths at =

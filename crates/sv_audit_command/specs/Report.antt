@@ -136,7 +136,11 @@ report_by options (Some target) accepted other contexts = explanation_report opt
 
 -- A descriptor is kept if the report is on one request.
 abbrev pub context_options : AccessOptions → ContextOptions
-context_options options = record { is_secure = options.is_secure; keeps_descriptor = is_some (option_copied options.path) }
+context_options options = record {
+  is_secure = options.is_secure;
+  keeps_descriptor = is_some (option_copied options.path);
+  has_unknown_files = options.has_unknown_files;
+}
 
 -- The report, or the first fault: of the contexts' files, of the accepting file, of the file of lines, of the viewer, and
 -- of the method or of the other server's files.

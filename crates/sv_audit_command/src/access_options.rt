@@ -37,6 +37,8 @@ pub struct AccessOptions<'a> {
     pub accept: Option<&'a str>,
     /// The name of the file with the lines on which the constraints of an imported descriptor begin.
     pub lines: Option<&'a str>,
+    /// Whether contexts without a folder may have files that are not known. If not, they have no files.
+    pub has_unknown_files: bool,
     /// The name of another server file, if the report is on what the two decide differently.
     pub diff: Option<&'a str>,
     /// The target of a request, if the report is on this request.

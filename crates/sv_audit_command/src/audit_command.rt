@@ -14,9 +14,9 @@ use sv_program::{CommandFault, FileStore, print_text, read_contexts, read_server
 /// Reads the server file of this name, then the descriptor and the users file of each of its contexts, then the folders
 /// of their static files, then the accepting file and the file of lines, then the other server file with the descriptor
 /// and the users file of each of its contexts, and writes who may reach what (Jakarta Servlet 6.0, section 13.8). Names
-/// in a server file are relative to its folder. Nothing else is read. A context without a folder has no findings that
-/// follow from its files. A file of lines locates the constraints of the first context: its first line names their file,
-/// and the next ones are the lines on which they begin in it.
+/// in a server file are relative to its folder. Nothing else is read. A context without a folder has no files, or its
+/// files are not known: then no findings follow from them. A file of lines locates the constraints of the first context:
+/// its first line names their file, and the next ones are the lines on which they begin in it.
 ///
 /// # Errors
 /// The first fault: [`CommandFault::File`] or [`CommandFault::Server`] for the server file, then

@@ -61,6 +61,7 @@ fn context_options(options: &AccessOptions<'_>) -> ContextOptions
     ContextOptions {
         is_secure: options.is_secure,
         keeps_descriptor: options.path.is_some(),
+        has_unknown_files: options.has_unknown_files,
     }
 }
 

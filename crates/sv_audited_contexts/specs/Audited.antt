@@ -50,7 +50,7 @@ abbrev pub context_parts : ContextOptions → FoundContext → Option FormLogin 
 context_parts options found login = do
   kept ← kept_descriptor options.keeps_descriptor found.texts
   users ← users_in found.texts
-  files ← files_in found.texts.context.files found.files login
+  files ← files_in options.has_unknown_files found.texts.context.files found.files login
   Ok (parts_of found.texts kept users files)
 
 -- What surrounds the constraints of a context, given the paths of all contexts.

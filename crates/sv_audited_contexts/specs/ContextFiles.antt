@@ -1,5 +1,5 @@
 -- The static files of a context, as an audit uses them (Jakarta Servlet 6.0, sections 10.10 and 13.6.3).
-use Rattle.std.specs.Prelude.{ℕ, List, [], ◌∷◌, map, Option, None, Some, option_and_then, Result, Ok, Err}
+use Rattle.std.specs.Prelude.{ℕ, Bool, true, false, List, [], ◌∷◌, map, Option, None, Some, option_and_then, Result, Ok, Err}
 use Rattle.std.specs.Option.{option_map}
 use Rattle.sv_text.specs.Steps.{◌>>=◌}
 use Rattle.sv_deployments.specs.Folders.{FolderFiles}
@@ -15,12 +15,16 @@ use Rattle.sv_uri.specs.declared.fault.PathFault.{PathFault}
 use Rattle.sv_uri.specs.declared.path.Canon.{Canon}
 use Rattle.sv_audited_contexts.specs.declared.context_files.ContextFiles.{ContextFiles}
 
--- The files in the folder of this name, or what of it is not available. An empty name means no folder, of which nothing is
--- known.
-abbrev pub audited_files : List ℕ → FolderFiles → Step (Option (List File))
-audited_files [] found = Ok None
-audited_files (first ∷ rest) (Ok files) = Ok (Some files)
-audited_files (first ∷ rest) (Err entry) = Err (fault.Folder (first ∷ rest) entry)
+-- The files of a context without a folder, which may have files that are not known, or has none.
+abbrev pub files_without_folder : Bool → Option (List File)
+files_without_folder true = None
+files_without_folder false = Some []
+
+-- The files in the folder of this name, or what of it is not available. An empty name means no folder.
+abbrev pub audited_files : Bool → List ℕ → FolderFiles → Step (Option (List File))
+audited_files has_unknown [] found = Ok (files_without_folder has_unknown)
+audited_files has_unknown (first ∷ rest) (Ok files) = Ok (Some files)
+audited_files has_unknown (first ∷ rest) (Err entry) = Err (fault.Folder (first ∷ rest) entry)
 
 abbrev pub paths_of : List File → List (List ℕ)
 paths_of files = map (λ file. file.path) files
@@ -54,7 +58,7 @@ used_of None login = record { paths = None; login_page = None }
 used_of (Some files) login = files_of files login
 
 -- The same of the folder of this name, or what of it is not available.
-abbrev pub files_in : List ℕ → FolderFiles → Option FormLogin → Step ContextFiles
-files_in name found login = do
-  files ← audited_files name found
+abbrev pub files_in : Bool → List ℕ → FolderFiles → Option FormLogin → Step ContextFiles
+files_in has_unknown name found login = do
+  files ← audited_files has_unknown name found
   Ok (used_of files login)

@@ -47,6 +47,8 @@ pub struct ContextOptions {
     pub is_secure: bool,
     /// Whether the descriptors are kept.
     pub keeps_descriptor: bool,
+    /// Whether contexts without a folder may have files that are not known. If not, they have no files.
+    pub has_unknown_files: bool,
 }
 
 /// A descriptor, and the context that it describes.
@@ -149,7 +151,8 @@ fn context_parts(
     let descriptor = kept_descriptor(alloc, texts, options.keeps_descriptor)?;
     let realm = realm_in(alloc, texts)?;
     let held = held_in(alloc, &texts.context.users, &realm)?;
-    let files = files_in(alloc, texts.context.files.as_str(), &found.files, login)?;
+    let name = texts.context.files.as_str();
+    let files = files_in(alloc, options.has_unknown_files, name, &found.files, login)?;
     Ok(ContextParts {
         descriptor,
         realm,

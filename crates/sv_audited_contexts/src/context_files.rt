@@ -28,28 +28,44 @@ pub struct ContextFiles {
     pub login_page: Option<LoginPage>,
 }
 
-/// Returns what an audit uses of the files in the folder of this name. An empty name means no folder: then it is not
-/// known what answers where no servlet does.
+/// Returns what an audit uses of the files in the folder of this name. An empty name means no folder: then there are no
+/// files, unless there may be unknown ones, so that it is not known what answers where no servlet does.
 ///
 /// # Errors
 /// [`CommandFault::Folder`] if the folder has a name and is not available, or [`CommandFault::NoMemory`].
 pub fn files_in(
     alloc: Global,
+    has_unknown: bool,
     name: &str,
     found: &FolderFiles,
     login: &Option<FormLogin>,
 ) -> Result<ContextFiles, CommandFault>
-    ensures { Gives command_fault result (spec.files_in name.now found.now login.now) }
+    ensures { Gives command_fault result (spec.files_in has_unknown name.now found.now login.now) }
 {
     if name.is_empty() {
-        return Ok(ContextFiles {
-            paths: None,
-            login_page: None,
-        });
+        return Ok(files_without_folder(alloc, has_unknown, login)?);
     }
     match found {
         Ok(files) => Ok(files_of(alloc, files.as_slice(), login)?),
         Err(entry) => Err(folder_fault(alloc, name, entry)?),
+    }
+}
+
+/// Returns what an audit uses of the files of a context without a folder.
+fn files_without_folder(
+    alloc: Global,
+    has_unknown: bool,
+    login: &Option<FormLogin>,
+) -> Result<ContextFiles, NoMemory>
+    ensures { GivesAnswer result (spec.used_of (spec.files_without_folder has_unknown) login.now) }
+{
+    if has_unknown {
+        Ok(ContextFiles {
+            paths: None,
+            login_page: None,
+        })
+    } else {
+        files_of(alloc, &[], login)
     }
 }
 

@@ -68,7 +68,7 @@ pub const COMMANDS: [CommandRow; 11] = [
 ];
 
 /// The options, by their commands.
-pub const OPTIONS: [OptionRow; 18] = [
+pub const OPTIONS: [OptionRow; 19] = [
     (
         "audit",
         "--secure",
@@ -110,6 +110,12 @@ unserved, escaped, login-needs, unknown-role, unheld-role, unused-role",
     ),
     (
         "audit",
+        "--unknown-files",
+        "",
+        "contexts that name no folder may have files that are not here",
+    ),
+    (
+        "audit",
         "--path",
         "TARGET",
         "explains one request to that target, in sentences;
@@ -126,7 +132,7 @@ not with --format, --fail-on, --accept or --diff",
         "--diff",
         "OTHER",
         "shows what the server file OTHER decides differently; text or json;
-not with --as, --role, --accept, --lines, --path or --method",
+not with --as, --role, --accept, --lines, --unknown-files, --path or --method",
     ),
     (
         "run",
