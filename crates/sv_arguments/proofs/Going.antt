@@ -6,12 +6,13 @@ use Rattle.std.specs.Prelude.{IfErr}
 use Rattle.std.specs.Result.{IsErrAnd}
 use Rattle.sv_arguments.specs.Given.{AreAllOf, AreOf, IsNext}
 use Rattle.sv_arguments.specs.OptionFault.{IsRefused, IsWrong}
-use Rattle.sv_arguments.specs.Options.{AreProper}
+use Rattle.sv_arguments.specs.Options.{AreProper, HasUnfit}
 use Rattle.sv_arguments.specs.Settings.{Setting, is_given, needed, setting_words, words_of}
+use Rattle.sv_arguments.specs.Values.{Finds}
 use Rattle.sv_arguments.specs.declared.key.Key.{Key}
 use Rattle.sv_arguments.specs.declared.key.Key.TheVariants.{Method, Path}
 use Rattle.sv_arguments.specs.declared.option_fault.OptionFault.{OptionFault}
-use Rattle.sv_arguments.specs.declared.option_fault.OptionFault.TheVariants.{NoServer, Unknown, Twice, Excluded, NoValue, BadValue, Alone}
+use Rattle.sv_arguments.specs.declared.option_fault.OptionFault.TheVariants.{NoServer, Unknown, Twice, Excluded, NoValue, BadValue, Alone, Unfit}
 use Rattle.sv_arguments.specs.declared.option_set.OptionSet.{OptionSet}
 
 -- the words before the rest are those of proper settings
@@ -51,6 +52,7 @@ module _ (set : OptionSet) (words rest left : List (List ℕ)) (reached : IsReac
   refused_at arguments config (BadValue key value) is wrong =
       (config, reached.0, left, is ∙ ap (λ (all : List (List ℕ)). config ∷ all) reached_left, reached.2, wrong)
   refused_at arguments config (Alone key other) is wrong = absurd wrong
+  refused_at arguments config (Unfit form) is wrong = absurd wrong
 
 pub needs_target : (key other : Key) → needed key ≡ Some other → (key ≡ Method) × (other ≡ Path)
 needs_target Method other is = let same : other ≡ Path = cc in (refl, same)
@@ -79,8 +81,10 @@ module _ (set : OptionSet) (words rest : List (List ℕ)) (reached : IsReached s
       ap (is_given reached.0) both.1
       ∙ other_test (is_given reached.0 Method) (is_given reached.0 Path) (sym test ∙ fails) (sym (ap (is_given reached.0) both.0) ∙ given)
 
-  pub all_complete : lacks ≡ false → (settings : List Setting) × AreAllOf set words settings
-  all_complete fails = (reached.0, (all_words, (reached.2, met fails)))
+  pub all_complete : lacks ≡ false → ((settings : List Setting) → AreOf set words settings → Finds (HasUnfit settings) None)
+      → (settings : List Setting) × AreAllOf set words settings
+  all_complete fails fits =
+      (reached.0, (all_words, (reached.2, met fails, λ form unfit. false≢true ((fits reached.0 (all_words, reached.2)).1 form unfit))))
 
 -- a fault that is passed on
 pub passed_on : {A E : Type 0} (Says : E → Type 0) (fault : E) (result : Result A E) → IsErrAnd result (λ passed. passed ≡ fault) → Says fault → IfErr result Says

@@ -13,6 +13,7 @@ pub mod OneTopic
 pub mod Saying
 pub mod Setting
 pub mod Tables
+pub mod Unfit
 pub mod Walking
 pub mod WordCounts
 pub mod Words

@@ -74,7 +74,7 @@ format_at-name Json = refl
 format_at-name Html = refl
 format_at-name Keys = refl
 
-formats_one : (word : List ℕ) (x y : report.Format) → IsFormat word x → IsFormat word y → x ≡ y
+pub formats_one : (word : List ℕ) (x y : report.Format) → IsFormat word x → IsFormat word y → x ≡ y
 formats_one word x y a b = sym (format_at-name x) ∙ ap format_at (sym a ∙ b) ∙ format_at-name y
 
 viewers_one : (users roles : List (List ℕ)) (one other : Option Asked) → IsViewer users roles one → IsViewer users roles other → SameViewer one other

@@ -1,26 +1,30 @@
 -- Arguments that name no command have only one line.
-use Rattle.std.proofs.Common.{◌≡◌, ◌≢◌, ℕ, ◌⊎◌, List, [], ◌∷◌, ◌++◌, Option, Some, None, inl, inr, append-nil, append_assoc, refl, sym, ap, subst, ◌∙◌}
+use Rattle.std.proofs.Common.{◌≡◌, ◌≢◌, ℕ, ◌⊎◌, true, List, [], ◌∷◌, ◌++◌, Option, Some, None, inl, inr, append-nil, append_assoc, arith, refl, sym, ap, subst, ◌∙◌}
+use Rattle.std.proofs.lemmas.Bool.{false≢true}
 use Rattle.std.proofs.lemmas.List.Elements.{All-head, All-tail}
 use Rattle.std.specs.Prelude.{All, codes}
-use Rattle.sv_arguments.proofs.Decoding.{first_same, key_word_injective, same_heads, some_word}
+use Rattle.sv_arguments.proofs.Decoding.{first_same, key_word_injective, one_settings, same_heads, some_word}
 use Rattle.sv_arguments.proofs.Going.{needs_target}
 use Rattle.sv_arguments.proofs.OneTopic.{called_one, finds_one, named_one}
-use Rattle.sv_arguments.proofs.Setting.{some_none}
-use Rattle.sv_arguments.proofs.Wrong.{IsLacking, IsStopped, not_next, stopped_not_read}
+use Rattle.sv_arguments.proofs.Setting.{either_none, some_none}
+use Rattle.sv_arguments.proofs.Unfit.{one_unfit}
+use Rattle.sv_arguments.proofs.Wrong.{IsStopped, not_next, stopped_not_read}
 use Rattle.sv_arguments.specs.HelpUsage.{IsHelpLine, called_line}
-use Rattle.sv_arguments.specs.OptionFault.{IsFree, IsRefused, IsWrong}
-use Rattle.sv_arguments.specs.Options.{AreProper, IsProper}
-use Rattle.sv_arguments.specs.Settings.{Setting, Keyed, IsKey, given_rival, key_word, set_of, setting_words, values, words_of}
+use Rattle.sv_arguments.specs.OptionFault.{IsFree, IsRefused, IsWrong, Lacks}
+use Rattle.sv_arguments.specs.Options.{AreProper, HasUnfit, IsProper}
+use Rattle.sv_arguments.specs.Settings.{Setting, Keyed, IsKey, given_rival, has_word, is_given, key_word, set_of, setting_words, values, words_of}
 use Rattle.sv_arguments.specs.Topics.{IsCalled, topic_name}
 use Rattle.sv_arguments.specs.Usage.{IsLineAfter, IsOptionLine, IsUsageLine, needs_line, option_fault_line, unknown_option}
 use Rattle.sv_program.specs.Shown.{quoted}
 use Rattle.sv_arguments.specs.declared.key.Key.{Key}
+use Rattle.sv_arguments.specs.declared.key.Key.TheVariants.{Diff, Method}
 use Rattle.sv_arguments.specs.declared.option_fault.OptionFault.{OptionFault}
-use Rattle.sv_arguments.specs.declared.option_fault.OptionFault.TheVariants.{NoServer, Unknown, Twice, Excluded, NoValue, BadValue, Alone}
+use Rattle.sv_arguments.specs.declared.option_fault.OptionFault.TheVariants.{NoServer, Unknown, Twice, Excluded, NoValue, BadValue, Alone, Unfit}
 use Rattle.sv_arguments.specs.declared.option_set.OptionSet.{OptionSet}
 use Rattle.sv_arguments.specs.declared.option_set.OptionSet.TheVariants as set
 use Rattle.sv_arguments.specs.declared.topic.Topic.{Topic}
 use Rattle.sv_arguments.specs.declared.topic.Topic.TheVariants.{Run, Audit, Help}
+use Rattle.sv_audit_command.specs.declared.access_options.Format.{Format}
 
 module _ (its : OptionSet) (settings : List Setting) (words : List (List ℕ)) where
   -- a word that is no option of the command is not the word of one
@@ -53,6 +57,8 @@ module _ (its : OptionSet) (settings : List Setting) (words : List (List ℕ)) w
   one_wrong NoServer other a b = absurd a
   one_wrong one (Alone key by) a b = absurd b
   one_wrong (Alone key by) other a b = absurd a
+  one_wrong one (Unfit form) a b = absurd b
+  one_wrong (Unfit form) other a b = absurd a
   one_wrong (Unknown word) (Unknown next) (after, is, other) (rest, same, none) =
       ap (unknown_option its) (same_heads word.now next.now after rest (sym is ∙ same)).0
   one_wrong (Unknown word) (Twice key) (after, is, other) (rest, same, has, given) =
@@ -160,46 +166,88 @@ one_stopped its arguments one other (o, a, x, is, proper, wrong) (p, b, y, same,
 abbrev pub IsMissing : List (List ℕ) → OptionFault → Type 0
 IsMissing arguments fault = (arguments ≡ []) × (fault ≡ NoServer)
 
--- an option lacks another
-abbrev pub IsLone : OptionSet → List (List ℕ) → OptionFault → Type 0
-IsLone its arguments fault = (key other : Key) × (fault ≡ Alone key other) × IsLacking its arguments key other
+-- all words are read, and an option lacks another, or another server excludes the form
+abbrev pub IsUnmet : List Setting → OptionFault → Type 0
+IsUnmet settings (Alone key other) = Lacks settings key other
+IsUnmet settings (Unfit form) = HasUnfit settings form
+IsUnmet settings fault = ⊥
+
+abbrev pub IsLate : OptionSet → List (List ℕ) → OptionFault → Type 0
+IsLate its arguments fault =
+    (config : List ℕ) × (settings : List Setting) × (arguments ≡ config ∷ words_of settings) × AreProper its settings × IsUnmet settings fault
 
 refused_how : (its : OptionSet) (arguments : List (List ℕ)) (fault : OptionFault) → IsRefused its arguments fault
-    → IsMissing arguments fault ⊎ (IsStopped its arguments fault ⊎ IsLone its arguments fault)
+    → IsMissing arguments fault ⊎ (IsStopped its arguments fault ⊎ IsLate its arguments fault)
 refused_how its arguments NoServer refused = inl (refused, refl)
 refused_how its arguments (Unknown word) refused = inr (inl refused)
 refused_how its arguments (Twice key) refused = inr (inl refused)
 refused_how its arguments (Excluded key other) refused = inr (inl refused)
 refused_how its arguments (NoValue key) refused = inr (inl refused)
 refused_how its arguments (BadValue key value) refused = inr (inl refused)
-refused_how its arguments (Alone key other) refused = inr (inr (key, other, refl, refused))
+refused_how its arguments (Alone key other) refused = inr (inr refused)
+refused_how its arguments (Unfit form) refused = inr (inr refused)
 
-lone_not_stopped : (its : OptionSet) (arguments : List (List ℕ)) (one other : OptionFault) → IsStopped its arguments one → IsLone its arguments other → ⊥
-lone_not_stopped its arguments one other stopped (key, by, is, (config, settings, same, proper, alone)) =
+late_not_stopped : (its : OptionSet) (arguments : List (List ℕ)) (one other : OptionFault) → IsStopped its arguments one → IsLate its arguments other → ⊥
+late_not_stopped its arguments one other stopped (config, settings, same, proper, unmet) =
     stopped_not_read its arguments one stopped (config, settings, same, proper)
 
--- only one option needs another
-one_lone : (its : OptionSet) (arguments : List (List ℕ)) (one other : OptionFault) → IsLone its arguments one → IsLone its arguments other
+module _ (its : OptionSet) (settings : List Setting) (proper : AreProper its settings) where
+  given_none : (key : Key) → is_given settings key ≡ true → values key settings ≡ [] → ⊥
+  given_none key given none = false≢true (sym (ap has_word none) ∙ given)
+
+  -- a method without a request is given with no other server
+  lone_unfit : (key other : Key) (form : Format) → Lacks settings key other → HasUnfit settings form → ⊥
+  lone_unfit key other form (needs, given, missing) (word, is, unfit, server) =
+      by (either_none its settings proper Method Diff (0, omega arith, refl))
+    where
+      by : (values Method settings ≡ []) ⊎ (values Diff settings ≡ []) → ⊥
+      by (inl none) = given_none Method (sym (ap (is_given settings) (needs_target key other needs).0) ∙ given) none
+      by (inr none) = given_none Diff server none
+
+  -- settings lack only one thing
+  one_unmet : (one other : OptionFault) → IsUnmet settings one → IsUnmet settings other → option_fault_line its one ≡ option_fault_line its other
+  one_unmet one NoServer a b = absurd b
+  one_unmet one (Unknown word) a b = absurd b
+  one_unmet one (Twice key) a b = absurd b
+  one_unmet one (Excluded key by) a b = absurd b
+  one_unmet one (NoValue key) a b = absurd b
+  one_unmet one (BadValue key value) a b = absurd b
+  one_unmet NoServer other a b = absurd a
+  one_unmet (Unknown word) other a b = absurd a
+  one_unmet (Twice key) other a b = absurd a
+  one_unmet (Excluded key by) other a b = absurd a
+  one_unmet (NoValue key) other a b = absurd a
+  one_unmet (BadValue key value) other a b = absurd a
+  one_unmet (Alone key by) (Alone next from) a b =
+      let first = needs_target key by a.0 in
+      let second = needs_target next from b.0 in
+      ap (λ (own : Key). option_fault_line its (Alone own by)) (first.0 ∙ sym second.0)
+      ∙ ap (λ (other : Key). option_fault_line its (Alone next other)) (first.1 ∙ sym second.1)
+  one_unmet (Alone key by) (Unfit form) a b = absurd (lone_unfit key by form a b)
+  one_unmet (Unfit form) (Alone key by) a b = absurd (lone_unfit key by form b a)
+  one_unmet (Unfit form) (Unfit other) a b = ap (λ (any : Format). option_fault_line its (Unfit any)) (one_unfit settings form other a b)
+
+one_late : (its : OptionSet) (arguments : List (List ℕ)) (one other : OptionFault) → IsLate its arguments one → IsLate its arguments other
     → option_fault_line its one ≡ option_fault_line its other
-one_lone its arguments one other (a, b, is, (config, settings, at, proper, (needs, given, missing))) (c, d, same, (name, others, from, own, (more, rest, none))) =
-    let first = needs_target a b needs in
-    let second = needs_target c d more in
-    ap (option_fault_line its)
-    (is ∙ ap (λ (key : Key). Alone key b) (first.0 ∙ sym second.0) ∙ ap (λ (key : Key). Alone c key) (first.1 ∙ sym second.1) ∙ sym same)
+one_late its arguments one other (config, settings, at, proper, unmet) (name, others, from, own, more) =
+    let heads = same_heads config name (words_of settings) (words_of others) (sym at ∙ from) in
+    let same = one_settings its its settings others proper.0 own.0 heads.1 in
+    let Is : List Setting → Type 0 = λ any. IsUnmet any one in
+    one_unmet its others own one other (subst Is same unmet) more
 
 one_refused : (its : OptionSet) (arguments : List (List ℕ)) (one other : OptionFault)
-    → IsMissing arguments one ⊎ (IsStopped its arguments one ⊎ IsLone its arguments one)
-    → IsMissing arguments other ⊎ (IsStopped its arguments other ⊎ IsLone its arguments other)
+    → IsMissing arguments one ⊎ (IsStopped its arguments one ⊎ IsLate its arguments one)
+    → IsMissing arguments other ⊎ (IsStopped its arguments other ⊎ IsLate its arguments other)
     → option_fault_line its one ≡ option_fault_line its other
 one_refused its arguments one other (inl (none, a)) (inl (same, b)) = ap (option_fault_line its) (a ∙ sym b)
 one_refused its arguments one other (inl (none, a)) (inr (inl (p, settings, rest, is, proper, wrong))) = absurd (some_word p (words_of settings ++ rest) (sym none ∙ is))
-one_refused its arguments one other (inl (none, a)) (inr (inr (key, by, is, (p, settings, same, proper, alone)))) = absurd (some_word p (words_of settings) (sym none ∙ same))
+one_refused its arguments one other (inl (none, a)) (inr (inr (p, settings, same, proper, unmet))) = absurd (some_word p (words_of settings) (sym none ∙ same))
 one_refused its arguments one other (inr (inl (p, settings, rest, is, proper, wrong))) (inl (none, a)) = absurd (some_word p (words_of settings ++ rest) (sym none ∙ is))
-one_refused its arguments one other (inr (inr (key, by, is, (p, settings, same, proper, alone)))) (inl (none, a)) = absurd (some_word p (words_of settings) (sym none ∙ same))
+one_refused its arguments one other (inr (inr (p, settings, same, proper, unmet))) (inl (none, a)) = absurd (some_word p (words_of settings) (sym none ∙ same))
 one_refused its arguments one other (inr (inl a)) (inr (inl b)) = one_stopped its arguments one other a b
-one_refused its arguments one other (inr (inl a)) (inr (inr b)) = absurd (lone_not_stopped its arguments one other a b)
-one_refused its arguments one other (inr (inr a)) (inr (inl b)) = absurd (lone_not_stopped its arguments other one b a)
-one_refused its arguments one other (inr (inr a)) (inr (inr b)) = one_lone its arguments one other a b
+one_refused its arguments one other (inr (inl a)) (inr (inr b)) = absurd (late_not_stopped its arguments one other a b)
+one_refused its arguments one other (inr (inr a)) (inr (inl b)) = absurd (late_not_stopped its arguments other one b a)
+one_refused its arguments one other (inr (inr a)) (inr (inr b)) = one_late its arguments one other a b
 
 one_option_line : (its : OptionSet) (arguments : List (List ℕ)) (a b : List ℕ) → IsOptionLine its arguments a → IsOptionLine its arguments b → a ≡ b
 one_option_line its arguments a b (one, refused, is) (other, wrong, same) =

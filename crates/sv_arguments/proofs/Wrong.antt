@@ -9,16 +9,17 @@ use Rattle.sv_arguments.proofs.Decoding.{key_word_injective, one_settings, same_
 use Rattle.sv_arguments.proofs.Setting.{finds_none, none_passes, own_value, some_none}
 use Rattle.sv_arguments.specs.AuditOptions.{IsAudit}
 use Rattle.sv_arguments.specs.OptionFault.{Lacks, IsRefused, IsWrong}
-use Rattle.sv_arguments.specs.Options.{AreComplete, AreProper, IsProper, IsValue}
+use Rattle.sv_arguments.specs.Options.{AreComplete, AreProper, HasUnfit, IsProper, IsValue}
 use Rattle.sv_arguments.specs.RunOptions.{IsAsked}
 use Rattle.sv_arguments.specs.Settings.{Setting, Keyed, given_rival, has_word, is_given, key_word, own_words, rivals, setting_words, takes_word, value_in, values, words_of}
 use Rattle.sv_arguments.specs.declared.audit_options.AuditOptions.{AuditOptions}
 use Rattle.sv_arguments.specs.declared.key.Key.{Key}
 use Rattle.sv_arguments.specs.declared.option_fault.OptionFault.{OptionFault}
-use Rattle.sv_arguments.specs.declared.option_fault.OptionFault.TheVariants.{NoServer, Unknown, Twice, Excluded, NoValue, BadValue, Alone}
+use Rattle.sv_arguments.specs.declared.option_fault.OptionFault.TheVariants.{NoServer, Unknown, Twice, Excluded, NoValue, BadValue, Alone, Unfit}
 use Rattle.sv_arguments.specs.declared.option_set.OptionSet.{OptionSet}
 use Rattle.sv_arguments.specs.declared.option_set.OptionSet.TheVariants as set
 use Rattle.sv_arguments.specs.declared.run_options.RunOptions.{RunOptions}
+use Rattle.sv_audit_command.specs.declared.access_options.Format.{Format}
 
 only_one : (xs ys : List (List ℕ)) (x : List ℕ) → length (xs ++ x ∷ ys) ≤ 1 → xs ≡ []
 only_one [] ys x few = refl
@@ -92,6 +93,7 @@ module _ (its : OptionSet) (done : List Setting) where
           let At : List ℕ → Type 0 = λ word. IsValue k word in
           bad (subst At (sym heads.0) (subst Is (sym (same_key k (text.now ∷ after) is)) own.1))
       not_next (Alone k other) wrong = wrong
+      not_next (Unfit form) wrong = wrong
 
   none_wrong : (words : List (List ℕ)) (fault : OptionFault) → IsWrong its done words fault → words ≡ [] → ⊥
   none_wrong words NoServer wrong none = wrong
@@ -101,6 +103,7 @@ module _ (its : OptionSet) (done : List Setting) where
   none_wrong words (NoValue key) (is, free, some) none = some_word (key_word key) [] (sym none ∙ is)
   none_wrong words (BadValue key value) (after, is, free, some, bad) none = some_word (key_word key) (value.now ∷ after) (sym none ∙ is)
   none_wrong words (Alone key other) wrong none = wrong
+  none_wrong words (Unfit form) wrong none = wrong
 
   -- words with a fault are not those of further settings
   not_more : (words : List (List ℕ)) (fault : OptionFault) → IsWrong its done words fault → (more : List Setting) → words ≡ words_of more
@@ -144,6 +147,13 @@ lacking_not_valid its arguments key other (config, settings, same, proper, (need
     (sym missing ∙ ap (λ (any : List Setting). is_given any other) one
     ∙ valid.1 key other needs (sym (ap (λ (any : List Setting). is_given any key) one) ∙ given))
 
+unfit_not_valid : (its : OptionSet) (arguments : List (List ℕ)) (form : Format) → IsRefused its arguments (Unfit form) → AreValid its arguments → ⊥
+unfit_not_valid its arguments form (config, settings, same, proper, unfit) (name, all, is, valid) =
+    let heads = same_heads config name (words_of settings) (words_of all) (sym same ∙ is) in
+    let one = one_settings its its settings all proper.0 valid.0.0 heads.1 in
+    let Has : List Setting → Type 0 = λ any. HasUnfit any form in
+    valid.2 form (subst Has one unfit)
+
 not_valid : (its : OptionSet) (arguments : List (List ℕ)) (fault : OptionFault) → IsRefused its arguments fault → AreValid its arguments → ⊥
 not_valid its arguments NoServer none (name, all, is, valid) = some_word name (words_of all) (sym none ∙ is)
 not_valid its arguments (Unknown word) refused valid = stopped_not_valid its arguments (Unknown word) refused valid
@@ -152,6 +162,7 @@ not_valid its arguments (Excluded key other) refused valid = stopped_not_valid i
 not_valid its arguments (NoValue key) refused valid = stopped_not_valid its arguments (NoValue key) refused valid
 not_valid its arguments (BadValue key value) refused valid = stopped_not_valid its arguments (BadValue key value) refused valid
 not_valid its arguments (Alone key other) refused valid = lacking_not_valid its arguments key other refused valid
+not_valid its arguments (Unfit form) refused valid = unfit_not_valid its arguments form refused valid
 
 pub not_asked : (arguments : List (List ℕ)) (fault : OptionFault) → IsRefused set.Run arguments fault → (asked : RunOptions) → IsAsked arguments asked → ⊥
 not_asked arguments fault refused asked (settings, is, proper, give) =

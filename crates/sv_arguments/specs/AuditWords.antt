@@ -12,3 +12,9 @@ format_name Keys = codes "keys"
 -- the word is the name of the form
 abbrev pub IsFormat : List ℕ → Format → Type 0
 IsFormat word format = word ≡ format_name format
+
+-- the word is the name of a form that a report on differences does not have
+abbrev pub IsUnfit : List ℕ → Format → Type 0
+IsUnfit word Html = IsFormat word Html
+IsUnfit word Keys = IsFormat word Keys
+IsUnfit word other = ⊥

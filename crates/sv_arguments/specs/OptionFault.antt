@@ -1,10 +1,10 @@
 -- What is wrong with the arguments of a command that has options.
 use Rattle.std.specs.Prelude.{◌≡◌, ◌≢◌, ℕ, List, [], ◌∷◌, ◌++◌, true, false, Some, None}
-use Rattle.sv_arguments.specs.Options.{AreProper, IsValue}
+use Rattle.sv_arguments.specs.Options.{AreProper, HasUnfit, IsValue}
 use Rattle.sv_arguments.specs.Settings.{Setting, IsKey, given_rival, is_given, key_word, needed, set_of, takes_word, values, words_of}
 use Rattle.sv_arguments.specs.declared.key.Key.{Key}
 use Rattle.sv_arguments.specs.declared.option_fault.OptionFault.{OptionFault}
-use Rattle.sv_arguments.specs.declared.option_fault.OptionFault.TheVariants.{NoServer, Unknown, Twice, Excluded, NoValue, BadValue, Alone}
+use Rattle.sv_arguments.specs.declared.option_fault.OptionFault.TheVariants.{NoServer, Unknown, Twice, Excluded, NoValue, BadValue, Alone, Unfit}
 use Rattle.sv_arguments.specs.declared.option_set.OptionSet.{OptionSet}
 
 -- the command has this option, and it may follow these settings
@@ -27,18 +27,22 @@ IsWrong set settings words (BadValue key value) =
     (after : List (List ℕ)) × (words ≡ key_word key ∷ value.now ∷ after) × IsFree set settings key × (takes_word key ≡ true)
     × (IsValue key value.now → ⊥)
 IsWrong set settings words (Alone key other) = ⊥
+IsWrong set settings words (Unfit form) = ⊥
 
 -- the option is among these settings, and the one that it needs is not
 abbrev pub Lacks : List Setting → Key → Key → Type 0
 Lacks settings key other = (needed key ≡ Some other) × (is_given settings key ≡ true) × (is_given settings other ≡ false)
 
 -- there is no server file; or the words after its name are those of proper settings, followed by words with this fault; or
--- they are those of proper settings, and an option lacks another
+-- they are those of proper settings, and an option lacks another, or another server excludes the form
 abbrev pub IsRefused : OptionSet → List (List ℕ) → OptionFault → Type 0
 IsRefused set arguments NoServer = arguments ≡ []
 IsRefused set arguments (Alone key other) =
     (config : List ℕ) × (settings : List Setting)
     × (arguments ≡ config ∷ words_of settings) × AreProper set settings × Lacks settings key other
+IsRefused set arguments (Unfit form) =
+    (config : List ℕ) × (settings : List Setting)
+    × (arguments ≡ config ∷ words_of settings) × AreProper set settings × HasUnfit settings form
 IsRefused set arguments fault =
     (config : List ℕ) × (settings : List Setting) × (rest : List (List ℕ))
     × (arguments ≡ config ∷ (words_of settings ++ rest)) × AreProper set settings × IsWrong set settings rest fault

@@ -1,12 +1,12 @@
 -- Which options the arguments of a command may have.
-use Rattle.std.specs.Prelude.{◌≡◌, ℕ, ◌≤◌, true, List, [], length, All, Some, None}
+use Rattle.std.specs.Prelude.{◌≡◌, ℕ, ◌≤◌, true, List, [], ◌∷◌, length, All, Some, None}
 use Rattle.sv_audit_command.specs.Kinds.{AreKinds}
 use Rattle.sv_audit_command.specs.declared.access_options.Format as report
 use Rattle.sv_arguments.specs.Settings.{Setting, Keyed, given_rival, is_given, needed, set_of, values}
 use Rattle.sv_arguments.specs.Values.{IsAddress, IsCount}
-use Rattle.sv_arguments.specs.AuditWords.{IsFormat}
+use Rattle.sv_arguments.specs.AuditWords.{IsFormat, IsUnfit}
 use Rattle.sv_arguments.specs.declared.key.Key.{Key}
-use Rattle.sv_arguments.specs.declared.key.Key.TheVariants.{Listen, SameSeed, Connections, IdleSeconds, HeldMebibytes, Secure, Format, FailOn, UnknownFiles}
+use Rattle.sv_arguments.specs.declared.key.Key.TheVariants.{Listen, SameSeed, Connections, IdleSeconds, HeldMebibytes, Secure, Format, FailOn, UnknownFiles, Diff}
 use Rattle.sv_arguments.specs.declared.option_set.OptionSet.{OptionSet}
 use Rattle.std.specs.declared.net.socket_addr.SocketAddr.{SocketAddr}
 
@@ -34,7 +34,14 @@ AreProper set settings =
     × ((key : Key) → length (values key settings) ≤ 1)
     × ((key : Key) → is_given settings key ≡ true → given_rival settings key ≡ None)
 
--- proper options, each with the option that it needs
+-- another server is among these settings, and this form, which a report on differences does not have
+abbrev pub HasUnfit : List Setting → report.Format → Type 0
+HasUnfit settings form =
+    (word : List ℕ) × (values Format settings ≡ word ∷ []) × IsUnfit word form × (is_given settings Diff ≡ true)
+
+-- proper options, each with the option that it needs, and no form that another server excludes
 abbrev pub AreComplete : OptionSet → List Setting → Type 0
 AreComplete set settings =
-    AreProper set settings × ((key other : Key) → needed key ≡ Some other → is_given settings key ≡ true → is_given settings other ≡ true)
+    AreProper set settings
+    × ((key other : Key) → needed key ≡ Some other → is_given settings key ≡ true → is_given settings other ≡ true)
+    × ((form : report.Format) → HasUnfit settings form → ⊥)

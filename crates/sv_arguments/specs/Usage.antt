@@ -1,5 +1,6 @@
 -- The second line about arguments that name no command.
 use Rattle.std.specs.Prelude.{◌≡◌, ℕ, List, [], ◌∷◌, ◌++◌, codes, Option, Some, None}
+use Rattle.sv_arguments.specs.AuditWords.{format_name}
 use Rattle.sv_arguments.specs.HelpUsage.{IsHelpLine}
 use Rattle.sv_arguments.specs.Near.{near}
 use Rattle.sv_arguments.specs.OptionFault.{IsRefused}
@@ -10,7 +11,7 @@ use Rattle.sv_arguments.specs.UnknownNames.{hint, unknown_command}
 use Rattle.sv_arguments.specs.Values.{Finds}
 use Rattle.sv_arguments.specs.declared.key.Key.{Key}
 use Rattle.sv_arguments.specs.declared.option_fault.OptionFault.{OptionFault}
-use Rattle.sv_arguments.specs.declared.option_fault.OptionFault.TheVariants.{NoServer, Unknown, Twice, Excluded, NoValue, BadValue, Alone}
+use Rattle.sv_arguments.specs.declared.option_fault.OptionFault.TheVariants.{NoServer, Unknown, Twice, Excluded, NoValue, BadValue, Alone, Unfit}
 use Rattle.sv_arguments.specs.declared.option_set.OptionSet.{OptionSet}
 use Rattle.sv_arguments.specs.declared.option_set.OptionSet.TheVariants as set
 use Rattle.sv_arguments.specs.declared.topic.Topic.{Topic}
@@ -46,6 +47,7 @@ option_fault_line its (Excluded key other) = codes "  " ++ key_word key ++ codes
 option_fault_line its (NoValue key) = needs_line key
 option_fault_line its (BadValue key value) = needs_line key ++ codes ", not " ++ quoted value.now
 option_fault_line its (Alone key other) = codes "  " ++ key_word key ++ codes " needs " ++ key_word other
+option_fault_line its (Unfit form) = codes "  --format " ++ format_name form ++ codes " cannot be given with --diff"
 
 abbrev pub IsOptionLine : OptionSet → List (List ℕ) → List ℕ → Type 0
 IsOptionLine its arguments line = (fault : OptionFault) × IsRefused its arguments fault × (line ≡ option_fault_line its fault)

@@ -1,8 +1,8 @@
 //! The arguments of the command `audit`.
 
-ghost use Rattle.std.specs.Prelude.{IfErr, IfOk, List, map, string_bytes};
+ghost use Rattle.std.specs.Prelude.{◌≡◌, IfErr, IfOk, List, map, string_bytes};
 ghost use Rattle.sv_arguments.specs.AuditOptions as spec;
-ghost use Rattle.sv_arguments.specs.AuditWords.{IsFormat};
+ghost use Rattle.sv_arguments.specs.AuditWords.{IsFormat, IsUnfit, format_name};
 ghost use Rattle.sv_arguments.specs.Given.{AreOf};
 ghost use Rattle.sv_arguments.specs.Laws.{AuditsOne};
 ghost use Rattle.sv_arguments.specs.OptionFault.{IsRefused};
@@ -29,10 +29,11 @@ impl<'a> AuditOptions<'a> {
     /// options are `--secure`, `--format FORMAT` (`text`, `json`, `html` or `keys`; `text` without it), `--as USER` or
     /// `--role ROLE`, but not both, `--fail-on KINDS`, `--accept FILE`, `--lines FILE`, `--unknown-files`,
     /// `--path TARGET`, `--method METHOD`, which needs `--path`, and `--diff OTHER`. `--path` excludes `--format`,
-    /// `--fail-on` and `--accept`, and `--diff` excludes all but `--secure`, `--format` and `--fail-on`.
+    /// `--fail-on` and `--accept`, and `--diff` excludes all but `--secure`, `--format` and `--fail-on`, and the forms
+    /// `html` and `keys`.
     ///
     /// # Errors
-    /// The first fault, from the left, or else an option without the one that it needs.
+    /// The first fault, from the left, or else an option without the one that it needs, or a form that `--diff` excludes.
     pub fn parse(arguments: &'a [String]) -> Result<AuditOptions<'a>, OptionFault<'a>>
         ensures it { IfOk result (spec.IsAudit (map string_bytes arguments.now)) }
         ensures fault { IfErr result (IsRefused OptionSet.Audit (map string_bytes arguments.now)) }
@@ -89,6 +90,29 @@ pub(crate) fn format_named(name: &str) -> Option<Format>
         "html" => Some(Format::Html),
         "keys" => Some(Format::Keys),
         _ => None,
+    }
+}
+
+/// Returns the form of this name, if a report on differences does not have it.
+pub(crate) fn unfit_named(name: &str) -> Option<Format>
+    ensures { Finds (IsUnfit name.now) result }
+{
+    match name {
+        "html" => Some(Format::Html),
+        "keys" => Some(Format::Keys),
+        _ => None,
+    }
+}
+
+/// Returns the name of the form.
+pub(crate) fn format_word(form: Format) -> &'static str
+    ensures { result.now ≡ format_name form }
+{
+    match form {
+        Format::Text => "text",
+        Format::Json => "json",
+        Format::Html => "html",
+        Format::Keys => "keys",
     }
 }
 

@@ -3,18 +3,21 @@
 ghost use Rattle.std.specs.Prelude.{◌≡◌, ◌∷◌, ◌++◌, ◌≤◌, ◌&&◌, ℕ, List, All, IfErr, IfOk, IfSome, length, map, not, string_bytes};
 ghost use Rattle.sv_arguments.specs.Given.{AreAllOf, AreOf, IsFirst, IsNext, IsSplit};
 ghost use Rattle.sv_arguments.specs.OptionFault.{IsRefused, IsWrong};
-ghost use Rattle.sv_arguments.specs.Options.{AreProper, IsProper, IsValue};
+ghost use Rattle.sv_arguments.specs.Options.{AreProper, HasUnfit, IsProper, IsValue};
 ghost use Rattle.sv_arguments.specs.Settings.{Keyed, Setting, given_rival, is_given, setting_words, values, words_of};
-ghost use Rattle.sv_arguments.specs.Values.{IsAddress, IsCount, IsGiven, IsName, Says};
+ghost use Rattle.sv_arguments.specs.Values.{Finds, IsAddress, IsCount, IsGiven, IsName, Says};
 
+use crate::audit_options::unfit_named;
 use crate::count::{address_in, count_in};
 use crate::key::Key;
 use crate::option_fault::OptionFault;
 use crate::option_set::OptionSet;
 use std::net::SocketAddr;
+use sv_audit_command::Format;
 
 /// The server file of a command, and its options as words: the options of its set in any order, each at most once,
-/// each with a value of it and with the option that it needs, and no two that exclude each other.
+/// each with a value of it and with the option that it needs, no two that exclude each other, and with another server no
+/// form that a report on differences does not have.
 #[derive(Clone, Copy)]
 pub(crate) struct Given<'a> {
     /// The name of the server file.
@@ -27,7 +30,8 @@ impl<'a> Given<'a> {
     /// Parses the arguments: the name of the server file, followed by options.
     ///
     /// # Errors
-    /// The first fault, from the left, or else an option without the one that it needs.
+    /// The first fault, from the left, or else an option without the one that it needs, or a form that another server
+    /// excludes.
     pub(crate) fn parse(
         set: OptionSet,
         arguments: &'a [String],
@@ -47,6 +51,9 @@ impl<'a> Given<'a> {
         }
         if lacks_target(set, words) {
             return Err(OptionFault::Alone(Key::Method, Key::Path));
+        }
+        if let Some(form) = unfit_form(set, words) {
+            return Err(OptionFault::Unfit(form));
         }
         Ok(Given {
             config: config.as_str(),
@@ -150,6 +157,17 @@ fn lacks_target(set: OptionSet, words: &[String]) -> bool
         → result ≡ is_given settings Key.Method && not (is_given settings Key.Path) }
 {
     is_among(set, words, Key::Method) && !is_among(set, words, Key::Path)
+}
+
+/// Returns the form among these words, if a report on differences does not have it, and another server is among them.
+fn unfit_form(set: OptionSet, words: &[String]) -> Option<Format>
+    ensures { (settings : List Setting) → AreOf set (map string_bytes words.now) settings → Finds (HasUnfit settings) result }
+{
+    if !is_among(set, words, Key::Diff) {
+        return None;
+    }
+    let name = value_in(set, words, Key::Format)?;
+    unfit_named(name)
 }
 
 /// Returns whether an option is among these words.

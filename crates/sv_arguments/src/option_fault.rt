@@ -1,8 +1,10 @@
 //! What is wrong with the arguments of a command that has options.
 
 use crate::key::Key;
+use sv_audit_command::Format;
 
-/// The fault of the arguments of a command: the first from the left, or else an option that lacks another.
+/// The fault of the arguments of a command: the first from the left, or else an option that lacks another, or a form
+/// that another server excludes.
 #[derive(Clone, Copy)]
 pub enum OptionFault<'a> {
     /// There is no server file.
@@ -20,4 +22,6 @@ pub enum OptionFault<'a> {
     BadValue(Key, &'a str),
     /// The first option is given, and the second, which it needs, is not.
     Alone(Key, Key),
+    /// Another server is given, and this form, which a report on differences does not have.
+    Unfit(Format),
 }

@@ -5,6 +5,7 @@ ghost use Rattle.sv_arguments.specs.Command.{NameNothing};
 ghost use Rattle.sv_arguments.specs.Laws.{AreAllKeys, AreOwnKeys, HaveOneLine, ManualHasCommands, ManualHasOptions, ManualHasUsages, TakeTheirWords, TakesManuals};
 ghost use Rattle.sv_arguments.specs.Near.{near};
 ghost use Rattle.sv_arguments.specs.AuditOptions.{IsAudit};
+ghost use Rattle.sv_arguments.specs.AuditWords.{format_name};
 ghost use Rattle.sv_arguments.specs.RunOptions.{IsAsked};
 ghost use Rattle.sv_arguments.specs.Settings.{key_word, option_words};
 ghost use Rattle.sv_arguments.specs.Usage as spec;
@@ -13,7 +14,7 @@ ghost use Rattle.sv_arguments.specs.declared.run_options.RunOptions.{RunOptions}
 ghost use Rattle.sv_program.specs.Shown as shown;
 ghost use Rattle.sv_text.specs.Gives.{GivesAnswer};
 
-use crate::audit_options::AuditOptions;
+use crate::audit_options::{AuditOptions, format_word};
 use crate::help_usage::help_detail;
 use crate::key::Key;
 use crate::near::nearest;
@@ -24,6 +25,7 @@ use crate::run_options::RunOptions;
 use crate::topic::Topic;
 use crate::unknown_names::{hint, unknown_command};
 use std::alloc::Global;
+use sv_audit_command::Format;
 use sv_program::quoted;
 use sv_text::{NoMemory, Text};
 
@@ -143,6 +145,7 @@ fn option_fault_line(
         OptionFault::NoValue(key) => needs_line(alloc, key),
         OptionFault::BadValue(key, value) => bad_value_line(alloc, key, value),
         OptionFault::Alone(key, other) => alone_line(alloc, key, other),
+        OptionFault::Unfit(form) => unfit_line(alloc, form),
     }
 }
 
@@ -180,6 +183,13 @@ fn alone_line(alloc: Global, key: Key, other: Key) -> Result<Text, NoMemory>
 {
     let (word, needed) = (key.word(), other.word());
     Ok(Text::from_string(format!(in alloc; "  {word} needs {needed}")?))
+}
+
+fn unfit_line(alloc: Global, form: Format) -> Result<Text, NoMemory>
+    ensures { GivesAnswer result (codes "  --format " ++ format_name form ++ codes " cannot be given with --diff") }
+{
+    let name = format_word(form);
+    Ok(Text::from_string(format!(in alloc; "  --format {name} cannot be given with --diff")?))
 }
 
 /// Arguments that name no command have only one second line.
