@@ -37,7 +37,7 @@ pub(crate) fn region_of(
     text: &[u8],
     steps: &[ValueStep],
 ) -> Result<Option<Region>, NoMemory>
-    ensures region { IfOk result (λ region. spec.IsRegion text.now steps.now region) }
+    ensures region { IfOk result (spec.IsRegion text.now steps.now) }
     ensures within { IfOk result (λ region. spec.EndsWithin text.now region) }
 {
     if text.len() > MAX_SEARCHED_BYTES {
@@ -114,7 +114,7 @@ impl Fronts<'_> {
     /// Returns the lines on which the value begins.
     fn region(&self, alloc: Global) -> Result<Option<Region>, NoMemory>
         requires { self.now.ends.now ≡ spec.line_ends self.now.text.now }
-        ensures region { IfOk result (λ region. length self.now.text.now ≤ MAX_LOCATED_BYTES → spec.IsRegion self.now.text.now self.now.steps.now region) }
+        ensures region { IfOk result (spec.IsRegion self.now.text.now self.now.steps.now) }
         ensures within { IfOk result (λ region. spec.EndsWithin self.now.text.now region) }
     {
         let last = self.ends.len() - 1;

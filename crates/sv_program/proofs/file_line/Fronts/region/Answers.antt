@@ -3,7 +3,7 @@ use Rattle.sv_program.proofs.FileLines.{found_within, line_ends_within, same_reg
 use Rattle.sv_program.proofs.file_line.Fronts.region.Goals as goal
 
 pub returns-clause-region : goal.returns-clause-region
-returns-clause-region c = λ short. (
+returns-clause-region c = (
   c.in_ok-bounds.bounds.low,
   c.in_ok-bounds.bounds.high,
   (
