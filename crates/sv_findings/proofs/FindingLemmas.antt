@@ -44,12 +44,14 @@ use Rattle.sv_findings.proofs.OpenedLemmas.{AreOpen, AreOpenFor, are_open, fresh
 use Rattle.sv_audit.proofs.Shapes.{IsShaped, nothing_matches, served_shaped}
 use Rattle.sv_findings.specs.Dead.{is_tried_late, dead_among, dead_patterns, dead_patterns_in, decides_nothing, escaped, escaped_in, is_beaten, is_dead, is_escaped}
 use Rattle.sv_audit.specs.Shapes.{matches_nothing}
-use Rattle.sv_findings.specs.FindingLaws.{BestDecides, FindingsAreRight, IsMeant, IsNeverBest, IsOpen, IsRestricted, IsRight, IsShut, configuration_of, names_in}
+use Rattle.sv_findings.specs.FindingLaws.{BestDecides, ChangesNothing, FindingsAreRight, IsMeant, IsNeverBest, IsOpen, IsRestricted, IsRight, IsShut, configuration_of, names_in}
 use Rattle.sv_audit.specs.Shapes.{IsServed}
 use Rattle.sv_findings.specs.Opened.{opened_at, opened_for, opened_methods, opened_pair}
 use Rattle.sv_findings.specs.RoleFindings.{is_role, is_unheld, is_unknown, is_unused, named_roles, role_findings, unheld_roles, unknown_among, unknown_roles, unused_roles}
 use Rattle.sv_audit.specs.Callers.{has_method, is_open, same_callers}
 use Rattle.sv_findings.specs.Findings.{findings_of, met_rows, pattern_findings, row_findings}
+use Rattle.sv_findings.proofs.OverruledLemmas.{changes_nothing, not_at}
+use Rattle.sv_findings.specs.Overruled.{is_overruled, overruled, overruled_in}
 use Rattle.sv_findings.specs.Uncovered.{is_left_open, is_left_out, uncovered_at}
 use Rattle.sv_findings.specs.MetRows.{is_row_met}
 use Rattle.sv_findings.specs.Reach.{is_reached}
@@ -273,6 +275,21 @@ module _ (shapes : CanonicalHasShape) (constraints : List Constraint) where
     dead_patterns_right =
         joined Right (dead_patterns_in has_prefix) constraints
         (λ k d within. patterns_right (slice_index_or constraints k d) (All-contains_itself constraints k d within) (is_dead has_prefix (slice_index_or constraints k d)))
+
+    overruled_at : (c : Constraint) → is_overruled rules constraints has_prefix c ≡ true → (path pattern : List ℕ) (nothing : Bool) → decides_nothing has_prefix pattern ≡ nothing → IsServed path
+        → best_pattern patterns path ≡ Some pattern → lists (patterns_in c) pattern ≡ true → ChangesNothing constraints rules c pattern
+    overruled_at c over path pattern true is served best listed = absurd (never_best pattern is path served best)
+    overruled_at c over path pattern false is served best listed = changes_nothing constraints rules c pattern (not_at constraints rules has_prefix c over pattern listed is)
+
+    overruled_from : (c : Constraint) → Contains constraints c → (over : Bool) → is_overruled rules constraints has_prefix c ≡ over → All Right (cond over (finding.Overruled c.number ∷ []) [])
+    overruled_from c there true is =
+        All-cons Right (finding.Overruled c.number) [] (c, there, refl, λ path pattern served best listed. overruled_at c is path pattern (decides_nothing has_prefix pattern) refl served best listed) (All-nil Right)
+    overruled_from c there false is = All-nil Right
+
+    overruled_right : All Right (overruled rules constraints)
+    overruled_right =
+        joined Right (overruled_in rules constraints has_prefix) constraints
+        (λ k d within. overruled_from (slice_index_or constraints k d) (All-contains_itself constraints k d within) (is_overruled rules constraints has_prefix (slice_index_or constraints k d)) refl)
 
     escaped_at : (c : Constraint) → Contains constraints c → All Right (escaped_in c)
     escaped_at c there =
@@ -658,18 +675,23 @@ module _ (constraints : List Constraint) (rules : Rules) (surroundings : Surroun
   abbrev pub partly_dead : List Finding
   partly_dead = dead_patterns (lists (all_patterns constraints) (codes "/*")) constraints
 
+  abbrev pub changing_nothing : List Finding
+  changing_nothing = overruled rules constraints
+
   abbrev pub not_reached : List Finding
   not_reached = unreached surroundings.contexts surroundings.path constraints
 
   abbrev pub not_served : List Finding
   not_served = unserved surroundings.contexts surroundings.path surroundings constraints
 
-  by_pattern_right : CanonicalHasShape → All The (pattern_findings constraints surroundings.contexts surroundings.path surroundings)
+  by_pattern_right : CanonicalHasShape → All The (pattern_findings constraints rules surroundings.contexts surroundings.path surroundings)
   by_pattern_right shapes =
-      All-append The (dead ++ partly_dead ++ not_reached ++ not_served) (escaped constraints)
-      (All-append The (dead ++ partly_dead ++ not_reached) not_served
-      (All-append The (dead ++ partly_dead) not_reached
+      All-append The (dead ++ partly_dead ++ changing_nothing ++ not_reached ++ not_served) (escaped constraints)
+      (All-append The (dead ++ partly_dead ++ changing_nothing ++ not_reached) not_served
+      (All-append The (dead ++ partly_dead ++ changing_nothing) not_reached
+      (All-append The (dead ++ partly_dead) changing_nothing
       (All-append The dead partly_dead (dead_right shapes constraints rules surroundings) (dead_patterns_right shapes constraints rules surroundings))
+      (overruled_right shapes constraints rules surroundings))
       (unreached_right constraints rules surroundings))
       (unserved_right constraints rules surroundings surroundings.files refl))
       (escaped_right shapes constraints rules surroundings)
@@ -684,7 +706,7 @@ module _ (constraints : List Constraint) (rules : Rules) (surroundings : Surroun
   by_page = login_needs surroundings.contexts surroundings.path constraints rules surroundings.login_page
 
   abbrev by_pattern : List Finding
-  by_pattern = pattern_findings constraints surroundings.contexts surroundings.path surroundings
+  by_pattern = pattern_findings constraints rules surroundings.contexts surroundings.path surroundings
 
   all_right : CanonicalHasShape → All The (findings_of constraints rules (table_of constraints rules) surroundings)
   all_right shapes =

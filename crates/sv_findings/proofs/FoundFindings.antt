@@ -21,14 +21,14 @@ use Rattle.sv_policy.specs.Uncovered.{is_uncovered as is_uncovered_at}
 use Rattle.sv_audit.proofs.Alikes.{differ_at, opened as opened_to}
 use Rattle.sv_audit.proofs.Said.{said}
 use Rattle.sv_audit.proofs.Equal.{and_left, and_right, both}
-use Rattle.sv_findings.proofs.FindingLemmas.{dead, fate_at, heads, in_row, late, not_reached, not_served, opened, partly_dead, readings, the_rows, uncovered}
+use Rattle.sv_findings.proofs.FindingLemmas.{changing_nothing, dead, fate_at, heads, in_row, late, not_reached, not_served, opened, partly_dead, readings, the_rows, uncovered}
 use Rattle.sv_audit.proofs.Witness.{found}
 use Rattle.sv_audit.proofs.Found.{in_texts, ordered_lists}
 use Rattle.sv_audit.proofs.RowCells.{row_cell}
 use Rattle.sv_audit.specs.Access.{cell_at}
 use Rattle.sv_findings.proofs.OpenedLemmas.{contained, kept_any, method_found, opened_exact, some_pair}
 use Rattle.sv_findings.specs.Dead.{dead_patterns_in, decides_nothing, escaped, is_dead}
-use Rattle.sv_findings.specs.FindingLaws.{DeadIsFound, FaresDifferently, HeadIsFound, IsMet, IsShut, OpenedIsFound, ReadingIsFound, UncoveredIsFound, UnreachedIsFound, configuration_of, says_dead, says_head, says_opened, says_read, says_uncovered, says_unreached}
+use Rattle.sv_findings.specs.FindingLaws.{AreFew, ChangesNothing, DeadIsFound, FaresDifferently, HeadIsFound, IsMet, IsShut, OpenedIsFound, OverruledIsFound, ReadingIsFound, UncoveredIsFound, UnreachedIsFound, configuration_of, says_dead, says_head, says_opened, says_overruled, says_read, says_uncovered, says_unreached}
 use Rattle.sv_audit.specs.Callers.{has_method, is_open, same_callers}
 use Rattle.sv_audit.specs.Visitors.{decided_by, effective}
 use Rattle.sv_findings.specs.Findings.{findings_of, pattern_findings}
@@ -38,6 +38,8 @@ use Rattle.sv_findings.specs.Uncovered.{is_left_open, is_left_out, uncovered_at}
 use Rattle.sv_findings.specs.Dead.{is_tried_late}
 use Rattle.sv_findings.specs.MetRows.{is_met, is_row_met}
 use Rattle.sv_findings.specs.Readings.{first_restricting, holds_one, is_late, is_prefix, read_as, read_at, restricts_one, restricts_part, share_method}
+use Rattle.sv_findings.proofs.OverruledLemmas.{is_over, matters_not}
+use Rattle.sv_findings.specs.Overruled.{is_overruled, overruled_in}
 use Rattle.sv_findings.specs.Unreached.{is_unreached, unreached_in}
 use Rattle.sv_findings.specs.declared.surroundings.Surroundings.{Surroundings}
 use Rattle.sv_mapping.specs.Pattern.{form}
@@ -159,6 +161,9 @@ module _ (constraints : List Constraint) (rules : Rules) (surroundings : Surroun
   abbrev p : List Finding
   p = partly_dead constraints rules surroundings
 
+  abbrev c : List Finding
+  c = changing_nothing constraints rules surroundings
+
   abbrev n : List Finding
   n = not_reached constraints rules surroundings
 
@@ -166,7 +171,7 @@ module _ (constraints : List Constraint) (rules : Rules) (surroundings : Surroun
   by_row = o ++ u ++ r ++ h
 
   abbrev by_pattern : List Finding
-  by_pattern = pattern_findings constraints surroundings.contexts surroundings.path surroundings
+  by_pattern = pattern_findings constraints rules surroundings.contexts surroundings.path surroundings
 
   abbrev by_page : List Finding
   by_page = login_needs surroundings.contexts surroundings.path constraints rules surroundings.login_page
@@ -195,17 +200,20 @@ module _ (constraints : List Constraint) (rules : Rules) (surroundings : Surroun
   abbrev s : List Finding
   s = not_served constraints rules surroundings
 
-  among_first : list_any test (d ++ p ++ n) ≡ true → IsAmong
-  among_first some = among_patterns (any_first test (d ++ p ++ n ++ s) (escaped constraints) (any_first test (d ++ p ++ n) s some))
+  among_first : list_any test (d ++ p ++ c ++ n) ≡ true → IsAmong
+  among_first some = among_patterns (any_first test (d ++ p ++ c ++ n ++ s) (escaped constraints) (any_first test (d ++ p ++ c ++ n) s some))
 
   among_dead : list_any test d ≡ true → IsAmong
-  among_dead some = among_first (any_first test (d ++ p) n (any_first test d p some))
+  among_dead some = among_first (any_first test (d ++ p ++ c) n (any_first test (d ++ p) c (any_first test d p some)))
 
   among_partly_dead : list_any test p ≡ true → IsAmong
-  among_partly_dead some = among_first (any_first test (d ++ p) n (any_last test d p some))
+  among_partly_dead some = among_first (any_first test (d ++ p ++ c) n (any_first test (d ++ p) c (any_last test d p some)))
+
+  among_changing_nothing : list_any test c ≡ true → IsAmong
+  among_changing_nothing some = among_first (any_first test (d ++ p ++ c) n (any_last test (d ++ p) c some))
 
   among_not_reached : list_any test n ≡ true → IsAmong
-  among_not_reached some = among_first (any_last test (d ++ p) n some)
+  among_not_reached some = among_first (any_last test (d ++ p ++ c) n some)
 
 pub uncovered_found : UncoveredIsFound
 uncovered_found constraints rules surroundings pattern method other reached open_to_all there none some =
@@ -383,6 +391,17 @@ reading_found constraints rules surroundings pattern method other reached its_re
     among_readings constraints rules surroundings (says_read pattern method)
     (in_table constraints rules pattern surroundings (says_read pattern method) (read_at (late constraints rules surroundings)) there reached
     (reading_reported constraints rules surroundings pattern method other its_reached listed tried shut prefixed open_to_all none))
+
+-- ---- Overruled constraints.
+pub overruled_found : OverruledIsFound
+overruled_found constraints rules surroundings c there alive each =
+    let has_prefix : Bool = lists (all_patterns constraints) (codes "/*") in
+    let over : is_overruled rules constraints has_prefix c ≡ true =
+    is_over constraints rules has_prefix c alive (λ pattern listed some. let it : AreFew constraints pattern × ChangesNothing constraints rules c pattern = each pattern listed some in matters_not constraints rules c pattern it.0 it.1) in
+    among_changing_nothing constraints rules surroundings (says_overruled c.number)
+    (any_of_joined (says_overruled c.number) (overruled_in rules constraints has_prefix) constraints
+    ∙ contained (λ (x : Constraint). list_any (says_overruled c.number) (overruled_in rules constraints has_prefix x)) constraints c there
+    (ap (λ b. list_any (says_overruled c.number) (cond b (finding.Overruled c.number ∷ []) [])) over ∙ ap (λ b. b || false) (same_number c.number)))
 
 -- ---- Unreached patterns.
 pub unreached_found : UnreachedIsFound

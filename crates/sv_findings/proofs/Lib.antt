@@ -2,6 +2,9 @@ pub mod ReachLemmas
 pub mod OpenedLemmas
 pub mod OpenedSteps
 pub mod MeetingForms
+pub mod OverruledSteps
+pub mod OverruledLemmas
 pub mod FindingLemmas
 pub mod FoundFindings
+pub mod RemovedLemmas
 pub mod Joined

@@ -1,5 +1,5 @@
 -- What findings say of the verdicts (Jakarta Servlet 6.0, sections 3.5.2, 12.1, 13.6 and 13.8).
-use Rattle.std.specs.Prelude.{◌≡◌, ◌≢◌, ℕ, Bool, true, false, ◌&&◌, ◌||◌, ◌==◌, List, [], length, codes, Option, None, Some, All, Contains, IsTrue}
+use Rattle.std.specs.Prelude.{◌≡◌, ◌≢◌, ◌≤◌, ℕ, Bool, true, false, ◌&&◌, ◌||◌, ◌==◌, List, [], length, codes, filter, Option, None, Some, All, Contains, IsTrue}
 use Rattle.std.specs.List.{list_any}
 use Rattle.std.specs.Str.{bytes_eq}
 use Rattle.sv_mapping.specs.BestMatch.{best_pattern}
@@ -12,11 +12,16 @@ use Rattle.sv_constraints.specs.declared.constraint.Auth.{Auth}
 use Rattle.sv_constraints.specs.declared.constraint.Auth.TheVariants as auth
 use Rattle.sv_constraints.specs.declared.constraint.Constraint.{Constraint}
 use Rattle.sv_constraints.specs.declared.constraint.Rules.{Rules}
-use Rattle.sv_policy.specs.Uncovered.{is_uncovered}
+use Rattle.sv_constraints.specs.declared.owned_decision.OwnedDecision.{OwnedDecision}
+use Rattle.sv_policy.specs.Covering.{named_methods}
+use Rattle.sv_policy.specs.Patterns.{lists_pattern}
+use Rattle.sv_policy.specs.Uncovered.{is_uncovered, rising}
 use Rattle.sv_audit.specs.Access.{roles_meant}
 use Rattle.sv_audit.specs.DifferenceLaws.{Configuration, fate_of}
 use Rattle.sv_audit.specs.Shapes.{IsServed}
-use Rattle.sv_findings.specs.Dead.{decides_nothing, is_escaped, is_tried_late}
+use Rattle.sv_findings.specs.Dead.{decides_nothing, is_dead, is_escaped, is_tried_late}
+use Rattle.sv_findings.specs.Overruled.{others}
+use Rattle.sv_findings.specs.declared.overruled.TheConstants.{MAX_COMPARED_AT_PATTERN}
 use Rattle.sv_findings.specs.Findings.{findings_of}
 use Rattle.sv_findings.specs.Reach.{is_reached}
 use Rattle.sv_findings.specs.MetRows.{is_met}
@@ -24,11 +29,12 @@ use Rattle.sv_findings.specs.Readings.{is_prefix}
 use Rattle.sv_findings.specs.Unserved.{holds}
 use Rattle.sv_findings.specs.LoginNeeds.{needed_at, parts, references_after, target_of}
 use Rattle.sv_findings.specs.declared.surroundings.LoginPage.{LoginPage}
-use Rattle.sv_audit.specs.Reading.{Passes, kind_and_cause, said_to}
+use Rattle.sv_audit.specs.Reading.{Kind, Passes, kind_and_cause, said_to}
 use Rattle.sv_audit.specs.Rows.{table_of}
+use Rattle.sv_audit.specs.Secure.{secure}
 use Rattle.sv_audit.specs.declared.access.Access.{Access}
 use Rattle.sv_findings.specs.declared.finding.Finding.{Finding}
-use Rattle.sv_findings.specs.declared.finding.Finding.TheVariants.{Opened, Uncovered, ReadOtherwise, HeadDiffers, Dead, DeadPattern, Unreached, Unserved, Escaped, LoginNeeds, UnknownRole, UnheldRole, UnusedRole}
+use Rattle.sv_findings.specs.declared.finding.Finding.TheVariants.{Opened, Uncovered, ReadOtherwise, HeadDiffers, Dead, DeadPattern, Overruled, Unreached, Unserved, Escaped, LoginNeeds, UnknownRole, UnheldRole, UnusedRole}
 use Rattle.sv_findings.specs.declared.surroundings.Surroundings.{Surroundings}
 
 -- The names that an authorization constraint lists.
@@ -88,12 +94,34 @@ configuration_of its_constraints its_rules surroundings = record { constraints =
 abbrev pub FaresDifferently : Configuration → List ℕ → Option Caller → Type 0
 FaresDifferently it path visitor = fate_of it (codes "GET") path visitor ≢ fate_of it (codes "HEAD") path visitor
 
+-- The kind of the verdict by the constraints that cover a request at its best pattern.
+abbrev pub kind_by : Rules → Option Caller → List ℕ → List Constraint → Kind
+kind_by rules caller pattern members = (kind_and_cause (verdict_at rules caller (Some pattern) members)).0
+
+-- The constraints that cover a request decide it as those of them with other numbers do, with and without their transport
+-- requirements.
+abbrev pub AreAlike : Rules → ℕ → List ℕ → List Constraint → Type 0
+AreAlike rules number pattern members =
+    (caller : Option Caller) → (kind_by rules caller pattern members ≡ kind_by rules caller pattern (others number members))
+    × (kind_by rules caller pattern (secure members) ≡ kind_by rules caller pattern (secure (others number members)))
+
+-- Other constraints list the pattern, they cover the same methods there as all do, and they decide requests alike.
+abbrev pub ChangesNothing : List Constraint → Rules → Constraint → List ℕ → Type 0
+ChangesNothing constraints rules constraint pattern = IsTrue (lists (all_patterns (others constraint.number constraints)) pattern)
+    × ((method : List ℕ) → (is_uncovered (others constraint.number constraints) pattern method ≡ is_uncovered constraints pattern method)
+    × AreAlike rules constraint.number pattern (covering constraints (Some pattern) method))
+
+-- Few constraints list the pattern, and they name few methods there.
+abbrev pub AreFew : List Constraint → List ℕ → Type 0
+AreFew constraints pattern = (length (filter (λ constraint. lists_pattern constraint pattern) constraints) ≤ MAX_COMPARED_AT_PATTERN) × (length (rising (named_methods constraints pattern)) ≤ MAX_COMPARED_AT_PATTERN)
+
 -- Everyone passes with each of the methods, which a constraint with an authorization constraint covers, too, and both
 -- constraints cover one of them; each method of the finding passes at each path of the pattern, since it is uncovered;
 -- each method is uncovered at a prefix pattern, but some constraint covers one of them at a pattern that is tried later,
 -- and a request without a caller does not pass with it if that pattern decides; the accesses are those of GET and HEAD,
--- and some visitor fares differently with them at each path of the pattern; the constraint covers nothing; the constraint has the pattern, which is never best; the constraint has the pattern, which
--- is not reached; the constraint has the pattern, the files are known, and at no path that it matches is there a servlet,
+-- and some visitor fares differently with them at each path of the pattern; the constraint covers nothing; the constraint has the pattern, which is never best; the
+-- constraint changes nothing at each of its patterns that is the best match of the path of a request; the constraint has
+-- the pattern, which is not reached; the constraint has the pattern, the files are known, and at no path that it matches is there a servlet,
 -- a file or a folder that holds one; the constraint has the pattern, with a percent sign; the login page refers to the
 -- path, and a request without a caller does not pass there; the constraint names the role, which is not declared; a
 -- constraint means the role, which is declared if any is, and no user has it; the role is declared, and no constraint
@@ -111,6 +139,8 @@ IsRight constraints rules surroundings (HeadDiffers pattern get head) = IsAccess
 IsRight constraints rules surroundings (Dead its_number) = (constraint : Constraint) × Contains constraints constraint × (constraint.number ≡ its_number) × CoversNothing constraints constraint
 IsRight constraints rules surroundings (DeadPattern its_number pattern) = (constraint : Constraint) × Contains constraints constraint × (constraint.number ≡ its_number)
     × IsTrue (lists (patterns_in constraint) pattern) × IsNeverBest constraints pattern
+IsRight constraints rules surroundings (Overruled its_number) = (constraint : Constraint) × Contains constraints constraint × (constraint.number ≡ its_number)
+    × ((path pattern : List ℕ) → IsServed path → best_pattern (all_patterns constraints) path ≡ Some pattern → IsTrue (lists (patterns_in constraint) pattern) → ChangesNothing constraints rules constraint pattern)
 IsRight constraints rules surroundings (Unreached its_number pattern) = (constraint : Constraint) × Contains constraints constraint × (constraint.number ≡ its_number)
     × IsTrue (lists (patterns_in constraint) pattern) × (is_reached surroundings.contexts surroundings.path pattern ≡ false)
 IsRight constraints rules surroundings (Unserved its_number pattern) = (constraint : Constraint) × Contains constraints constraint × (constraint.number ≡ its_number)
@@ -164,6 +194,35 @@ abbrev pub DeadIsFound : Type 0
 DeadIsFound = (constraints : List Constraint) (rules : Rules) (surroundings : Surroundings) (constraint : Constraint) (pattern : List ℕ) → Contains constraints constraint →
     IsTrue (lists (patterns_in constraint) pattern) → IsTrue (decides_nothing (lists (all_patterns constraints) (codes "/*")) pattern) →
     IsTrue (list_any (says_dead constraint.number pattern) (findings_of constraints rules (table_of constraints rules) surroundings))
+
+-- Whether the finding says that the constraint with this number changes nothing.
+abbrev pub says_overruled : ℕ → Finding → Bool
+says_overruled number (Overruled its_number) = its_number == number
+says_overruled number other = false
+
+-- Each constraint is found that has a pattern that may decide, and that changes nothing at all such patterns, if few
+-- constraints list them and name few methods there.
+abbrev pub OverruledIsFound : Type 0
+OverruledIsFound = (constraints : List Constraint) (rules : Rules) (surroundings : Surroundings) (constraint : Constraint) → Contains constraints constraint →
+    is_dead (lists (all_patterns constraints) (codes "/*")) constraint ≡ false →
+    ((pattern : List ℕ) → IsTrue (lists (patterns_in constraint) pattern) → decides_nothing (lists (all_patterns constraints) (codes "/*")) pattern ≡ false → AreFew constraints pattern × ChangesNothing constraints rules constraint pattern) →
+    IsTrue (list_any (says_overruled constraint.number) (findings_of constraints rules (table_of constraints rules) surroundings))
+
+-- Both decisions let a request pass, need a login, or deny it.
+abbrev pub IsSameKind : OwnedDecision → OwnedDecision → Type 0
+IsSameKind decision other = (kind_and_cause decision).0 ≡ (kind_and_cause other).0
+
+-- Without the constraints with this number each request is decided alike, with and without transport requirements.
+abbrev pub DecideAlikeWithout : List Constraint → Rules → ℕ → Type 0
+DecideAlikeWithout constraints rules number = (method path : List ℕ) (caller : Option Caller) → IsServed path →
+    IsSameKind (verdict constraints rules method path caller) (verdict (others number constraints) rules method path caller)
+    × IsSameKind (verdict (secure constraints) rules method path caller) (verdict (secure (others number constraints)) rules method path caller)
+
+-- Without an overruled constraint each request is decided alike, if no other constraint has its number.
+abbrev pub OverruledIsRemovable : Type 0
+OverruledIsRemovable = (constraints : List Constraint) (rules : Rules) (surroundings : Surroundings) (constraint : Constraint) → Contains constraints constraint →
+    ((other : Constraint) → Contains constraints other → other.number ≡ constraint.number → other ≡ constraint) →
+    IsTrue (list_any (says_overruled constraint.number) (findings_of constraints rules (table_of constraints rules) surroundings)) → DecideAlikeWithout constraints rules constraint.number
 
 -- Whether the finding says that the method is uncovered at the pattern.
 abbrev pub says_uncovered : List ℕ → List ℕ → Finding → Bool

@@ -11,6 +11,7 @@ use Rattle.sv_findings.specs.Heads.{head_at}
 use Rattle.sv_findings.specs.LoginNeeds.{login_needs}
 use Rattle.sv_findings.specs.Opened.{opened_at}
 use Rattle.sv_findings.specs.MetRows.{is_row_met}
+use Rattle.sv_findings.specs.Overruled.{overruled}
 use Rattle.sv_findings.specs.Readings.{read_otherwise}
 use Rattle.sv_findings.specs.RoleFindings.{role_findings}
 use Rattle.sv_findings.specs.Uncovered.{uncovered_at}
@@ -27,11 +28,12 @@ row_findings constraints has_login rows =
     ++ read_otherwise rows
     ++ flat_map (λ row. head_at has_login row.pattern row.groups) rows
 
--- The findings of the patterns of constraints, given the paths of all contexts and that of this one.
-abbrev pub pattern_findings : List Constraint → List (List ℕ) → List ℕ → Surroundings → List Finding
-pattern_findings constraints contexts context surroundings =
+-- The findings of the patterns of constraints and of constraints that change nothing, given the paths of all contexts and that of this one.
+abbrev pub pattern_findings : List Constraint → Rules → List (List ℕ) → List ℕ → Surroundings → List Finding
+pattern_findings constraints rules contexts context surroundings =
     dead_among (lists (all_patterns constraints) (codes "/*")) constraints
     ++ dead_patterns (lists (all_patterns constraints) (codes "/*")) constraints
+    ++ overruled rules constraints
     ++ unreached contexts context constraints
     ++ unserved contexts context surroundings constraints
     ++ escaped constraints
@@ -43,4 +45,4 @@ met_rows constraints surroundings rows = filter (is_row_met surroundings.context
 -- The findings of constraints and their table, given what surrounds them.
 abbrev pub findings_of : List Constraint → Rules → Table → Surroundings → List Finding
 findings_of constraints rules table surroundings =
-    row_findings constraints surroundings.has_login (met_rows constraints surroundings table.rows) ++ pattern_findings constraints surroundings.contexts surroundings.path surroundings ++ login_needs surroundings.contexts surroundings.path constraints rules surroundings.login_page ++ role_findings rules.declared surroundings.held constraints
+    row_findings constraints surroundings.has_login (met_rows constraints surroundings table.rows) ++ pattern_findings constraints rules surroundings.contexts surroundings.path surroundings ++ login_needs surroundings.contexts surroundings.path constraints rules surroundings.login_page ++ role_findings rules.declared surroundings.held constraints

@@ -1,6 +1,7 @@
 pub mod Reach
 pub mod MetRows
 pub mod Dead
+pub mod Overruled
 pub mod Opened
 pub mod Uncovered
 pub mod Readings

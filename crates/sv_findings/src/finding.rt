@@ -27,6 +27,9 @@ pub enum Finding {
     Dead(u64),
     /// The number of a constraint, and one of its patterns that decides no request. Others of its patterns may.
     DeadPattern(u64, Text),
+    /// The number of a constraint without which each request is decided alike, also over a secure connection: at each of
+    /// its patterns, constraints with other numbers decide alike (section 13.8.1).
+    Overruled(u64),
     /// The number of a constraint, and one of its patterns whose paths are all hidden (section 10.5), or all belong to
     /// another context (section 12.1). No request reaches it.
     Unreached(u64, Text),

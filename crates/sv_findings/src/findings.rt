@@ -13,6 +13,7 @@ use crate::heads::push_heads;
 use crate::login_needs::push_login_needs;
 use crate::met_rows::met_rows;
 use crate::opened::push_opened;
+use crate::overruled::push_overruled;
 use crate::reach::Reaches;
 use crate::readings::push_read_otherwise;
 use crate::role_findings::push_by_role;
@@ -56,7 +57,14 @@ pub fn findings_of(
         surroundings.has_login,
         rows.as_slice(),
     )?;
-    push_by_pattern(&mut findings, alloc, constraints, &reaches, surroundings)?;
+    push_by_pattern(
+        &mut findings,
+        alloc,
+        constraints,
+        rules,
+        &reaches,
+        surroundings,
+    )?;
     push_login_needs(
         &mut findings,
         alloc,
@@ -97,12 +105,14 @@ fn push_by_pattern(
     findings: &mut Vec<Finding>,
     alloc: Global,
     constraints: &[Constraint],
+    rules: &Rules,
     reaches: &Reaches<'_>,
     surroundings: &Surroundings,
 ) -> Result<(), NoMemory>
-    ensures { OnOk result (findings.new.items ≡ findings.old.items ++ spec.pattern_findings constraints.now reaches.now.0 reaches.now.1 surroundings.now) }
+    ensures { OnOk result (findings.new.items ≡ findings.old.items ++ spec.pattern_findings constraints.now rules.now reaches.now.0 reaches.now.1 surroundings.now) }
 {
     push_ineffective(findings, alloc, constraints)?;
+    push_overruled(findings, alloc, constraints, rules)?;
     push_unreached(findings, alloc, reaches, constraints)?;
     push_unserved(findings, alloc, reaches, surroundings, constraints)?;
     push_escaped(findings, alloc, constraints)

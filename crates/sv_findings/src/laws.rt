@@ -1,11 +1,12 @@
 //! Theorems about findings, each the contract of a function that only calls other theorems.
 
 ghost use Rattle.std.specs.Prelude.{◌≡◌};
+ghost use Rattle.sv_findings.specs.declared.overruled.TheConstants.{MAX_COMPARED_AT_PATTERN};
 ghost use Rattle.sv_findings.specs.declared.unserved.TheConstants.{MAX_SERVED_PATTERNS};
 ghost use Rattle.sv_findings.specs.Reach.{ElsewhereIsForeign, HiddenIsProtected, ServedIsReached};
-ghost use Rattle.sv_findings.specs.FindingLaws.{BestDecides, DeadIsFound, FindingsAreRight, HeadIsFound, OpenedIsFound, ReadingIsFound, UncoveredIsFound, UnreachedIsFound};
+ghost use Rattle.sv_findings.specs.FindingLaws.{BestDecides, DeadIsFound, FindingsAreRight, HeadIsFound, OpenedIsFound, OverruledIsFound, OverruledIsRemovable, ReadingIsFound, UncoveredIsFound, UnreachedIsFound};
 
-use sv_mapping::laws::best_is_a_match;
+use sv_mapping::laws::{best_exists, best_is_a_match, best_is_unique};
 use sv_uri::laws::canonical_has_shape;
 
 /// Each finding of constraints and their table is right. With each of the opened methods everyone passes, although a
@@ -14,11 +15,12 @@ use sv_uri::laws::canonical_has_shape;
 /// constraint covers one of them at a pattern that is tried later, and a request without a caller does not pass if that
 /// pattern decides. If GET and HEAD differ, their accesses are as reported, and there is a visitor whose fate differs
 /// with them: whether requests pass, lead to a login or are denied. Without a login configuration nobody can log in. A
-/// dead constraint covers no request, a dead pattern is the best match of no canonical path, an unreached one is hidden
-/// or belongs to another context, and at no path that an unserved one matches is there a servlet, a file or a folder
-/// that holds one. The login page refers to what it needs, and a request without a caller does not pass there. An
-/// unknown role is named and not declared, an unheld one is named and no user has it, and an unused one is declared and
-/// not named.
+/// dead constraint covers no request, and a dead pattern is the best match of no canonical path. Without an overruled
+/// constraint each request at one of its patterns is decided alike, over a plain and over a secure connection. An
+/// unreached pattern is hidden or belongs to another context, and at no path that an unserved one matches is there a
+/// servlet, a file or a folder that holds one. The login page refers to what it needs, and a request without a caller
+/// does not pass there. An unknown role is named and not declared, an unheld one is named and no user has it, and an
+/// unused one is declared and not named.
 pub fn findings_are_right()
     ensures { FindingsAreRight }
 {
@@ -29,16 +31,28 @@ pub fn findings_are_right()
 /// Unless uncovered methods are denied, none is missed at such a pattern of the constraints at which another method is
 /// covered, and none at such a prefix pattern that is not open to everyone at a pattern that is tried later. No
 /// difference between GET and HEAD for some visitor at such a pattern is missed, no pattern that decides nothing, and
-/// none that no request reaches.
+/// none that no request reaches. No constraint is missed without which each request at its patterns is decided alike, if
+/// few constraints and methods are at each of them.
 pub fn findings_are_complete()
     ensures opened { OpenedIsFound }
     ensures uncovered { UncoveredIsFound }
     ensures readings { ReadingIsFound }
     ensures heads { HeadIsFound }
     ensures dead { DeadIsFound }
+    ensures overruled { OverruledIsFound }
     ensures unreached { UnreachedIsFound }
 {
     best_is_a_match();
+}
+
+/// Without an overruled constraint, whose number no other one has, each request is decided alike: it passes, needs a
+/// login or is denied, over a plain and over a secure connection.
+pub fn overruled_constraints_change_nothing()
+    ensures { OverruledIsRemovable }
+{
+    canonical_has_shape();
+    best_exists();
+    best_is_unique();
 }
 
 /// The best match of the path of a request decides something, so no finding on requests is lost with the patterns that
@@ -61,4 +75,5 @@ pub fn reach_is_right()
 /// The limits of this crate as numbers.
 pub fn limits_are_as_stated()
     ensures patterns { MAX_SERVED_PATTERNS ≡ 2000 }
+    ensures compared { MAX_COMPARED_AT_PATTERN ≡ 16 }
 {}

@@ -10,6 +10,7 @@ mod laws;
 mod login_needs;
 mod met_rows;
 mod opened;
+mod overruled;
 mod reach;
 mod readings;
 mod role_findings;
@@ -22,9 +23,10 @@ pub use finding::Finding;
 pub use findings::findings_of;
 pub use laws::{
     best_patterns_decide, findings_are_complete, findings_are_right, limits_are_as_stated,
-    reach_is_right,
+    overruled_constraints_change_nothing, reach_is_right,
 };
 pub use met_rows::{is_met, row_reach};
+pub use overruled::MAX_COMPARED_AT_PATTERN;
 pub use reach::{Reach, Reaches, reach_of};
 pub use surroundings::{LoginPage, Surroundings};
 pub use unserved::MAX_SERVED_PATTERNS;

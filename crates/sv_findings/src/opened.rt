@@ -91,7 +91,7 @@ fn push_opened_by(
 }
 
 /// Returns whether one of the constraints has no authorization constraint.
-fn is_any_open(members: &[&Constraint]) -> bool
+pub fn is_any_open(members: &[&Constraint]) -> bool
     ensures { result ≡ list_any (λ member. is_open member.now) members.now }
 {
     members
@@ -199,7 +199,7 @@ fn push_exception(
 }
 
 /// Returns the different methods that constraints name at the pattern, in ascending byte order.
-fn rising_names<'a>(
+pub fn rising_names<'a>(
     alloc: Global,
     members: &[&'a Constraint],
     pattern: &str,

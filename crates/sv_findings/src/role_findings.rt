@@ -197,7 +197,8 @@ fn is_unused(named: &[&str], role: &str) -> bool
     is_role(role) && !is_listed(named, role)
 }
 
-fn is_listed(names: &[&str], name: &str) -> bool
+/// Returns whether the name is among the names.
+pub fn is_listed(names: &[&str], name: &str) -> bool
     ensures { result ≡ covering.lists (map (λ one. one.now) names.now) name.now }
 {
     is_among(names, name)

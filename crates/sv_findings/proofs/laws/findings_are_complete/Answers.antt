@@ -1,4 +1,4 @@
-use Rattle.sv_findings.proofs.FoundFindings.{dead_found, head_found, opened_found, reading_found, uncovered_found, unreached_found}
+use Rattle.sv_findings.proofs.FoundFindings.{dead_found, head_found, opened_found, overruled_found, reading_found, uncovered_found, unreached_found}
 use Rattle.sv_findings.proofs.laws.findings_are_complete.Goals as goal
 
 pub returns-clause-opened : goal.returns-clause-opened
@@ -18,3 +18,6 @@ returns-clause-readings c = reading_found
 
 pub returns-clause-unreached : goal.returns-clause-unreached
 returns-clause-unreached c = unreached_found
+
+pub returns-clause-overruled : goal.returns-clause-overruled
+returns-clause-overruled c = overruled_found
