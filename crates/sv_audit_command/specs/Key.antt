@@ -3,7 +3,7 @@ use Rattle.std.specs.Prelude.{ℕ, Bool, true, false, ◌||◌, List, [], ◌∷
 use Rattle.std.specs.List.{flat_map}
 use Rattle.std.specs.Option.{option_map, option_map_or}
 use Rattle.sv_findings.specs.declared.finding.Finding.{Finding}
-use Rattle.sv_findings.specs.declared.finding.Finding.TheVariants.{Opened, Uncovered, ReadOtherwise, HeadDiffers, Dead, DeadPattern, Unreached, Unserved, Escaped, LoginNeeds, UnknownRole, UnheldRole, UnusedRole}
+use Rattle.sv_findings.specs.declared.finding.Finding.TheVariants.{Opened, Uncovered, ReadOtherwise, HeadDiffers, Dead, DeadPattern, Overruled, Unreached, Unserved, Escaped, LoginNeeds, UnknownRole, UnheldRole, UnusedRole}
 use Rattle.sv_audit.specs.declared.access.Access.{Access}
 use Rattle.sv_constraints.specs.Covering.{lists}
 use Rattle.sv_constraints.specs.declared.constraint.Auth.{Auth}
@@ -56,6 +56,7 @@ subject constraints (ReadOtherwise pattern methods other) = otherwise_subject pa
 subject constraints (HeadDiffers pattern get head) = heads_subject pattern get head
 subject constraints (Dead number) = patterns_text constraints number
 subject constraints (DeadPattern number pattern) = pattern_word pattern
+subject constraints (Overruled number) = patterns_text constraints number
 subject constraints (Unreached number pattern) = pattern_word pattern
 subject constraints (Unserved number pattern) = pattern_word pattern
 subject constraints (Escaped number pattern) = pattern_word pattern
@@ -98,6 +99,7 @@ constraint_of constraints patterns (ReadOtherwise pattern methods other) = first
 constraint_of constraints patterns (HeadDiffers pattern get head) = first_with constraints pattern
 constraint_of constraints patterns (Dead number) = Some number
 constraint_of constraints patterns (DeadPattern number pattern) = Some number
+constraint_of constraints patterns (Overruled number) = Some number
 constraint_of constraints patterns (Unreached number pattern) = Some number
 constraint_of constraints patterns (Unserved number pattern) = Some number
 constraint_of constraints patterns (Escaped number pattern) = Some number

@@ -18,8 +18,8 @@ is_kind_of_access part =
 
 abbrev pub is_kind_of_pattern : List ℕ → Bool
 is_kind_of_pattern part =
-    bytes_eq part (codes "dead") || bytes_eq part (codes "dead-pattern") || bytes_eq part (codes "unreached") || bytes_eq part (codes "unserved")
-    || bytes_eq part (codes "escaped")
+    bytes_eq part (codes "dead") || bytes_eq part (codes "dead-pattern") || bytes_eq part (codes "overruled") || bytes_eq part (codes "unreached")
+    || bytes_eq part (codes "unserved") || bytes_eq part (codes "escaped")
 
 abbrev pub is_kind_of_role : List ℕ → Bool
 is_kind_of_role part = bytes_eq part (codes "unknown-role") || bytes_eq part (codes "unheld-role") || bytes_eq part (codes "unused-role")

@@ -57,6 +57,7 @@ fn push_subject(
         }
         Finding::Dead(number) => push_patterns_of(key, alloc, constraints, *number),
         Finding::DeadPattern(_, pattern) => push_pattern(key, pattern.as_str()),
+        Finding::Overruled(number) => push_patterns_of(key, alloc, constraints, *number),
         Finding::Unreached(_, pattern) => push_pattern(key, pattern.as_str()),
         Finding::Unserved(_, pattern) => push_pattern(key, pattern.as_str()),
         Finding::Escaped(_, pattern) => push_pattern(key, pattern.as_str()),
@@ -190,6 +191,7 @@ pub(crate) fn constraint_of(
         Finding::HeadDiffers(pattern, _, _) => first_with(groups, pattern.as_str()),
         Finding::Dead(number) => Some(*number),
         Finding::DeadPattern(number, _) => Some(*number),
+        Finding::Overruled(number) => Some(*number),
         Finding::Unreached(number, _) => Some(*number),
         Finding::Unserved(number, _) => Some(*number),
         Finding::Escaped(number, _) => Some(*number),

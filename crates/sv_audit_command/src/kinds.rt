@@ -51,6 +51,7 @@ fn is_kind_of_pattern(part: &[u8]) -> bool
 {
     part == "dead".as_bytes()
         || part == "dead-pattern".as_bytes()
+        || part == "overruled".as_bytes()
         || part == "unreached".as_bytes()
         || part == "unserved".as_bytes()
         || part == "escaped".as_bytes()

@@ -30,7 +30,7 @@ all_meant declared members = flat_map (λ member. roles_meant declared member.au
 abbrev pub mean_its_roles : List (List ℕ) → Constraint → List Constraint → Bool
 mean_its_roles declared constraint others = list_all (lists (all_meant declared others)) (roles_meant declared constraint.auth)
 
--- Whether one of the others admits each authenticated caller whom the constraint admits.
+-- Whether the others admit each authenticated caller whom the constraint admits: one admits all, or they mean its roles.
 abbrev pub admit_its_callers : List (List ℕ) → Constraint → List Constraint → Bool
 admit_its_callers declared constraint others = list_any admits_everyone others || (not (admits_everyone constraint) && mean_its_roles declared constraint others)
 

@@ -324,7 +324,7 @@ fn is_open(constraint: &Constraint) -> bool
     matches!(constraint.auth, Auth::Absent)
 }
 
-/// Returns whether one of the others admits each authenticated caller whom the constraint admits.
+/// Returns whether the others admit each authenticated caller whom the constraint admits.
 fn admit_its_callers(
     alloc: Global,
     declared: &[Text],

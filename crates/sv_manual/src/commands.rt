@@ -93,8 +93,8 @@ pub const OPTIONS: [OptionRow; 19] = [
         "--fail-on",
         "KINDS",
         "exits with status 4 if there are findings of these kinds, joined by commas, or any:
-open, uncovered, read-otherwise, head-differs, dead, dead-pattern, unreached,
-unserved, escaped, login-needs, unknown-role, unheld-role, unused-role",
+open, uncovered, read-otherwise, head-differs, dead, dead-pattern, overruled,
+unreached, unserved, escaped, login-needs, unknown-role, unheld-role, unused-role",
     ),
     (
         "audit",
