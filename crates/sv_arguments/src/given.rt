@@ -166,7 +166,9 @@ fn unfit_form(set: OptionSet, words: &[String]) -> Option<Format>
     if !is_among(set, words, Key::Diff) {
         return None;
     }
-    let name = value_in(set, words, Key::Format)?;
+    let Some(name) = value_in(set, words, Key::Format) else {
+        return None;
+    };
     unfit_named(name)
 }
 

@@ -8,11 +8,11 @@ pub returns-then-not-is_among : goal.returns-then-not-is_among
 returns-then-not-is_among c = λ settings are.
     none_without_server settings (sym (c.is_among.ensures settings are) ∙ c.if-not-is_among.true)
 
-pub returns-in_err-name : goal.returns-in_err-name
-returns-in_err-name c = λ settings are. none_without_form settings (c.in_err-name.ensures settings are.0 are.1.0)
+pub returns-in_default : goal.returns-in_default
+returns-in_default c = λ settings are. none_without_form settings (c.in_default.ensures settings are.0 are.1.0)
 
 pub returns : goal.returns
 returns c = λ settings are.
-    finds_unfit settings c.in_ok-name.name
-    (one_value (values Format settings) c.in_ok-name.name (are.1.1 Format) (c.in_ok-name.ensures settings are.0 are.1.0))
+    finds_unfit settings c.in-Some.name
+    (one_value (values Format settings) c.in-Some.name (are.1.1 Format) (c.in-Some.ensures settings are.0 are.1.0))
     (sym (c.is_among.ensures settings are) ∙ c.if-not-is_among.false) c.unfit_named.result c.unfit_named.ensures
