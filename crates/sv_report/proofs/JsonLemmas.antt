@@ -13,7 +13,7 @@ use Rattle.sv_report.specs.Json.{answers_value, elsewhere, group_value, listed_a
 use Rattle.sv_report.specs.JsonParts.{number_value, roles_in, strings, text_value, truth_value}
 use Rattle.sv_report.specs.Places.{line_of}
 use Rattle.sv_findings.specs.declared.finding.Finding.{Finding}
-use Rattle.sv_findings.specs.declared.finding.Finding.TheVariants.{Opened, Uncovered, ReadOtherwise, HeadDiffers, Dead, DeadPattern, Unreached, Unserved, Escaped, LoginNeeds, UnknownRole, UnheldRole, UnusedRole}
+use Rattle.sv_findings.specs.declared.finding.Finding.TheVariants.{Opened, Uncovered, ReadOtherwise, HeadDiffers, Dead, DeadPattern, Overruled, Unreached, Unserved, Escaped, LoginNeeds, UnknownRole, UnheldRole, UnusedRole}
 use Rattle.sv_report.specs.declared.report.Answers.{Answers}
 use Rattle.sv_report.specs.declared.report.ContextReport.{ContextReport}
 use Rattle.sv_report.specs.declared.report.ReportedFinding.{ReportedFinding}
@@ -99,6 +99,7 @@ in_members has_login is_accepted constraint line key kind (ReadOtherwise pattern
 in_members has_login is_accepted constraint line key kind (HeadDiffers pattern get head) = ap₂ (λ a b. a || b) (in_number constraint) (ap₂ (λ a b. a || b) (in_strings (roles_in get)) (ap₂ (λ a b. a || (b || false)) (in_strings (roles_in head)) (in_number line)))
 in_members has_login is_accepted constraint line key kind (Dead number) = ap₂ (λ a b. a || (b || false)) (in_number constraint) (in_number line)
 in_members has_login is_accepted constraint line key kind (DeadPattern number pattern) = ap₂ (λ a b. a || (b || false)) (in_number constraint) (in_number line)
+in_members has_login is_accepted constraint line key kind (Overruled number) = ap₂ (λ a b. a || (b || false)) (in_number constraint) (in_number line)
 in_members has_login is_accepted constraint line key kind (Unreached number pattern) = ap₂ (λ a b. a || (b || false)) (in_number constraint) (in_number line)
 in_members has_login is_accepted constraint line key kind (Unserved number pattern) = ap₂ (λ a b. a || (b || false)) (in_number constraint) (in_number line)
 in_members has_login is_accepted constraint line key kind (Escaped number pattern) = ap₂ (λ a b. a || (b || false)) (in_number constraint) (in_number line)

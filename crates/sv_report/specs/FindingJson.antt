@@ -4,7 +4,7 @@ use Rattle.serde_json.specs.Data.{Data, Members, boolean, string, object, no_mem
 use Rattle.sv_constraints.specs.declared.constraint.Methods.{Methods}
 use Rattle.sv_policy.specs.Covering.{method_names}
 use Rattle.sv_findings.specs.declared.finding.Finding.{Finding}
-use Rattle.sv_findings.specs.declared.finding.Finding.TheVariants.{Opened, Uncovered, ReadOtherwise, HeadDiffers, Dead, DeadPattern, Unreached, Unserved, Escaped, LoginNeeds, UnknownRole, UnheldRole, UnusedRole}
+use Rattle.sv_findings.specs.declared.finding.Finding.TheVariants.{Opened, Uncovered, ReadOtherwise, HeadDiffers, Dead, DeadPattern, Overruled, Unreached, Unserved, Escaped, LoginNeeds, UnknownRole, UnheldRole, UnusedRole}
 use Rattle.sv_report.specs.FindingWords.{kind_name}
 use Rattle.sv_report.specs.JsonParts.{are_excepted, enters, number_value, roles_in, strings}
 use Rattle.sv_audit.specs.declared.access.Access.{Access}
@@ -42,6 +42,7 @@ with_subject has_login (ReadOtherwise pattern methods other) members = with_meth
 with_subject has_login (HeadDiffers pattern get head) members = with_head has_login pattern get head members
 with_subject has_login (Dead number) members = members
 with_subject has_login (DeadPattern number pattern) members = with_member (codes "pattern") (string pattern) members
+with_subject has_login (Overruled number) members = members
 with_subject has_login (Unreached number pattern) members = with_member (codes "pattern") (string pattern) members
 with_subject has_login (Unserved number pattern) members = with_member (codes "pattern") (string pattern) members
 with_subject has_login (Escaped number pattern) members = with_member (codes "pattern") (string pattern) members

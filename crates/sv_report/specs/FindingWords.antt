@@ -2,7 +2,7 @@
 use Rattle.std.specs.Prelude.{ℕ, Bool, List, [], ◌∷◌, codes, Some, if◌then◌else◌}
 use Rattle.sv_constraints.specs.declared.constraint.Methods.{Methods}
 use Rattle.sv_findings.specs.declared.finding.Finding.{Finding}
-use Rattle.sv_findings.specs.declared.finding.Finding.TheVariants.{Opened, Uncovered, ReadOtherwise, HeadDiffers, Dead, DeadPattern, Unreached, Unserved, Escaped, LoginNeeds, UnknownRole, UnheldRole, UnusedRole}
+use Rattle.sv_findings.specs.declared.finding.Finding.TheVariants.{Opened, Uncovered, ReadOtherwise, HeadDiffers, Dead, DeadPattern, Overruled, Unreached, Unserved, Escaped, LoginNeeds, UnknownRole, UnheldRole, UnusedRole}
 use Rattle.sv_report.specs.Escaped.{escaped}
 use Rattle.sv_report.specs.Parts.{joined}
 use Rattle.sv_report.specs.Places.{number_text}
@@ -16,6 +16,7 @@ kind_name (ReadOtherwise pattern methods other) = codes "read-otherwise"
 kind_name (HeadDiffers pattern get head) = codes "head-differs"
 kind_name (Dead number) = codes "dead"
 kind_name (DeadPattern number pattern) = codes "dead-pattern"
+kind_name (Overruled number) = codes "overruled"
 kind_name (Unreached number pattern) = codes "unreached"
 kind_name (Unserved number pattern) = codes "unserved"
 kind_name (Escaped number pattern) = codes "escaped"
@@ -44,6 +45,9 @@ head_text has_login pattern get head = joined (
 abbrev pub dead_text : ℕ → List ℕ
 dead_text number = joined (codes "constraint " ∷ number_text number ∷ codes " covers no request" ∷ [])
 
+abbrev pub overruled_text : ℕ → List ℕ
+overruled_text number = joined (codes "constraint " ∷ number_text number ∷ codes " changes nothing: the others at its patterns decide each request alike" ∷ [])
+
 -- A constraint, words, and one of its patterns.
 unfoldable pub pattern_of : ℕ → List ℕ → List ℕ → List ℕ
 pattern_of number words pattern = joined (codes "constraint " ∷ number_text number ∷ words ∷ pattern_text (Some pattern) ∷ [])
@@ -68,6 +72,7 @@ problem_text has_login (ReadOtherwise pattern methods other) = read_text pattern
 problem_text has_login (HeadDiffers pattern get head) = head_text has_login pattern get head
 problem_text has_login (Dead number) = dead_text number
 problem_text has_login (DeadPattern number pattern) = pattern_of number (codes " covers no request at ") pattern
+problem_text has_login (Overruled number) = overruled_text number
 problem_text has_login (Unreached number pattern) = pattern_of number (codes " covers no request at ") pattern
 problem_text has_login (Unserved number pattern) = unserved_text pattern
 problem_text has_login (Escaped number pattern) = pattern_of number (codes " has a percent sign in ") pattern
@@ -84,6 +89,7 @@ remedy (ReadOtherwise pattern methods other) = codes "Cover all methods at the p
 remedy (HeadDiffers pattern get head) = codes "Name HEAD wherever GET is named."
 remedy (Dead number) = codes "No path matches its patterns, or /* is chosen before them. Change them, or remove it."
 remedy (DeadPattern number pattern) = codes "No path matches it, or /* is chosen before it. Change it, or remove it."
+remedy (Overruled number) = codes "Remove it alone and audit again, or say what it should restrict."
 remedy (Unreached number pattern) = codes "Its paths are hidden, or belong to another context. Remove the pattern."
 remedy (Unserved number pattern) = codes "No servlet or file has such a path. Remove or correct the pattern, or add the file."
 remedy (Escaped number pattern) = codes "Patterns are compared with decoded paths. Write the character itself."

@@ -66,6 +66,7 @@ fn put_subject(
         }
         Finding::Dead(_) => Ok(()),
         Finding::DeadPattern(_, pattern) => put_text(members, alloc, "pattern", pattern.as_str()),
+        Finding::Overruled(_) => Ok(()),
         Finding::Unreached(_, pattern) => put_text(members, alloc, "pattern", pattern.as_str()),
         Finding::Unserved(_, pattern) => put_text(members, alloc, "pattern", pattern.as_str()),
         Finding::Escaped(_, pattern) => put_text(members, alloc, "pattern", pattern.as_str()),

@@ -25,6 +25,7 @@ pub fn kind_name(finding: &Finding) -> &'static str
         Finding::HeadDiffers(_, _, _) => "head-differs",
         Finding::Dead(_) => "dead",
         Finding::DeadPattern(_, _) => "dead-pattern",
+        Finding::Overruled(_) => "overruled",
         Finding::Unreached(_, _) => "unreached",
         Finding::Unserved(_, _) => "unserved",
         Finding::Escaped(_, _) => "escaped",
@@ -54,6 +55,7 @@ pub fn problem_text(alloc: Global, has_login: bool, finding: &Finding) -> Result
         Finding::DeadPattern(number, pattern) => {
             pattern_of(alloc, *number, " covers no request at ", pattern.as_str())
         }
+        Finding::Overruled(number) => overruled_text(alloc, *number),
         Finding::Unreached(number, pattern) => {
             pattern_of(alloc, *number, " covers no request at ", pattern.as_str())
         }
@@ -163,6 +165,20 @@ fn dead_text(alloc: Global, number: u64) -> Result<Text, NoMemory>
     )
 }
 
+fn overruled_text(alloc: Global, number: u64) -> Result<Text, NoMemory>
+    ensures { GivesAnswer result (spec.overruled_text number) }
+{
+    let number = number_text(alloc, number)?;
+    joined(
+        alloc,
+        &[
+            "constraint ",
+            number.as_str(),
+            " changes nothing: the others at its patterns decide each request alike",
+        ],
+    )
+}
+
 /// Returns a constraint, words, and one of its patterns.
 #[tactic(auto, unfolding(crate::specs::FindingWords::pattern_of))]
 fn pattern_of(alloc: Global, number: u64, words: &str, pattern: &str) -> Result<Text, NoMemory>
@@ -238,6 +254,9 @@ pub fn remedy(finding: &Finding) -> &'static str
         }
         Finding::DeadPattern(_, _) => {
             "No path matches it, or /* is chosen before it. Change it, or remove it."
+        }
+        Finding::Overruled(_) => {
+            "Remove it alone and audit again, or say what it should restrict."
         }
         Finding::Unreached(_, _) => {
             "Its paths are hidden, or belong to another context. Remove the pattern."
