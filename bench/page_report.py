@@ -21,6 +21,7 @@ FINDINGS = (
     "head-differs",
     "dead",
     "dead-pattern",
+    "overruled",
     "unreached",
     "unserved",
     "escaped",
