@@ -114,7 +114,7 @@ fn roles_of(alloc: Global, rules: &Rules, members: &[&Constraint]) -> Result<Lis
 }
 
 /// Returns the roles that the constraints mean, in order and with duplicates.
-fn all_roles<'a>(
+pub fn all_roles<'a>(
     alloc: Global,
     declared: &'a [Text],
     members: &[&'a Constraint],

@@ -1,5 +1,8 @@
 //! Security constraints: the requests they cover, the callers they admit and the transport they require.
 
+ghost use Rattle.std.specs.Prelude.{◌≡◌};
+ghost use Rattle.sv_constraints.specs.Verdict as verdict;
+
 use sv_mapping::Pattern;
 use sv_text::{Listed, Text};
 
@@ -41,6 +44,32 @@ pub struct Constraint {
     pub auth: Auth,
     /// The transport that it requires.
     pub transport: Transport,
+}
+
+impl Constraint {
+    /// Returns whether the list of roles is empty, so that nobody may pass.
+    pub fn precludes(&self) -> bool
+        ensures { result ≡ verdict.precludes self.now }
+    {
+        match &self.auth {
+            Auth::Absent => false,
+            Auth::Roles(names) => names.as_slice().is_empty(),
+        }
+    }
+
+    /// Returns whether there is no authorization constraint, so that everyone may pass.
+    pub fn is_open(&self) -> bool
+        ensures { result ≡ verdict.is_open self.now }
+    {
+        matches!(self.auth, Auth::Absent)
+    }
+
+    /// Returns whether a plain connection is sufficient.
+    pub fn permits_plain(&self) -> bool
+        ensures { result ≡ verdict.permits_plain self.now }
+    {
+        matches!(self.transport, Transport::Absent | Transport::Plain)
+    }
 }
 
 /// The authorization constraint (`auth-constraint`).

@@ -4,11 +4,11 @@ ghost use Rattle.std.specs.Prelude.{◌≡◌, [], Option, Some};
 ghost use Rattle.std.specs.Option.{option_copied};
 ghost use Rattle.sv_constraints.specs.Covering.{covering};
 ghost use Rattle.sv_constraints.specs.Findings.{lesser};
-ghost use Rattle.sv_constraints.specs.Verdict.{names_nobody, is_absent, allows_plain, because};
+ghost use Rattle.sv_constraints.specs.Verdict.{because};
 ghost use Rattle.sv_constraints.specs.Decision.{seen, seen_why};
 
 use crate::cause::Cause;
-use crate::constraint::{Auth, Constraint, Rules, Transport};
+use crate::constraint::{Constraint, Rules};
 use crate::coverage::covers;
 use crate::decision::{Decision, Why};
 use crate::roles::admits;
@@ -29,30 +29,6 @@ pub struct Findings {
     pub unauthenticated: Option<u64>,
     /// Of those that name a role of the caller, or every caller.
     pub admitting: Option<u64>,
-}
-
-/// Returns whether nobody may pass.
-fn names_nobody(auth: &Auth) -> bool
-    ensures { result ≡ names_nobody auth.now }
-{
-    match auth {
-        Auth::Absent => false,
-        Auth::Roles(names) => names.as_slice().is_empty(),
-    }
-}
-
-/// Returns whether everyone may pass.
-fn is_absent(auth: &Auth) -> bool
-    ensures { result ≡ is_absent auth.now }
-{
-    matches!(auth, Auth::Absent)
-}
-
-/// Returns whether a plain connection is sufficient.
-fn allows_plain(transport: Transport) -> bool
-    ensures { result ≡ allows_plain transport }
-{
-    matches!(transport, Transport::Absent | Transport::Plain)
 }
 
 /// Returns the lesser of two numbers, or the only one present, if any.
@@ -98,13 +74,12 @@ impl Findings {
         ensures { result ≡ with_one rules.now (option_copied caller.entry) constraint.now self }
     {
         let number = constraint.number;
-        let auth = &constraint.auth;
-        let admitted = admits(rules.declared.as_slice(), caller, auth);
+        let admitted = admits(rules.declared.as_slice(), caller, &constraint.auth);
         Findings {
             covering: lesser(self.covering, Some(number)),
-            precluding: lesser(self.precluding, names_nobody(auth).then_some(number)),
-            permits_plain: self.permits_plain || allows_plain(constraint.transport),
-            unauthenticated: lesser(self.unauthenticated, is_absent(auth).then_some(number)),
+            precluding: lesser(self.precluding, constraint.precludes().then_some(number)),
+            permits_plain: self.permits_plain || constraint.permits_plain(),
+            unauthenticated: lesser(self.unauthenticated, constraint.is_open().then_some(number)),
             admitting: lesser(self.admitting, admitted.then_some(number)),
         }
     }
