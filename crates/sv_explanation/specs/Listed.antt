@@ -3,7 +3,7 @@ use Rattle.std.specs.Prelude.{ℕ, Bool, not, ◌==◌, List, [], filter, length
 use Rattle.std.specs.List.{list_any}
 use Rattle.sv_constraints.specs.Covering.{covers, lists}
 use Rattle.sv_constraints.specs.Roles.{roles_read}
-use Rattle.sv_constraints.specs.Verdict.{allows_plain}
+use Rattle.sv_constraints.specs.Verdict.{permits_plain}
 use Rattle.sv_constraints.specs.declared.constraint.Auth.{Auth}
 use Rattle.sv_constraints.specs.declared.constraint.Auth.TheVariants as auth
 use Rattle.sv_constraints.specs.declared.constraint.Constraint.{Constraint}
@@ -33,7 +33,7 @@ listed_constraint context pattern method constraint = record {
   line = line_at context.lines constraint.number;
   is_covering = covers constraint pattern method;
   entrants = entrants context.descriptor.rules constraint.auth;
-  needs_tls = not (allows_plain constraint.transport);
+  needs_tls = not (permits_plain constraint);
 }
 
 -- Whether some collection of the constraint lists the pattern.

@@ -1,10 +1,9 @@
 //! The constraints on a best pattern.
 
-ghost use Rattle.std.specs.Prelude.{◌≡◌, ◌++◌, OnOk, filter, map, not};
+ghost use Rattle.std.specs.Prelude.{◌≡◌, ◌++◌, OnOk, filter, map};
 ghost use Rattle.std.specs.List.{flat_map};
 ghost use Rattle.sv_constraints.specs.Covering.{lists as lists_text};
 ghost use Rattle.sv_constraints.specs.Roles.{roles_named, roles_read};
-ghost use Rattle.sv_constraints.specs.Verdict.{allows_plain};
 ghost use Rattle.sv_report.specs.Places as places;
 ghost use Rattle.sv_text.specs.Gives.{GivesAnswer};
 ghost use Rattle.sv_explanation.specs.Listed as spec;
@@ -12,7 +11,7 @@ ghost use Rattle.sv_explanation.specs.Listed as spec;
 use crate::listed_constraint::{Entrants, ListedConstraint};
 use crate::site_context::SiteContext;
 use std::alloc::Global;
-use sv_constraints::{Auth, Constraint, EVERY_CALLER, EVERY_ROLE, Rules, Transport, covers, lists};
+use sv_constraints::{Auth, Constraint, EVERY_CALLER, EVERY_ROLE, Rules, covers, lists};
 use sv_mapping::Pattern;
 use sv_text::{Listed, NoMemory, Text};
 
@@ -80,7 +79,7 @@ fn listed_constraint(
         line: line_at(context.lines.as_slice(), constraint.number),
         is_covering: covers(constraint, pattern, method),
         entrants: entrants(alloc, rules, &constraint.auth)?,
-        needs_tls: needs_tls(constraint.transport),
+        needs_tls: !constraint.permits_plain(),
     })
 }
 
@@ -95,13 +94,6 @@ fn line_at(lines: &[Option<u64>], number: u64) -> Option<u64>
         None => None,
         Some(line) => *line,
     }
-}
-
-/// Returns whether a plain connection is not sufficient.
-fn needs_tls(transport: Transport) -> bool
-    ensures { result ≡ not (allows_plain transport) }
-{
-    matches!(transport, Transport::Integral | Transport::Confidential)
 }
 
 /// Returns the callers that an authorization constraint admits.

@@ -397,7 +397,7 @@ pub overruled_found : OverruledIsFound
 overruled_found constraints rules surroundings c there alive each =
     let has_prefix : Bool = lists (all_patterns constraints) (codes "/*") in
     let over : is_overruled rules constraints has_prefix c ≡ true =
-    is_over constraints rules has_prefix c alive (λ pattern listed some. let it : AreFew constraints pattern × ChangesNothing constraints rules c pattern = each pattern listed some in matters_not constraints rules c pattern it.0 it.1) in
+    is_over constraints rules has_prefix c there alive (λ pattern listed some. let it : AreFew constraints pattern × ChangesNothing constraints rules c pattern = each pattern listed some in matters_not constraints rules c pattern it.0 it.1) in
     among_changing_nothing constraints rules surroundings (says_overruled c.number)
     (any_of_joined (says_overruled c.number) (overruled_in rules constraints has_prefix) constraints
     ∙ contained (λ (x : Constraint). list_any (says_overruled c.number) (overruled_in rules constraints has_prefix x)) constraints c there

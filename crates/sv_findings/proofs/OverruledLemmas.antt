@@ -1,6 +1,7 @@
 -- Without an overruled constraint each request is decided alike, and no such constraint is missed.
 use Rattle.std.proofs.lemmas.Bool.{false≢true, not-true, or_parts}
 use Rattle.std.proofs.lemmas.List.Elements.{All-contains_itself, All-head, All-tail}
+use Rattle.std.proofs.lemmas.List.Folds.{list_any_at}
 use Rattle.std.proofs.lemmas.List.Sums.{AllPass-from_list_all, list_all-from_AllPass}
 use Rattle.std.proofs.lemmas.Slice.Eq.{bytes_eq-Decides}
 use Rattle.std.proofs.Common.{arith, ◌≡◌, ◌≤◌, ℕ, Bool, true, false, not, ◌||◌, ◌&&◌, ◌==◌, List, [], ◌∷◌, length, refl, ap, ap₂, sym, ◌∙◌, cond, Option, None, Some, is_none}
@@ -19,7 +20,7 @@ use Rattle.sv_constraints.specs.declared.constraint.Rules.{Rules}
 use Rattle.sv_constraints.specs.declared.owned_decision.OwnedDecision.TheVariants.{Open, Denied, Login}
 use Rattle.sv_constraints.specs.declared.owned_decision.OwnedWhy.{OwnedWhy}
 use Rattle.sv_policy.proofs.Best.{any_in, or_right}
-use Rattle.sv_policy.proofs.Listed.{any_seen, covers_listed, filter_within, length_seen, listed_any, some_filtered}
+use Rattle.sv_policy.proofs.Listed.{any_seen, covers_listed, filter_within, length_seen, listed_any, listed_by, some_filtered}
 use Rattle.sv_policy.proofs.Named.{unnamed_members}
 use Rattle.sv_policy.proofs.Rising.{rising_lists}
 use Rattle.sv_policy.proofs.Steps.{any_of_joined, any_same, filter_same, passing_lists}
@@ -37,9 +38,10 @@ use Rattle.sv_audit.specs.Reading.{IsDenied, Kind, NeedsLogin, Passes, kind_and_
 use Rattle.sv_audit.specs.Secure.{secure, secured}
 use Rattle.sv_findings.proofs.OpenedLemmas.{contained, fresh, is_fresh, kept_any}
 use Rattle.sv_findings.specs.FindingLaws.{AreAlike, AreFew, ChangesNothing, kind_by}
-use Rattle.sv_findings.specs.Overruled.{admit_its_callers, admit_no_less, all_meant, decide_alike, deciding_patterns, has_number, is_overruled, matters_among, matters_at, matters_for, matters_on, mean_its_roles, others, permit_no_less}
+use Rattle.sv_overruled.specs.Overruled.{admit_its_callers, admit_no_less, all_meant, decide_alike, has_number, matters_among, matters_by, matters_for, matters_on, mean_its_roles, numbers_of, others, permit_no_less}
+use Rattle.sv_findings.specs.Overruled.{deciding_patterns, is_overruled, is_overruled_at}
 use Rattle.sv_findings.specs.Dead.{decides_nothing, is_dead}
-use Rattle.sv_findings.specs.declared.overruled.TheConstants.{MAX_COMPARED_AT_PATTERN}
+use Rattle.sv_overruled.specs.declared.overruled.TheConstants.{MAX_COMPARED_AT_PATTERN}
 
 -- ---- Truth values.
 absorb : (w o : Bool) → (w ≡ true → o ≡ true) → (w || o) ≡ o
@@ -537,7 +539,7 @@ module _ (constraints : List Constraint) (rules : Rules) (constraint : Constrain
   others_cover method = ap (λ cs. length cs == 0) (swapped (λ c. covers c pattern method) is_other constraints)
 
   -- ---- It changes nothing if it does not matter.
-  module _ (not_here : matters_at rules constraints number pattern ≡ false) where
+  module _ (not_here : matters_by rules number pattern here ≡ false) where
     among_none : (method : List ℕ) → matters_among rules number (covering constraints (Some pattern) method) ≡ false
     among_none method =
         let parts : ((length (others number here) == 0) ≡ false) × ((nat_lt MAX_COMPARED_AT_PATTERN (length here) || matters_on rules number pattern here) ≡ false) =
@@ -575,10 +577,38 @@ module _ (constraints : List Constraint) (rules : Rules) (constraint : Constrain
     few_names : nat_lt MAX_COMPARED_AT_PATTERN (length (rising (named_methods here pattern))) ≡ false
     few_names = ap (λ named. nat_lt MAX_COMPARED_AT_PATTERN (length (rising named))) (named_of_all pattern constraints) ∙ not_lt MAX_COMPARED_AT_PATTERN (length (rising (named_methods constraints pattern))) few.1
 
-    pub matters_not : matters_at rules constraints number pattern ≡ false
+    pub matters_not : matters_by rules number pattern here ≡ false
     matters_not =
         ap₂ (λ a b. a || b) (not-true (length (others number here) == 0) (sym others_listed ∙ nothing.0))
         (ap₂ (λ a b. a || b) (not_lt MAX_COMPARED_AT_PATTERN (length here) few.0) (for_all rules number pattern here few_names each_none))
+
+-- ---- Numbers that are kept.
+equal_from : (a b : ℕ) → (a == b) ≡ true → a ≡ b
+equal_from a b is = grind (arith, is)
+
+module _ (keeps : ℕ → Bool) (number : ℕ) (numbers : List ℕ) where
+  abbrev is_it : ℕ → Bool
+  is_it other = other == number
+
+  kept_passes : list_any is_it (filter keeps numbers) ≡ true → keeps number ≡ true
+  kept_passes some =
+      found (keeps number ≡ true) (λ other. keeps other && is_it other) numbers (sym (kept_any is_it keeps numbers) ∙ some)
+      (λ k d within it.
+      let other : ℕ = slice_index_or numbers k d in
+      sym (ap keeps (equal_from other number (and_right (keeps other) (is_it other) it))) ∙ and_left (keeps other) (is_it other) it)
+
+  passing_kept : keeps number ≡ true → list_any is_it numbers ≡ true → list_any is_it (filter keeps numbers) ≡ true
+  passing_kept passes there =
+      kept_any is_it keeps numbers
+      ∙ found (list_any (λ other. keeps other && is_it other) numbers ≡ true) is_it numbers there
+      (λ k d within it.
+      let other : ℕ = slice_index_or numbers k d in
+      list_any_at (λ x. keeps x && is_it x) numbers k d within (both (keeps other) (is_it other) (ap keeps (equal_from other number it) ∙ passes) it))
+
+all_of : (test : List ℕ → Bool) (texts : List (List ℕ)) (text : List ℕ) → list_all test texts ≡ true → lists texts text ≡ true → test text ≡ true
+all_of test texts text all there =
+    found (test text ≡ true) (λ other. bytes_eq other text) texts there
+    (λ k d within same. sym (ap test ((bytes_eq-Decides (slice_index_or texts k d) text).0 same)) ∙ AllPass-from_list_all test texts all k d within)
 
 -- ---- An overruled constraint.
 not_at_one : (b some all : Bool) → some ≡ not all → (not b || some) ≡ not (b && all)
@@ -596,25 +626,41 @@ module _ (constraints : List Constraint) (rules : Rules) (has_prefix : Bool) (co
   abbrev deciding : List (List ℕ)
   deciding = deciding_patterns has_prefix constraint
 
+  abbrev on : List ℕ → List Constraint
+  on pattern = filter (λ c. lists_pattern c pattern) constraints
+
   abbrev matters : List ℕ → Bool
-  matters pattern = matters_at rules constraints constraint.number pattern
+  matters pattern = matters_by rules constraint.number pattern (on pattern)
+
+  abbrev changes_none : List ℕ → Bool
+  changes_none pattern = is_overruled_at rules constraints constraint.number pattern
 
   pub not_at : is_overruled rules constraints has_prefix constraint ≡ true → (pattern : List ℕ) → lists (patterns_in constraint) pattern ≡ true → decides_nothing has_prefix pattern ≡ false → matters pattern ≡ false
   not_at over pattern listed some =
-      let none : list_any matters deciding ≡ false = not-true (list_any matters deciding) (and_right (not (length deciding == 0)) (not (list_any matters deciding)) over) in
-      no_from (matters pattern)
-      (λ does. false≢true (sym (any_of matters deciding pattern none does) ∙ passing_lists decides (patterns_in constraint) pattern ∙ both (lists (patterns_in constraint) pattern) (decides pattern) listed (ap not some)))
+      not-true (matters pattern)
+      (kept_passes (λ number. not (matters_by rules number pattern (on pattern))) constraint.number (numbers_of (on pattern))
+      (all_of changes_none deciding pattern (and_right (not (length deciding == 0)) (list_all changes_none deciding) over)
+      (passing_lists decides (patterns_in constraint) pattern ∙ both (lists (patterns_in constraint) pattern) (decides pattern) listed (ap not some))))
 
-  kept_none : (pattern : List ℕ) (b : Bool) → decides_nothing has_prefix pattern ≡ b → (decides_nothing has_prefix pattern ≡ false → matters pattern ≡ false) → (not b && matters pattern) ≡ false
-  kept_none pattern true is none = refl
-  kept_none pattern false is none = none is
+  module _ (there : Contains constraints constraint) where
+    numbered : (pattern : List ℕ) → lists_pattern constraint pattern ≡ true → list_any (λ other. other == constraint.number) (numbers_of (on pattern)) ≡ true
+    numbered pattern listing =
+        any_seen (λ other. other == constraint.number) (λ c. c.number) (on pattern)
+        ∙ kept_any (has_number constraint.number) (λ c. lists_pattern c pattern) constraints
+        ∙ contained (λ c. lists_pattern c pattern && has_number constraint.number c) constraints constraint there
+        (both (lists_pattern constraint pattern) (has_number constraint.number constraint) listing (same_number constraint.number))
 
-  pub is_over : is_dead has_prefix constraint ≡ false → ((pattern : List ℕ) → lists (patterns_in constraint) pattern ≡ true → decides_nothing has_prefix pattern ≡ false → matters pattern ≡ false) → is_overruled rules constraints has_prefix constraint ≡ true
-  is_over alive none =
-      both (not (length deciding == 0)) (not (list_any matters deciding)) (some_filtered decides (patterns_in constraint) ∙ any_not (decides_nothing has_prefix) (patterns_in constraint) ∙ ap not alive)
-      (ap not
-      (kept_any matters decides (patterns_in constraint)
-      ∙ none_of (λ pattern. decides pattern && matters pattern) (patterns_in constraint)
-      (λ k d within.
-      let pattern : List ℕ = slice_index_or (patterns_in constraint) k d in
-      kept_none pattern (decides_nothing has_prefix pattern) refl (none pattern (in_texts (patterns_in constraint) pattern (All-contains_itself (patterns_in constraint) k d within))))))
+    none_at : (pattern : List ℕ) → lists_pattern constraint pattern ≡ true → matters pattern ≡ false → changes_none pattern ≡ true
+    none_at pattern listing none =
+        passing_kept (λ number. not (matters_by rules number pattern (on pattern))) constraint.number (numbers_of (on pattern)) (ap not none) (numbered pattern listing)
+
+    pub is_over : is_dead has_prefix constraint ≡ false → ((pattern : List ℕ) → lists (patterns_in constraint) pattern ≡ true → decides_nothing has_prefix pattern ≡ false → matters pattern ≡ false) → is_overruled rules constraints has_prefix constraint ≡ true
+    is_over alive none =
+        both (not (length deciding == 0)) (list_all changes_none deciding) (some_filtered decides (patterns_in constraint) ∙ any_not (decides_nothing has_prefix) (patterns_in constraint) ∙ ap not alive)
+        (list_all-from_AllPass changes_none deciding
+        (λ k d within.
+        let pattern : List ℕ = slice_index_or deciding k d in
+        let kept : (lists (patterns_in constraint) pattern && decides pattern) ≡ true = sym (passing_lists decides (patterns_in constraint) pattern) ∙ in_texts deciding pattern (All-contains_itself deciding k d within) in
+        let listed : lists (patterns_in constraint) pattern ≡ true = and_left (lists (patterns_in constraint) pattern) (decides pattern) kept in
+        none_at pattern (sym (listed_by pattern constraint) ∙ listed)
+        (none pattern listed (not-true (decides_nothing has_prefix pattern) (and_right (lists (patterns_in constraint) pattern) (decides pattern) kept)))))

@@ -30,7 +30,7 @@ use Rattle.sv_findings.proofs.OpenedLemmas.{kept_any}
 use Rattle.sv_findings.proofs.OverruledLemmas.{all_others, no_from, swapped}
 use Rattle.sv_findings.specs.FindingLaws.{ChangesNothing, DecideAlikeWithout, IsRight, OverruledIsRemovable, says_overruled}
 use Rattle.sv_findings.specs.Findings.{findings_of}
-use Rattle.sv_findings.specs.Overruled.{has_number, others}
+use Rattle.sv_overruled.specs.Overruled.{has_number, others}
 use Rattle.sv_findings.specs.declared.finding.Finding.{Finding}
 use Rattle.sv_findings.specs.declared.finding.Finding.TheVariants.{Opened, Uncovered, ReadOtherwise, HeadDiffers, Dead, DeadPattern, Overruled, Unreached, Unserved, Escaped, LoginNeeds, UnknownRole, UnheldRole, UnusedRole}
 use Rattle.sv_findings.specs.declared.surroundings.Surroundings.{Surroundings}

@@ -20,8 +20,8 @@ use Rattle.sv_audit.specs.Access.{roles_meant}
 use Rattle.sv_audit.specs.DifferenceLaws.{Configuration, fate_of}
 use Rattle.sv_audit.specs.Shapes.{IsServed}
 use Rattle.sv_findings.specs.Dead.{decides_nothing, is_dead, is_escaped, is_tried_late}
-use Rattle.sv_findings.specs.Overruled.{others}
-use Rattle.sv_findings.specs.declared.overruled.TheConstants.{MAX_COMPARED_AT_PATTERN}
+use Rattle.sv_overruled.specs.Overruled.{others}
+use Rattle.sv_overruled.specs.declared.overruled.TheConstants.{MAX_COMPARED_AT_PATTERN}
 use Rattle.sv_findings.specs.Findings.{findings_of}
 use Rattle.sv_findings.specs.Reach.{is_reached}
 use Rattle.sv_findings.specs.MetRows.{is_met}

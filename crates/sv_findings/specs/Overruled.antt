@@ -1,84 +1,45 @@
 -- Constraints without which each request is decided alike (Jakarta Servlet 6.0, sections 13.8.1 and 13.8.3).
-use Rattle.std.specs.Prelude.{ℕ, Bool, not, ◌&&◌, ◌||◌, ◌==◌, nat_lt, List, [], ◌∷◌, length, codes, filter, Option, None, Some, if◌then◌else◌}
+use Rattle.std.specs.Prelude.{◌≡◌, ℕ, Bool, not, ◌&&◌, ◌==◌, List, [], ◌∷◌, length, codes, filter, if◌then◌else◌, Vec}
+use Rattle.std.specs.Borrow.{Bor}
+use Rattle.std.proofs.Common.{Global}
+use Rattle.std.specs.HashMap.{HashMap, get_by}
 use Rattle.std.specs.List.{flat_map, list_all, list_any}
+use Rattle.std.specs.Option.{option_map_or}
+use Rattle.std.specs.Str.{bytes_eq}
 use Rattle.sv_constraints.specs.Covering.{all_patterns, lists, patterns_in}
-use Rattle.sv_constraints.specs.Verdict.{is_open, permits_plain, precludes}
 use Rattle.sv_constraints.specs.declared.constraint.Constraint.{Constraint}
 use Rattle.sv_constraints.specs.declared.constraint.Rules.{Rules}
-use Rattle.sv_policy.specs.Covering.{covers_at, named_methods}
-use Rattle.sv_policy.specs.Merged.{admits_everyone}
 use Rattle.sv_policy.specs.Patterns.{lists_pattern}
-use Rattle.sv_policy.specs.Uncovered.{rising}
-use Rattle.sv_audit.specs.Access.{roles_meant}
+use Rattle.sv_overruled.specs.Overruled.{overruled_at}
 use Rattle.sv_findings.specs.Dead.{decides_nothing}
 use Rattle.sv_findings.specs.declared.finding.Finding.{Finding}
 use Rattle.sv_findings.specs.declared.finding.Finding.TheVariants as finding
-use Rattle.sv_findings.specs.declared.overruled.TheConstants.{MAX_COMPARED_AT_PATTERN}
+use Rattle.sv_findings.specs.declared.overruled.OverruledByPattern.{OverruledByPattern}
 
-abbrev pub has_number : ℕ → Constraint → Bool
-has_number number constraint = constraint.number == number
+-- The numbers of the constraints that change nothing at the pattern.
+abbrev pub numbers_at : Rules → List Constraint → List ℕ → List ℕ
+numbers_at rules constraints pattern = overruled_at rules pattern (filter (λ constraint. lists_pattern constraint pattern) constraints)
 
--- The constraints with other numbers.
-abbrev pub others : ℕ → List Constraint → List Constraint
-others number members = filter (λ member. not (has_number number member)) members
+-- Whether the constraint with this number is one that changes nothing at the pattern.
+abbrev pub is_overruled_at : Rules → List Constraint → ℕ → List ℕ → Bool
+is_overruled_at rules constraints number pattern = list_any (λ its_number. its_number == number) (numbers_at rules constraints pattern)
 
--- The roles that constraints mean.
-abbrev pub all_meant : List (List ℕ) → List Constraint → List (List ℕ)
-all_meant declared members = flat_map (λ member. roles_meant declared member.auth) members
+-- What is entered for a pattern, and whether it is right for each.
+abbrev pub numbers_in : {S : Type 0} → HashMap (Bor (List ℕ)) (Vec ℕ Global) S → List ℕ → List ℕ
+numbers_in entered pattern = option_map_or (λ numbers. numbers.items) (get_by (λ key. bytes_eq pattern key.now) entered) []
 
--- Whether each role that the constraint means is among those that the others mean.
-abbrev pub mean_its_roles : List (List ℕ) → Constraint → List Constraint → Bool
-mean_its_roles declared constraint others = list_all (lists (all_meant declared others)) (roles_meant declared constraint.auth)
-
--- Whether the others admit each authenticated caller whom the constraint admits: one admits all, or they mean its roles.
-abbrev pub admit_its_callers : List (List ℕ) → Constraint → List Constraint → Bool
-admit_its_callers declared constraint others = list_any admits_everyone others || (not (admits_everyone constraint) && mean_its_roles declared constraint others)
-
--- The same for requests without a caller, too.
-abbrev pub admit_no_less : List (List ℕ) → Constraint → List Constraint → Bool
-admit_no_less declared constraint others = list_any is_open others || (not (is_open constraint) && admit_its_callers declared constraint others)
-
--- Whether a plain connection is sufficient for one of the others, if it is for the constraint.
-abbrev pub permit_no_less : Constraint → List Constraint → Bool
-permit_no_less constraint others = not (permits_plain constraint) || list_any permits_plain others
-
--- Whether requests that the constraint and the others cover are decided alike by the others: one of them precludes
--- everyone, or the constraint does not, and it opens nothing that the others do not open (section 13.8.1).
-abbrev pub decide_alike : Rules → Constraint → List Constraint → Bool
-decide_alike rules constraint others =
-    not (length others == 0) && (list_any precludes others || (not (precludes constraint) && (permit_no_less constraint others && admit_no_less rules.declared constraint others)))
-
--- Whether, without the constraint with this number, the others decide requests differently that all of these cover.
-abbrev pub matters_among : Rules → ℕ → List Constraint → Bool
-matters_among rules number members = list_any (λ own. has_number number own && not (decide_alike rules own (others number members))) members
-
--- The same for a method at a pattern or, without a method, for the methods that are not named there.
-abbrev pub matters_for : Rules → ℕ → List ℕ → List Constraint → Option (List ℕ) → Bool
-matters_for rules number pattern members method = matters_among rules number (filter (λ member. covers_at member pattern method) members)
-
--- The same for all methods at the pattern. Many methods are not compared, and the constraint counts as one that matters.
-unfoldable pub matters_on : Rules → ℕ → List ℕ → List Constraint → Bool
-matters_on rules number pattern members =
-    let named = rising (named_methods members pattern) in
-    nat_lt MAX_COMPARED_AT_PATTERN (length named) || (list_any (λ method. matters_for rules number pattern members (Some method)) named || matters_for rules number pattern members None)
-
--- The same for the constraints that list the pattern. So does a constraint without others there, and many are not
--- compared, either.
-abbrev pub matters_by : Rules → ℕ → List ℕ → List Constraint → Bool
-matters_by rules number pattern members = length (others number members) == 0 || (nat_lt MAX_COMPARED_AT_PATTERN (length members) || matters_on rules number pattern members)
-
-abbrev pub matters_at : Rules → List Constraint → ℕ → List ℕ → Bool
-matters_at rules constraints number pattern = matters_by rules number pattern (filter (λ constraint. lists_pattern constraint pattern) constraints)
+abbrev pub AreOverruled : Rules → List Constraint → OverruledByPattern → Type 0
+AreOverruled rules constraints overruled = (pattern : List ℕ) → numbers_in overruled.numbers pattern ≡ numbers_at rules constraints pattern
 
 -- The patterns of the constraint that may decide.
 abbrev pub deciding_patterns : Bool → Constraint → List (List ℕ)
 deciding_patterns has_prefix constraint = filter (λ pattern. not (decides_nothing has_prefix pattern)) (patterns_in constraint)
 
--- Whether the constraint has patterns that may decide, and matters at none of them.
+-- Whether the constraint has patterns that may decide, and changes nothing at any of them.
 abbrev pub is_overruled : Rules → List Constraint → Bool → Constraint → Bool
 is_overruled rules constraints has_prefix constraint =
     let patterns = deciding_patterns has_prefix constraint in
-    not (length patterns == 0) && not (list_any (matters_at rules constraints constraint.number) patterns)
+    not (length patterns == 0) && list_all (is_overruled_at rules constraints constraint.number) patterns
 
 abbrev pub overruled_in : Rules → List Constraint → Bool → Constraint → List Finding
 overruled_in rules constraints has_prefix constraint = if is_overruled rules constraints has_prefix constraint then finding.Overruled constraint.number ∷ [] else []

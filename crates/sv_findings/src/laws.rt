@@ -1,7 +1,6 @@
 //! Theorems about findings, each the contract of a function that only calls other theorems.
 
 ghost use Rattle.std.specs.Prelude.{◌≡◌};
-ghost use Rattle.sv_findings.specs.declared.overruled.TheConstants.{MAX_COMPARED_AT_PATTERN};
 ghost use Rattle.sv_findings.specs.declared.unserved.TheConstants.{MAX_SERVED_PATTERNS};
 ghost use Rattle.sv_findings.specs.Reach.{ElsewhereIsForeign, HiddenIsProtected, ServedIsReached};
 ghost use Rattle.sv_findings.specs.FindingLaws.{BestDecides, DeadIsFound, FindingsAreRight, HeadIsFound, OpenedIsFound, OverruledIsFound, OverruledIsRemovable, ReadingIsFound, UncoveredIsFound, UnreachedIsFound};
@@ -72,8 +71,7 @@ pub fn reach_is_right()
     ensures reached { ServedIsReached }
 {}
 
-/// The limits of this crate as numbers.
+/// The limit of this crate as a number.
 pub fn limits_are_as_stated()
-    ensures patterns { MAX_SERVED_PATTERNS ≡ 2000 }
-    ensures compared { MAX_COMPARED_AT_PATTERN ≡ 16 }
+    ensures { MAX_SERVED_PATTERNS ≡ 2000 }
 {}

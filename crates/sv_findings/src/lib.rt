@@ -26,7 +26,6 @@ pub use laws::{
     overruled_constraints_change_nothing, reach_is_right,
 };
 pub use met_rows::{is_met, row_reach};
-pub use overruled::MAX_COMPARED_AT_PATTERN;
 pub use reach::{Reach, Reaches, reach_of};
 pub use surroundings::{LoginPage, Surroundings};
 pub use unserved::MAX_SERVED_PATTERNS;

@@ -14,9 +14,10 @@ ghost use Rattle.sv_findings.specs.Opened as spec;
 
 use crate::finding::Finding;
 use std::alloc::Global;
-use sv_audit::{Row, covering, covering_findings, focused, sorted};
-use sv_constraints::{Auth, Constraint, Methods, Rules, lesser};
-use sv_policy::{Groups, grouped, named_methods};
+use sv_audit::{Row, covering, covering_findings, focused};
+use sv_constraints::{Constraint, Methods, Rules, lesser};
+use sv_overruled::{is_any_open, rising_names};
+use sv_policy::{Groups, grouped};
 use sv_text::{Listed, NoMemory, Text};
 
 /// Appends the patterns at which a constraint without an authorization constraint lets everyone in although another one
@@ -90,22 +91,11 @@ fn push_opened_by(
     push_opened_on(findings, alloc, rules, pattern, borrowed.as_slice())
 }
 
-/// Returns whether one of the constraints has no authorization constraint.
-pub fn is_any_open(members: &[&Constraint]) -> bool
-    ensures { result ≡ list_any (λ member. is_open member.now) members.now }
-{
-    members
-        .iter()
-        .any(|member| matches!(member.auth, Auth::Absent))
-}
-
 /// Returns whether one of the constraints has an authorization constraint.
 fn is_any_restricted(members: &[&Constraint]) -> bool
     ensures { result ≡ list_any (λ member. spec.is_restricted member.now) members.now }
 {
-    members
-        .iter()
-        .any(|member| matches!(member.auth, Auth::Roles(_)))
+    members.iter().any(|member| !member.is_open())
 }
 
 /// Appends a pattern with its opened methods and the least numbers of two such constraints, if there are any.
@@ -198,18 +188,6 @@ fn push_exception(
     Ok(())
 }
 
-/// Returns the different methods that constraints name at the pattern, in ascending byte order.
-pub fn rising_names<'a>(
-    alloc: Global,
-    members: &[&'a Constraint],
-    pattern: &str,
-) -> Result<Vec<&'a str>, NoMemory>
-    ensures { IfOk result (λ names. map (λ name. name.now) names.items ≡ rising (named_methods (map (λ member. member.now) members.now) pattern.now)) }
-{
-    let names = named_methods(alloc, members, pattern)?;
-    sorted(alloc, names.as_slice())
-}
-
 /// Returns the pair of the constraints that cover the method or, without a method, those that are not named.
 fn opened_for(
     alloc: Global,
@@ -250,10 +228,7 @@ fn least_restricted(members: &[&Constraint]) -> Option<u64>
 fn number_if_restricted(member: &Constraint) -> Option<u64>
     ensures { result ≡ then_some (spec.is_restricted member.now) member.now.number }
 {
-    match member.auth {
-        Auth::Absent => None,
-        Auth::Roles(_) => Some(member.number),
-    }
+    (!member.is_open()).then_some(member.number)
 }
 
 /// Returns both numbers, if both are present.
