@@ -9,6 +9,7 @@ use Rattle.std.specs.Prelude.{All, Contains, Err, IsTrue, Ok, Result, filter, fi
 use Rattle.std.specs.List.{flat_map, list_all, list_any}
 use Rattle.std.specs.Option.{option_and_then, option_map_or, option_to_list}
 use Rattle.std.specs.Str.{bytes_eq}
+use Rattle.sv_mapping.specs.Protected.{is_protected}
 use Rattle.sv_mapping.specs.BestMatch.{best_pattern, is_best, outranks}
 use Rattle.sv_mapping.specs.Pattern.{form, is_at_or_below, is_extension_pattern, matches}
 use Rattle.sv_mapping.specs.Segments.{is_rooted}
@@ -572,7 +573,7 @@ module _ (constraints : List Constraint) (rules : Rules) (surroundings : Surroun
 
   barred_of : (path : List ℕ) (result : Result Canon PathFault) → lists (needed_of surroundings.contexts surroundings.path constraints rules result) path ≡ true → IsBarred path
   barred_of path (Ok canon) there =
-      one_barred (path_within surroundings.path canon.path) path (is_at_or_below surroundings.path canon.path && serves surroundings.contexts surroundings.path canon.path)
+      one_barred (path_within surroundings.path canon.path) path (is_at_or_below surroundings.path canon.path && serves surroundings.contexts surroundings.path canon.path && not (is_protected (path_within surroundings.path canon.path)))
       (is_barred constraints rules (path_within surroundings.path canon.path)) refl there
   barred_of path (Err fault) there = absurd (false≢true there)
 

@@ -10,6 +10,7 @@ use Rattle.sv_constraints.specs.declared.constraint.Constraint.{Constraint}
 use Rattle.sv_constraints.specs.declared.constraint.Rules.{Rules}
 use Rattle.sv_constraints.specs.declared.owned_decision.OwnedDecision.{OwnedDecision}
 use Rattle.sv_constraints.specs.declared.owned_decision.OwnedDecision.TheVariants.{Open, Login, Denied}
+use Rattle.sv_mapping.specs.Protected.{is_protected}
 use Rattle.sv_mapping.specs.Pattern.{extension, is_at_or_below}
 use Rattle.sv_mapping.specs.Within.{path_within}
 use Rattle.sv_policy.specs.Patterns.{different}
@@ -80,10 +81,11 @@ bars (Denied why) = is_other why.cause
 abbrev pub is_barred : List Constraint → Rules → List ℕ → Bool
 is_barred constraints rules path = bars (verdict constraints rules (codes "GET") path None)
 
--- The path within the context, if the context serves it and a request without a caller may not get it.
+-- The path within the context, if the context serves it, it is in no hidden folder (section 10.5), and a request without
+-- a caller may not get it.
 abbrev pub needed_path : List (List ℕ) → List ℕ → List Constraint → Rules → List ℕ → List (List ℕ)
 needed_path contexts context constraints rules path =
-    if is_at_or_below context path && serves contexts context path && is_barred constraints rules (path_within context path) then path_within context path ∷ [] else []
+    if is_at_or_below context path && serves contexts context path && not (is_protected (path_within context path)) && is_barred constraints rules (path_within context path) then path_within context path ∷ [] else []
 
 abbrev pub needed_of : List (List ℕ) → List ℕ → List Constraint → Rules → Result Canon PathFault → List (List ℕ)
 needed_of contexts context constraints rules (Ok canon) = needed_path contexts context constraints rules canon.path

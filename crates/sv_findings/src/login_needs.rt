@@ -14,7 +14,7 @@ use crate::role_findings::push_once;
 use crate::surroundings::LoginPage;
 use std::alloc::Global;
 use sv_constraints::{Cause, Constraint, Decision, Rules, decide_plain};
-use sv_mapping::{extension, is_at_or_below, path_within};
+use sv_mapping::{extension, is_at_or_below, is_protected, path_within};
 use sv_text::{NoMemory, Text};
 use sv_uri::canon;
 use sv_uri::fault::CanonFault;
@@ -25,7 +25,7 @@ const LOADED_ENDINGS: [&str; 11] = [
 ];
 
 /// Appends the paths within the context of style sheets, scripts, pictures and fonts that the login page refers to, and
-/// that a request without a caller may not get, each once.
+/// that a request without a caller may not get, each once. Paths in hidden folders are left out: nobody may get them.
 pub fn push_login_needs(
     findings: &mut Vec<Finding>,
     alloc: Global,
@@ -263,7 +263,7 @@ fn push_canonical(
         return Ok(());
     }
     let within = path_within(context, path);
-    if reaches.serves(path) && is_barred(constraints, rules, within) {
+    if reaches.serves(path) && !is_protected(within) && is_barred(constraints, rules, within) {
         paths.push(Text::copy_of(alloc, within)?)?;
     }
     Ok(())

@@ -86,7 +86,7 @@ abbrev pub remedy : Finding → List ℕ
 remedy (Opened pattern methods opening guarded) = codes "Name roles in both, or take the pattern out of one of them."
 remedy (Uncovered pattern methods) = codes "Cover all methods there, or set deny-uncovered-http-methods."
 remedy (ReadOtherwise pattern methods other) = codes "Cover all methods at the prefix, so that both decide alike."
-remedy (HeadDiffers pattern get head) = codes "Name HEAD wherever GET is named."
+remedy (HeadDiffers pattern get head) = codes "Name both GET and HEAD, or neither, in each collection."
 remedy (Dead number) = codes "No path matches its patterns, or /* is chosen before them. Change them, or remove it."
 remedy (DeadPattern number pattern) = codes "No path matches it, or /* is chosen before it. Change it, or remove it."
 remedy (Overruled number) = codes "Remove it alone and audit again, or say what it should restrict."

@@ -248,7 +248,7 @@ pub fn remedy(finding: &Finding) -> &'static str
         Finding::ReadOtherwise(_, _, _) => {
             "Cover all methods at the prefix, so that both decide alike."
         }
-        Finding::HeadDiffers(_, _, _) => "Name HEAD wherever GET is named.",
+        Finding::HeadDiffers(_, _, _) => "Name both GET and HEAD, or neither, in each collection.",
         Finding::Dead(_) => {
             "No path matches its patterns, or /* is chosen before them. Change them, or remove it."
         }

@@ -1,10 +1,4 @@
-use Rattle.std.proofs.Common.{◌≡◌, ◌++◌, ◌+◌, List, take, ap, sym, ◌∙◌}
-use Rattle.std.proofs.lemmas.List.{flat_map_more, take_more}
-use Rattle.std.specs.List.{flat_map}
-use Rattle.sv_constraints.specs.declared.constraint.Constraint.{Constraint}
-use Rattle.sv_constraints.specs.declared.constraint.Rules.{Rules}
 use Rattle.sv_findings.specs.Overruled.{overruled_in}
-use Rattle.sv_findings.specs.declared.finding.Finding.{Finding}
 use Rattle.sv_findings.proofs.OverruledSteps.{joined_more}
 use Rattle.sv_findings.proofs.overruled.push_overruled.Goals as goal
 

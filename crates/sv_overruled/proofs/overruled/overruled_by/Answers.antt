@@ -1,4 +1,4 @@
-use Rattle.std.proofs.Common.{◌≡◌, ◌||◌, ◌==◌, ℕ, Bool, List, length, not, ap, sym, ◌∙◌, Global}
+use Rattle.std.proofs.Common.{◌||◌, ◌==◌, ℕ, Bool, List, length, not, ap, sym, ◌∙◌, Global}
 use Rattle.std.specs.Borrow.{Bor}
 use Rattle.std.specs.Prelude.{Vec}
 use Rattle.std.specs.List.{list_any}
@@ -21,8 +21,8 @@ its_items numbers = numbers.items
 pub loop-member-preserved : goal.loop-member-preserved
 loop-member-preserved c =
     elim c.if-not-branch.branch [
-      then-not-branch+in_ok-push w ↦ one_kept (test c.args.rules.now c.args.members.now c.args.coverings.now) c.args.members.now c.loop-member.member-index c.member-item.result c.loop-member-test.true c.member-item.is c.loop-member.numbers.items c.if-not-branch.numbers.items c.loop-member.invariant
-        (ap not (sym c.in_ok-matters.ensures ∙ w.if-not-branch.true)) (ap its_items w.numbers-is ∙ w.in_ok-push.ensures.items)
-    | else-not-branch w ↦ one_left (test c.args.rules.now c.args.members.now c.args.coverings.now) c.args.members.now c.loop-member.member-index c.member-item.result c.loop-member-test.true c.member-item.is c.loop-member.numbers.items c.if-not-branch.numbers.items c.loop-member.invariant
-        (ap not (sym c.in_ok-matters.ensures ∙ w.if-not-branch.false)) (ap its_items w.numbers-is)
+      | then-not-branch+in_ok-push w ↦ one_kept (test c.args.rules.now c.args.members.now c.args.coverings.now) c.args.members.now c.loop-member.member-index c.member-item.result c.loop-member-test.true c.member-item.is c.loop-member.numbers.items c.if-not-branch.numbers.items c.loop-member.invariant
+          (ap not (sym c.in_ok-matters.ensures ∙ w.if-not-branch.true)) (ap its_items w.numbers-is ∙ w.in_ok-push.ensures.items)
+      | else-not-branch w ↦ one_left (test c.args.rules.now c.args.members.now c.args.coverings.now) c.args.members.now c.loop-member.member-index c.member-item.result c.loop-member-test.true c.member-item.is c.loop-member.numbers.items c.if-not-branch.numbers.items c.loop-member.invariant
+          (ap not (sym c.in_ok-matters.ensures ∙ w.if-not-branch.false)) (ap its_items w.numbers-is)
     ]

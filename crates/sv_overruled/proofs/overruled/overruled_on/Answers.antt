@@ -4,8 +4,7 @@ use Rattle.std.specs.Prelude.{filter, nat_lt}
 use Rattle.sv_constraints.specs.Covering.{covers}
 use Rattle.sv_constraints.specs.declared.constraint.Constraint.{Constraint}
 use Rattle.sv_policy.proofs.Listed.{length_seen}
-use Rattle.sv_policy.specs.Covering.{covers_unnamed, named_methods}
-use Rattle.sv_policy.specs.Uncovered.{rising}
+use Rattle.sv_policy.specs.Covering.{covers_unnamed}
 use Rattle.sv_audit.proofs.Filters.{map_twice}
 use Rattle.sv_overruled.specs.declared.overruled.TheConstants.{MAX_COMPARED_AT_PATTERN}
 use Rattle.sv_overruled.proofs.OverruledSteps.{from_coverings, more, no_more, none_of_many_names, these}

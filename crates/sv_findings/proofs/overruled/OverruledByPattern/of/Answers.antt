@@ -18,13 +18,13 @@ entered_for rules text its_text before members = cond (bytes_eq text its_text) (
 pub loop-pattern-preserved : goal.loop-pattern-preserved
 loop-pattern-preserved c = λ constraints are text.
     elim c.match-on.branch [
-      in-Some+in_ok-enter w ↦ entered_more (numbers_at c.args.rules.now constraints) text c.text-text.result.now c.as_slice-pattern-items.result.now c.loop-pattern.pattern-index c.pattern-item.result c.loop-pattern-test.true c.pattern-item.is (sym c.text-text.ensures.value)
-        (numbers_in c.loop-pattern.numbers text) (numbers_in c.match-on.numbers text) (c.loop-pattern.invariant constraints are text)
-        (ap (λ entered. numbers_in entered text) w.numbers-is
-        ∙ w.in_ok-enter.ensures text
-        ∙ ap (entered_for c.args.rules.now text c.text-text.result.now (numbers_in c.loop-pattern.numbers text)) (ap these w.as_slice.ensures.value ∙ w.in-Some.ensures constraints are))
-    | in_default w ↦ ap (λ entered. numbers_in entered text) w.numbers-is
-        ∙ left_out (numbers_at c.args.rules.now constraints) text c.text-text.result.now c.as_slice-pattern-items.result.now c.loop-pattern.pattern-index c.pattern-item.result c.loop-pattern-test.true c.pattern-item.is (sym c.text-text.ensures.value)
-        (numbers_in c.loop-pattern.numbers text) (c.loop-pattern.invariant constraints are text)
-        (ap (overruled_at c.args.rules.now c.text-text.result.now) (w.in_default.ensures constraints are))
+      | in-Some+in_ok-enter w ↦ entered_more (numbers_at c.args.rules.now constraints) text c.text-text.result.now c.as_slice-pattern-items.result.now c.loop-pattern.pattern-index c.pattern-item.result c.loop-pattern-test.true c.pattern-item.is (sym c.text-text.ensures.value)
+          (numbers_in c.loop-pattern.numbers text) (numbers_in c.match-on.numbers text) (c.loop-pattern.invariant constraints are text)
+          (ap (λ entered. numbers_in entered text) w.numbers-is
+          ∙ w.in_ok-enter.ensures text
+          ∙ ap (entered_for c.args.rules.now text c.text-text.result.now (numbers_in c.loop-pattern.numbers text)) (ap these w.as_slice.ensures.value ∙ w.in-Some.ensures constraints are))
+      | in_default w ↦ ap (λ entered. numbers_in entered text) w.numbers-is
+          ∙ left_out (numbers_at c.args.rules.now constraints) text c.text-text.result.now c.as_slice-pattern-items.result.now c.loop-pattern.pattern-index c.pattern-item.result c.loop-pattern-test.true c.pattern-item.is (sym c.text-text.ensures.value)
+          (numbers_in c.loop-pattern.numbers text) (c.loop-pattern.invariant constraints are text)
+          (ap (overruled_at c.args.rules.now c.text-text.result.now) (w.in_default.ensures constraints are))
     ]
