@@ -36,5 +36,5 @@ pub use parts::{joined, push_all};
 pub use places::{constraint_text, line_at, line_of, number_text, place_text};
 pub use report::{Answers, ContextReport, ReportedFinding, ReportedRow, Viewer};
 pub use transport::has_tls;
-pub use viewers::{context_text, entry_text, hidden_text, unmatched_text, viewer_title};
+pub use viewers::{context_text, entry_text, hidden_text, may_enter, unmatched_text, viewer_title};
 pub use words::{methods_text, names_text, pattern_text, shown_pattern, who_text};
