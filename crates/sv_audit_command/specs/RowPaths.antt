@@ -1,9 +1,10 @@
 -- The additions of a report to the rows of an access table (Jakarta Servlet 6.0, sections 12.1 and 13.8).
-use Rattle.std.specs.Prelude.{ℕ, Bool, false, nat_lt, List, [], length, map, Option, None, Some, option_and_then, if◌then◌else◌}
+use Rattle.std.specs.Prelude.{ℕ, Bool, false, not, nat_lt, List, [], filter, length, map, Option, None, Some, option_and_then, if◌then◌else◌}
 use Rattle.std.specs.List.{flat_map}
 use Rattle.std.specs.Option.{option_to_list}
 use Rattle.sv_audit.specs.Examples as examples
 use Rattle.sv_audit.specs.Narrower.{narrower}
+use Rattle.sv_audit.specs.Shapes.{matches_nothing}
 use Rattle.sv_audit.specs.declared.narrower_patterns.Narrower.{Narrower}
 use Rattle.sv_audit.specs.declared.rows.Row.{Row}
 use Rattle.sv_findings.specs.MetRows.{row_reach}
@@ -49,8 +50,12 @@ reported_row patterns answered others reaches has_prefix nested its_row = record
   reach = reach_at reaches has_prefix its_row.pattern;
 }
 
+-- The pattern of a row, if it matches some canonical path.
+abbrev pub row_pattern : Row → List (List ℕ)
+row_pattern row = filter (λ pattern. not (matches_nothing pattern)) (option_to_list row.pattern)
+
 abbrev pub row_patterns : List Row → List (List ℕ)
-row_patterns rows = flat_map (λ row. option_to_list row.pattern) rows
+row_patterns rows = flat_map row_pattern rows
 
 abbrev pub reported_rows : ContextPatterns → List (List ℕ) × List ℕ → Bool → List (List ℕ) → List Row → List ReportedRow
 reported_rows patterns reaches has_prefix nested rows = map (reported_row patterns (answered_paths patterns) (row_patterns rows) reaches has_prefix nested) rows

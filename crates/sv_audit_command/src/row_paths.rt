@@ -2,7 +2,6 @@
 //! paths of the row, and the patterns that are chosen before that of the row.
 
 ghost use Rattle.std.specs.Prelude.{◌≡◌, ◌++◌, OnOk, map};
-ghost use Rattle.std.specs.Option.{option_to_list};
 ghost use Rattle.sv_audit.specs.Examples as examples;
 ghost use Rattle.sv_text.specs.Gives.{GivesAnswer};
 ghost use Rattle.sv_audit_command.specs.RowPaths as spec;
@@ -10,7 +9,7 @@ ghost use Rattle.sv_audit_command.specs.RowPaths as spec;
 use crate::context_patterns::{ContextPatterns, servlet_at};
 use crate::row_answers::{AnsweredPaths, answered_paths, answers_at, borrowed};
 use std::alloc::Global;
-use sv_audit::{Narrower, Row, example_of, narrower};
+use sv_audit::{Narrower, Row, example_of, matches_nothing, narrower};
 use sv_findings::{Reach, Reaches, row_reach};
 use sv_mapping::PatternTable;
 use sv_report::ReportedRow;
@@ -172,12 +171,15 @@ fn row_patterns(alloc: Global, rows: &[Row]) -> Result<Listed<Text>, NoMemory>
     Ok(Listed::from_vec(patterns))
 }
 
+/// Appends the pattern of a row, unless it matches no canonical path.
 fn push_row_pattern(patterns: &mut Vec<Text>, alloc: Global, row: &Row) -> Result<(), NoMemory>
-    ensures { OnOk result (patterns.new.items ≡ patterns.old.items ++ option_to_list row.now.pattern) }
+    ensures { OnOk result (patterns.new.items ≡ patterns.old.items ++ spec.row_pattern row.now) }
 {
     let Some(pattern) = &row.pattern else {
         return Ok(());
     };
-    patterns.push(Text::copy_of(alloc, pattern.as_str())?)?;
+    if !matches_nothing(pattern.as_str()) {
+        patterns.push(Text::copy_of(alloc, pattern.as_str())?)?;
+    }
     Ok(())
 }

@@ -4,6 +4,8 @@ use Rattle.sv_audit.specs.declared.access.Access.{Access}
 use Rattle.sv_audit.specs.declared.access.Access.TheVariants.{Unconstrained, Uncovered, UncoveredDenied, Precluded, NeedsTls, Everyone, AnyLogin, Roles}
 use Rattle.sv_report.specs.Parts.{joined}
 use Rattle.sv_report.specs.Places.{constraint_text}
+use Rattle.sv_report.specs.Viewers.{may_enter}
+use Rattle.sv_report.specs.declared.report.Viewer.{Viewer}
 
 -- The class of a cell, which gives its color.
 abbrev pub class_of : Bool → Access → List ℕ
@@ -16,6 +18,11 @@ class_of has_login Everyone = codes "open"
 class_of has_login AnyLogin = if has_login then codes "login" else codes "nobody"
 class_of has_login (Roles []) = codes "nobody"
 class_of has_login (Roles (name ∷ names)) = if has_login then codes "login" else codes "nobody"
+
+-- With a viewer who may not enter, it is that of cells for nobody.
+abbrev pub class_for : Option Viewer → Bool → Access → List ℕ
+class_for None has_login access = class_of has_login access
+class_for (Some viewer) has_login access = if may_enter viewer has_login access then class_of has_login access else codes "nobody"
 
 abbrev pub login_reason : Bool → List ℕ → List ℕ
 login_reason has_login reason = if has_login then reason else codes "A login is needed, and the context has no login configuration (section 13.6)."

@@ -2,7 +2,7 @@
 use Rattle.std.specs.Prelude.{ℕ, List, [], ◌∷◌, codes, Option}
 use Rattle.std.specs.List.{flat_map}
 use Rattle.sv_audit.specs.declared.rows.Group.{Group}
-use Rattle.sv_page.specs.CellWords.{class_of, explanation, reason}
+use Rattle.sv_page.specs.CellWords.{class_for, explanation, reason}
 use Rattle.sv_report.specs.AnswerWords.{answers_text}
 use Rattle.sv_report.specs.Details.{paths_text}
 use Rattle.sv_page.specs.Markup.{html_text}
@@ -28,7 +28,7 @@ why_text context group = explanation context.lines (reason context.has_login gro
 -- The cell of a group of methods.
 unfoldable pub group_html : ContextReport → Group → List ℕ
 group_html context group = cell_html
-    (class_of context.has_login group.cell.access)
+    (class_for context.viewer context.has_login group.cell.access)
     (methods_text group.methods)
     (entry_text context.viewer context.has_login group.cell.access)
     (why_text context group)

@@ -6,11 +6,11 @@ ghost use Rattle.sv_page.specs.CellWords as spec;
 
 use std::alloc::Global;
 use sv_audit::Access;
-use sv_report::{constraint_text, joined};
+use sv_report::{Viewer, constraint_text, joined, may_enter};
 use sv_text::{NoMemory, Text};
 
 /// Returns the class of a cell, which gives its color.
-pub fn class_of(has_login: bool, access: &Access) -> &'static str
+fn class_of(has_login: bool, access: &Access) -> &'static str
     ensures { result.now ≡ spec.class_of has_login access.now }
 {
     match access {
@@ -24,6 +24,20 @@ pub fn class_of(has_login: bool, access: &Access) -> &'static str
         Access::Roles(roles) => either(
             has_login && !roles.as_slice().is_empty(),
             "login",
+            "nobody",
+        ),
+    }
+}
+
+/// Returns the class of a cell or, with a viewer who may not enter, that of cells for nobody.
+pub fn class_for(viewer: &Option<Viewer>, has_login: bool, access: &Access) -> &'static str
+    ensures { result.now ≡ spec.class_for viewer.now has_login access.now }
+{
+    match viewer {
+        None => class_of(has_login, access),
+        Some(viewer) => either(
+            may_enter(viewer, has_login, access),
+            class_of(has_login, access),
             "nobody",
         ),
     }

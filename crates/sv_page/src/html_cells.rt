@@ -8,7 +8,7 @@ ghost use Rattle.sv_page.specs.Markup.{html_text as html};
 ghost use Rattle.sv_report.specs.AnswerWords as words;
 ghost use Rattle.sv_report.specs.Details as row_details;
 
-use crate::cell_words::{class_of, explanation, reason};
+use crate::cell_words::{class_for, explanation, reason};
 use crate::markup::html_text;
 use std::alloc::Global;
 use sv_audit::Group;
@@ -178,7 +178,7 @@ fn group_html(alloc: Global, context: &ContextReport, group: &Group) -> Result<T
     let why = why_text(alloc, context, group)?;
     cell_html(
         alloc,
-        class_of(context.has_login, access),
+        class_for(&context.viewer, context.has_login, access),
         methods.as_str(),
         who.as_str(),
         why.as_str(),

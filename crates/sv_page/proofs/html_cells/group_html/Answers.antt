@@ -8,5 +8,5 @@ pub returns : goal.returns
 unfolding group_html
 returns c =
     given c.cell_html.result _ _
-    (same_cell _ _ _ _ _ _ _ _ c.class_of.ensures (c.as_str.ensures ∙ c.in_ok-methods.ensures) (c.as_str-2.ensures ∙ c.in_ok-who.ensures) (c.as_str-3.ensures ∙ c.in_ok-why.ensures))
+    (same_cell _ _ _ _ _ _ _ _ c.class_for.ensures (c.as_str.ensures ∙ c.in_ok-methods.ensures) (c.as_str-2.ensures ∙ c.in_ok-who.ensures) (c.as_str-3.ensures ∙ c.in_ok-why.ensures))
     c.cell_html.ensures
