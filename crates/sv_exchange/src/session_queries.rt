@@ -35,6 +35,13 @@ impl Exchange {
         self.sessions.id(number)
     }
 
+    /// Returns the name of the context's session cookie, which is case-sensitive (Jakarta Servlet 6.0, section 7.1.1).
+    pub fn session_cookie_name(&self) -> &str
+        ensures { result.now ≡ self.now.cookie_settings.name }
+    {
+        self.cookie_settings.name.as_str()
+    }
+
     /// Returns the value of the attribute of the request's session with the name, which is case-sensitive. Returns
     /// `None` if there is no such attribute, or no session (Jakarta Servlet 6.0, section 7.4).
     pub fn session_get(&self, name: &str) -> Option<&str>
