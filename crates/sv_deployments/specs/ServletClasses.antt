@@ -2,7 +2,7 @@
 use Rattle.std.specs.Prelude.{ℕ, List, [], codes, if◌then◌else◌, Option, Some, None}
 use Rattle.std.specs.Str.{bytes_eq}
 use Rattle.sv_deployments.specs.declared.program_servlet.ProgramServlet.{ProgramServlet}
-use Rattle.sv_deployments.specs.declared.program_servlet.ProgramServlet.TheVariants.{Who, Paths, Nest, Go, Fail, ErrorCode, Gone, Keep, Bye, Out, Stream}
+use Rattle.sv_deployments.specs.declared.program_servlet.ProgramServlet.TheVariants.{Who, Paths, Nest, Go, Fail, ErrorCode, Gone, Keep, Bye, Out, Stream, Application}
 
 -- a new servlet of the class, without parameters or calls
 abbrev pub new_servlet : List ℕ → Option ProgramServlet
@@ -18,4 +18,5 @@ new_servlet class =
     else if bytes_eq class (codes "Bye") then Some (Bye (record {}))
     else if bytes_eq class (codes "Out") then Some (Out (record {}))
     else if bytes_eq class (codes "Stream") then Some (Stream (record { kind = [] }))
+    else if bytes_eq class (codes "Application") then Some (Application (record { location = [] }))
     else None

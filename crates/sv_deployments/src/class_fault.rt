@@ -11,7 +11,7 @@ use sv_text::{NoMemory, Text};
 
 /// The classes of the program, as the second line of a fault lists them.
 pub const CLASSES: &str = "\
-the servlets Who, Paths, Nest, Go, Fail, Err, Gone, Keep, Bye, Out and Stream, the filters Mark, Halt and Bad, \
+the servlets Who, Paths, Nest, Go, Fail, Err, Gone, Keep, Bye, Out, Stream and Application, the filters Mark, Halt and Bad, \
 and the listener Log";
 
 /// The reason why the components of a descriptor were not created. Its text is the name of the class, or `no memory`.

@@ -15,6 +15,7 @@ use crate::paths::Paths;
 use crate::stream::Stream;
 use crate::who::Who;
 use std::alloc::Global;
+use sv_application::Application;
 use sv_component::{Config, Exchange, Init, Servlet, Step};
 
 /// A servlet of one of the program's classes.
@@ -42,6 +43,8 @@ pub enum ProgramServlet {
     Out(Out),
     /// Sends its response in pieces: the class `Stream`.
     Stream(Stream),
+    /// Hands its requests over to an application behind a proxy: the class `Application`.
+    Application(Application),
 }
 
 impl ProgramServlet {
@@ -62,6 +65,7 @@ impl ProgramServlet {
             "Bye" => ProgramServlet::Bye(Bye::new()),
             "Out" => ProgramServlet::Out(Out::new()),
             "Stream" => ProgramServlet::Stream(Stream::new(alloc)),
+            "Application" => ProgramServlet::Application(Application::new(alloc)),
             _ => return None,
         })
     }
@@ -81,6 +85,7 @@ impl Servlet for ProgramServlet {
             ProgramServlet::Bye(servlet) => servlet.init(alloc, config),
             ProgramServlet::Out(servlet) => servlet.init(alloc, config),
             ProgramServlet::Stream(servlet) => servlet.init(alloc, config),
+            ProgramServlet::Application(servlet) => servlet.init(alloc, config),
         }
     }
 
@@ -97,6 +102,7 @@ impl Servlet for ProgramServlet {
             ProgramServlet::Bye(servlet) => servlet.service(alloc, exchange, turn),
             ProgramServlet::Out(servlet) => servlet.service(alloc, exchange, turn),
             ProgramServlet::Stream(servlet) => servlet.service(alloc, exchange, turn),
+            ProgramServlet::Application(servlet) => servlet.service(alloc, exchange, turn),
         }
     }
 
@@ -113,6 +119,7 @@ impl Servlet for ProgramServlet {
             ProgramServlet::Bye(servlet) => servlet.destroy(),
             ProgramServlet::Out(servlet) => servlet.destroy(),
             ProgramServlet::Stream(servlet) => servlet.destroy(),
+            ProgramServlet::Application(servlet) => servlet.destroy(),
         }
     }
 }

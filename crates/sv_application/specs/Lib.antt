@@ -1,0 +1,4 @@
+pub mod Cookies
+pub mod HandingOver
+pub mod Names
+pub mod Serving

@@ -1,0 +1,65 @@
+-- The effect of calls on the servlet `Application` and on its exchanges.
+use Rattle.std.specs.Prelude.{◌≡◌, ℕ, Bool, true, false, not, ◌&&◌, ◌||◌, ◌==◌, List, [], ◌∷◌, codes, length, MatchOption, Option, None, Some, Result, Ok, Err}
+use Rattle.std.specs.List.{list_all}
+use Rattle.std.specs.Option.{option_unwrap_or}
+use Rattle.std.specs.Str.{byte}
+use Rattle.sv_application.specs.HandingOver.{handed_over, handing_answer}
+use Rattle.sv_component.specs.Call.{Call, Inited, Serviced, Entered, Left, Heard, Destroyed}
+use Rattle.sv_component.specs.Config.{param_of}
+use Rattle.sv_component.specs.declared.answers.Init.{Init}
+use Rattle.sv_component.specs.declared.answers.Init.TheVariants as inits
+use Rattle.sv_component.specs.declared.answers.Step.{Step}
+use Rattle.sv_component.specs.declared.answers.Step.TheVariants as steps
+use Rattle.sv_component.specs.declared.config.Config.{Config}
+use Rattle.sv_exchange.specs.Dispatches.{kind_of}
+use Rattle.sv_exchange.specs.Fault.{fault_status}
+use Rattle.sv_exchange.specs.State.{State}
+use Rattle.sv_exchange.specs.declared.exchange_fault.ExchangeFault.{ExchangeFault}
+use Rattle.sv_mapping.specs.declared.kind.Kind.{Kind}
+use Rattle.sv_mapping.specs.declared.kind.Kind.TheVariants as kinds
+use Rattle.sv_uri.specs.LocationField.{is_letter_or_digit}
+
+abbrev pub is_name_byte : ℕ → Bool
+is_name_byte b = is_letter_or_digit b || b == byte "-" || b == byte "_"
+
+-- an internal location: `@` and a name
+abbrev pub is_location : List ℕ → Bool
+is_location [] = false
+is_location (first ∷ name) = first == byte "@" && not (length name == 0) && list_all is_name_byte name
+
+-- the location that the configuration gives
+abbrev pub location_in : Config → List ℕ
+location_in config = option_unwrap_or (param_of (codes "location") config.params) (codes "@application")
+
+-- an error with this status, unless memory ran out
+abbrev pub IsError : ℕ → Step → Type 0
+IsError status (steps.Error code text) = code ≡ status
+IsError status steps.NoMemory = Unit {0}
+IsError status step = ⊥
+
+-- the location is kept if it is one, unless memory ran out
+abbrev pub Inits : Config → List ℕ → Init → List ℕ → Type 0
+Inits config before inits.Ready after = (is_location (location_in config) ≡ true) × (after ≡ location_in config)
+Inits config before inits.Failed after = is_location (location_in config) ≡ false
+Inits config before inits.NoMemory after = Unit {0}
+Inits config before inits.Unavailable after = ⊥
+
+-- a request of a client was handed over, or the step is the error of this fault, unless memory ran out
+abbrev pub HandsOver : List ℕ → State → Step → State → Type 0
+HandsOver location before steps.Done after = after ≡ handed_over location before
+HandsOver location before steps.NoMemory after = Unit {0}
+HandsOver location before (steps.Error code text) after =
+    (fault : ExchangeFault) × (handing_answer location before ≡ Err fault) × (code ≡ fault_status fault)
+HandsOver location before step after = ⊥
+
+-- in any other dispatch nothing is handed over
+abbrev pub Serves : Kind → List ℕ → State → Step → State → Type 0
+Serves kinds.Request location before step after = HandsOver location before step after
+Serves kind location before step after = IsError 404 step × (after ≡ before)
+
+-- the effect of a call, with the location before and after it
+abbrev pub Steps : List ℕ → Call → List ℕ → Type 0
+Steps before (Inited config init) after = Inits config before init after
+Steps before (Serviced exchange turn step left) after = (after ≡ before) × Serves (kind_of exchange) before exchange step left
+Steps before Destroyed after = after ≡ before
+Steps before call after = Unit {0}

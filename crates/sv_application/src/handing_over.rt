@@ -1,0 +1,161 @@
+//! Requests that are handed over to an application.
+
+ghost use Rattle.std.specs.Prelude.{◌≡◌, ◌++◌, IfOk, OnOk, map, string_bytes};
+ghost use Rattle.std.specs.Option.{option_copied};
+ghost use Rattle.sv_exchange.specs.Changing.{Reaches};
+ghost use Rattle.sv_text.specs.Gives.{Gives, GivesAnswer};
+ghost use Rattle.sv_application.specs.HandingOver as spec;
+
+use crate::cookies::{cookies_text, other_cookies};
+use crate::names::{encoded_name, roles_text};
+use std::alloc::Global;
+use sv_component::{Exchange, ExchangeFault};
+use sv_realm::Caller;
+use sv_text::{NoMemory, Text};
+use sv_uri::location;
+
+/// What the application receives of a request.
+#[derive(Drop)]
+pub struct HandedOver {
+    /// The context path and the canonical path as a location, and the query.
+    pub target: Text,
+    /// The caller, if there is one.
+    pub caller: Option<CallerNames>,
+    /// The cookies without that of the session, if there are any.
+    pub cookies: Option<Text>,
+}
+
+/// The name and the roles of a caller, percent-encoded.
+#[derive(Drop)]
+pub struct CallerNames {
+    pub name: Text,
+    /// The names of the roles, separated by commas.
+    pub roles: Text,
+}
+
+/// Hands the request over to the application at an internal location of the proxy: sets the fields
+/// `x-application-target`, `x-application-caller` and `x-application-roles` if there is a caller,
+/// `x-application-cookie` if there are other cookies than that of the session, and at last `x-accel-redirect` with the
+/// internal location. Their values are of the request and its caller, as the container decided about them. The fields
+/// stay unchanged if the response is committed or an include is active (Jakarta Servlet 6.0, sections 5.2 and 9.3).
+///
+/// # Errors
+/// `BadHeader` if a value is not valid for a field, and `NoMemory`. Fields before this one may have been set, but not
+/// `x-accel-redirect`.
+pub fn hand_over(
+    alloc: Global,
+    exchange: &mut Exchange,
+    internal: &str,
+) -> Result<(), ExchangeFault>
+    ensures handed { OnOk result (exchange.new ≡ spec.handed_over internal.now exchange.old) }
+    ensures answered { Gives spec.call_fault result (spec.handing_answer internal.now exchange.old) }
+    ensures reached { Reaches exchange.old exchange.new }
+{
+    let request = handed_request(alloc, exchange)?;
+    set(exchange, "x-application-target", request.target.as_str())?;
+    set_caller(exchange, &request.caller)?;
+    set_cookies(exchange, &request.cookies)?;
+    set(exchange, "x-accel-redirect", internal)
+}
+
+/// Returns what the application receives of a request.
+fn handed_request(alloc: Global, exchange: &Exchange) -> Result<HandedOver, NoMemory>
+    ensures { GivesAnswer result (spec.handed_request exchange.now) }
+{
+    let target = target(alloc, exchange)?;
+    let caller = caller_names(alloc, exchange.caller())?;
+    let cookies = cookies(alloc, exchange)?;
+    Ok(HandedOver {
+        target,
+        caller,
+        cookies,
+    })
+}
+
+fn target(alloc: Global, exchange: &Exchange) -> Result<Text, NoMemory>
+    ensures { GivesAnswer result (spec.target exchange.now) }
+{
+    let mut text = location(alloc, exchange.client_uri())?;
+    push_query(&mut text, exchange.query())?;
+    Ok(Text::from_string(text))
+}
+
+fn push_query(text: &mut String, query: Option<&str>) -> Result<(), NoMemory>
+    ensures { OnOk result (string_bytes text.new ≡ string_bytes text.old ++ spec.query_text (option_copied query.entry)) }
+{
+    if let Some(query) = query {
+        text.push_str("?")?;
+        text.push_str(query)?;
+    }
+    Ok(())
+}
+
+fn caller_names(alloc: Global, caller: Option<&Caller>) -> Result<Option<CallerNames>, NoMemory>
+    ensures { GivesAnswer result (spec.caller_names (option_copied caller)) }
+{
+    let Some(caller) = caller else {
+        return Ok(None);
+    };
+    let name = encoded_name(alloc, caller.name.as_str())?;
+    let roles = roles_text(alloc, caller.roles.as_slice())?;
+    Ok(Some(CallerNames {
+        name: Text::from_string(name),
+        roles: Text::from_string(roles),
+    }))
+}
+
+fn cookies(alloc: Global, exchange: &Exchange) -> Result<Option<Text>, NoMemory>
+    ensures { GivesAnswer result (spec.cookies exchange.now) }
+{
+    let cookies = other_cookies(
+        alloc,
+        exchange.request_fields(),
+        exchange.session_cookie_name(),
+    )?;
+    joined_cookies(alloc, cookies.as_slice())
+}
+
+fn joined_cookies(alloc: Global, cookies: &[&str]) -> Result<Option<Text>, NoMemory>
+    ensures { GivesAnswer result (spec.joined_cookies (map (λ cookie. cookie.now) cookies.now)) }
+{
+    if cookies.is_empty() {
+        return Ok(None);
+    }
+    Ok(Some(Text::from_string(cookies_text(alloc, cookies)?)))
+}
+
+/// Sets a field.
+fn set(exchange: &mut Exchange, name: &str, value: &str) -> Result<(), ExchangeFault>
+    ensures set { OnOk result (exchange.new ≡ spec.with_field name.now value.now exchange.old) }
+    ensures answered { Gives spec.call_fault result (spec.set_answer name.now value.now exchange.old) }
+    ensures reached { Reaches exchange.old exchange.new }
+{
+    exchange.set_header(name, value)?;
+    Ok(())
+}
+
+fn set_caller(
+    exchange: &mut Exchange,
+    caller: &Option<CallerNames>,
+) -> Result<(), ExchangeFault>
+    ensures set { OnOk result (exchange.new ≡ spec.with_caller caller.now exchange.old) }
+    ensures answered { Gives spec.call_fault result (spec.caller_answer caller.now exchange.old) }
+    ensures reached { Reaches exchange.old exchange.new }
+{
+    let Some(caller) = caller else {
+        return Ok(());
+    };
+    set(exchange, "x-application-caller", caller.name.as_str())?;
+    set(exchange, "x-application-roles", caller.roles.as_str())
+}
+
+fn set_cookies(exchange: &mut Exchange, cookies: &Option<Text>) -> Result<(), ExchangeFault>
+    ensures set { OnOk result (exchange.new ≡ spec.with_cookies cookies.now exchange.old) }
+    ensures answered { Gives spec.call_fault result (spec.cookies_answer cookies.now exchange.old) }
+    ensures reached { Reaches exchange.old exchange.new }
+{
+    match cookies {
+        Some(text) => set(exchange, "x-application-cookie", text.as_str()),
+        None => Ok(()),
+    }
+}
