@@ -94,6 +94,13 @@ impl Policy {
         })
     }
 
+    /// Returns the current constraints, in their order.
+    pub fn constraints(&self) -> &[Constraint]
+        ensures { result.now ≡ self.now.constraints }
+    {
+        self.constraints.as_slice()
+    }
+
     /// Returns the gaps of the current constraints: each of their patterns that has uncovered methods, with these
     /// methods. Whether uncovered methods are denied does not matter.
     pub fn uncovered(&self, alloc: Global) -> Result<Vec<Gap>, NoMemory>
