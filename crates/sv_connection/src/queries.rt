@@ -16,6 +16,9 @@ pub trait Queries {
     /// The text about uncovered methods, if any.
     ghost uncovers: { Saying Self };
 
+    /// The text about the constraints in force, if any.
+    ghost constrains: { Saying Self };
+
     /// The text about the handler's status, if any.
     ghost stands: { Saying Self };
 
@@ -40,6 +43,14 @@ pub trait Queries {
     /// Memory ran out.
     fn uncovered(&self, alloc: Global) -> Result<Option<Bytes>, NoMemory>
         ensures { GivesAnswer result (uncovers self.now) };
+
+    /// Lists the constraints in force, as lines with their ends. The text is empty if there are none. Returns none if
+    /// this handler does not know. Nothing changes.
+    ///
+    /// # Errors
+    /// Memory ran out.
+    fn constraints(&self, alloc: Global) -> Result<Option<Bytes>, NoMemory>
+        ensures { GivesAnswer result (constrains self.now) };
 
     /// Describes the handler's status, as words that continue a line, each after a space. Returns none if this handler
     /// does not know. Nothing changes.

@@ -56,6 +56,8 @@ impl<R> Queries for WithoutQueries<R> {
 
     ghost uncovers = { λ without_queries. None };
 
+    ghost constrains = { λ without_queries. None };
+
     ghost stands = { λ without_queries. None };
 
     fn explain(
@@ -69,6 +71,10 @@ impl<R> Queries for WithoutQueries<R> {
     }
 
     fn uncovered(&self, _alloc: Global) -> Result<Option<Bytes>, NoMemory> {
+        Ok(None)
+    }
+
+    fn constraints(&self, _alloc: Global) -> Result<Option<Bytes>, NoMemory> {
         Ok(None)
     }
 

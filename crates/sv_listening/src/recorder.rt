@@ -74,6 +74,8 @@ impl<R: Queries, O, A> Queries for Recorder<R, O, A> {
 
     ghost uncovers = { λ recorder. R.uncovers recorder.within };
 
+    ghost constrains = { λ recorder. R.constrains recorder.within };
+
     ghost stands = { λ recorder. R.stands recorder.within };
 
     fn explain(
@@ -88,6 +90,10 @@ impl<R: Queries, O, A> Queries for Recorder<R, O, A> {
 
     fn uncovered(&self, alloc: Global) -> Result<Option<Bytes>, NoMemory> {
         self.within.uncovered(alloc)
+    }
+
+    fn constraints(&self, alloc: Global) -> Result<Option<Bytes>, NoMemory> {
+        self.within.constraints(alloc)
     }
 
     fn standing(&self, alloc: Global) -> Result<Option<Bytes>, NoMemory> {

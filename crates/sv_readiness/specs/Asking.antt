@@ -5,7 +5,7 @@ use Rattle.std.specs.Option.{option_and_then, option_map}
 use Rattle.sv_connection.specs.Asking.{Explaining, Saying}
 use Rattle.sv_connection.specs.declared.queries.Figures.{Figures}
 use Rattle.sv_readiness.specs.declared.control_commands.Ask.{Ask}
-use Rattle.sv_readiness.specs.declared.control_commands.Ask.TheVariants.{Explain, Status, Uncovered, Unknown}
+use Rattle.sv_readiness.specs.declared.control_commands.Ask.TheVariants.{Constraints, Explain, Status, Uncovered, Unknown}
 use Rattle.sv_readiness.specs.declared.control_commands.Ask.TheVariants as ask
 use Rattle.sv_readiness.specs.declared.limits.TheConstants.{MAX_LINE_BYTES}
 use Rattle.sv_policy.specs.declared.edit.Edit.{Edit}
@@ -55,7 +55,8 @@ or_edit None line = script_ask (asked line)
 abbrev pub ask_of : List ℕ → Ask
 ask_of line =
     if bytes_eq line (codes "status") then Status else
-    if bytes_eq line (codes "uncovered") then Uncovered else or_edit (explain_of line) line
+    if bytes_eq line (codes "uncovered") then Uncovered else
+    if bytes_eq line (codes "constraints") then Constraints else or_edit (explain_of line) line
 
 -- the figures of the connections, each after its name, and the lead in seconds of the wall clock over the time of
 -- the container
@@ -98,11 +99,12 @@ module _ {R : Type 0} (before : R) where
     EditsTo path edit (Ok (Err refused)) after = after ≡ before
     EditsTo path edit (Err fault) after = steps before (Edited path edit) (Err fault) after
 
-    module _ (explains : Explaining R) (uncovers stands : Saying R) (figures : Figures) (offset : ℤ) where
+    module _ (explains : Explaining R) (uncovers constrains stands : Saying R) (figures : Figures) (offset : ℤ) where
       -- the reply to each command, and the handler's state after it
       abbrev pub RepliesTo : Ask → Result (Result (List ℕ) NoMemory) StepFault → R → Type 0
       RepliesTo Status result after = SaysAlone (status_line figures offset (stands before)) result after
       RepliesTo Uncovered result after = SaysAlone (known_text (uncovers before)) result after
+      RepliesTo Constraints result after = SaysAlone (known_text (constrains before)) result after
       RepliesTo (ask.Edit path edit) result after = EditsTo path edit result after
       RepliesTo (Explain method target user) result after = SaysAlone (known_text (explains before method target user)) result after
       RepliesTo Unknown result after = SaysAlone (codes "unknown\n") result after

@@ -64,14 +64,14 @@ Polls before (Close number stream closing) after = after ≡ before
 Polls before (Answer figures asked) after = Asks before asked
 Polls before (Status figures) after = Unit {0}
 
-module _ {R : Type 0} (before : R) (steps : Reacting R) (explains : Explaining R) (uncovers stands : Saying R) (figures : Figures) where
+module _ {R : Type 0} (before : R) (steps : Reacting R) (explains : Explaining R) (uncovers constrains stands : Saying R) (figures : Figures) where
   -- the control socket replies to the line that it holds, or is left without memory for the reply
   abbrev pub RepliesAt : Control → Result (Unit {0}) StepFault → R → Type 0
   RepliesAt control (Ok done) after =
       (said : Result (List ℕ) NoMemory)
-      × RepliesTo before steps explains uncovers stands figures control.offset (ask_of control.line.items) (Ok said) after
+      × RepliesTo before steps explains uncovers constrains stands figures control.offset (ask_of control.line.items) (Ok said) after
   RepliesAt control (Err fault) after =
-      RepliesTo before steps explains uncovers stands figures control.offset (ask_of control.line.items) (Err fault) after
+      RepliesTo before steps explains uncovers constrains stands figures control.offset (ask_of control.line.items) (Err fault) after
 
   -- without a control socket nothing is done
   abbrev pub RepliesIfAny : Option Control → Result (Unit {0}) StepFault → R → Type 0

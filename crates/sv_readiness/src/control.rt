@@ -193,7 +193,7 @@ impl<'a> Control<'a> {
         handler: &mut R,
         now: u64,
     ) -> Result<(), StepFault>
-        ensures { RepliesAt handler.old R.steps R.explains R.uncovers R.stands figures self.old result handler.new }
+        ensures { RepliesAt handler.old R.steps R.explains R.uncovers R.constrains R.stands figures self.old result handler.new }
     {
         let line = mem::replace(&mut self.line, Vec::new(self.alloc));
         match reply(self.alloc, line.as_slice(), figures, self.offset, handler) {

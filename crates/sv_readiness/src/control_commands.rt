@@ -21,6 +21,8 @@ pub(crate) enum Ask {
     Status,
     /// List the methods that the security constraints leave uncovered.
     Uncovered,
+    /// List the security constraints in force.
+    Constraints,
     /// Explain what would happen to a request with this method and target, from this user or without a caller.
     Explain(Text, Bytes, Option<Text>),
     /// Edit the security constraints of the context with this path.
@@ -65,6 +67,9 @@ pub(crate) fn ask_of(alloc: Global, line: &[u8]) -> Result<Ask, NoMemory>
     }
     if line == b"uncovered".as_slice() {
         return Ok(Ask::Uncovered);
+    }
+    if line == b"constraints".as_slice() {
+        return Ok(Ask::Constraints);
     }
     match explain_of(alloc, line) {
         Ok(Some(ask)) => Ok(ask),

@@ -31,11 +31,12 @@ pub(crate) fn reply<R: EventHandler + Queries>(
     offset: i64,
     handler: &mut R,
 ) -> Result<Result<Bytes, NoMemory>, StepFault>
-    ensures { spec.RepliesTo handler.old R.steps R.explains R.uncovers R.stands figures offset (spec.ask_of line.now) result handler.new }
+    ensures { spec.RepliesTo handler.old R.steps R.explains R.uncovers R.constrains R.stands figures offset (spec.ask_of line.now) result handler.new }
 {
     match ask_of(alloc, line) {
         Ok(Ask::Status) => Ok(standing_text(alloc, figures, offset, handler)),
         Ok(Ask::Uncovered) => Ok(uncovered_text(alloc, handler)),
+        Ok(Ask::Constraints) => Ok(constraints_text(alloc, handler)),
         Ok(Ask::Edit(path, edit)) => edit_reply(alloc, path.as_str(), &edit, handler),
         Ok(Ask::Explain(method, target, user)) => Ok(explain_text(
             alloc, &method, &target, &user, handler,
@@ -98,6 +99,13 @@ fn uncovered_text<R: Queries>(alloc: Global, handler: &R) -> Result<Bytes, NoMem
     ensures { GivesAnswer result (spec.known_text (R.uncovers handler.now)) }
 {
     known_text(alloc, handler.uncovered(alloc)?)
+}
+
+// Returns the handler's list of constraints.
+fn constraints_text<R: Queries>(alloc: Global, handler: &R) -> Result<Bytes, NoMemory>
+    ensures { GivesAnswer result (spec.known_text (R.constrains handler.now)) }
+{
+    known_text(alloc, handler.constraints(alloc)?)
 }
 
 // Returns the text, or `unknown` if there is none.

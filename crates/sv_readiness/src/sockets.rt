@@ -394,7 +394,7 @@ fn answer_line<R: EventHandler + Queries>(
     handler: &mut R,
     now: u64,
 ) -> Result<(), StepFault>
-    ensures { RepliesIfAny handler.old R.steps R.explains R.uncovers R.stands figures control.old result handler.new }
+    ensures { RepliesIfAny handler.old R.steps R.explains R.uncovers R.constrains R.stands figures control.old result handler.new }
 {
     match control {
         Some(control) => control.answer_query(figures, handler, now),
