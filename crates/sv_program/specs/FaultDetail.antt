@@ -8,6 +8,7 @@ use Rattle.sv_journal.specs.declared.start_code.NewCode.TheVariants as new
 use Rattle.sv_journal.specs.declared.start_code.StartCode.TheVariants as start
 use Rattle.sv_program.specs.Detail.{FaultInFile, IsDetail, detail_text, named, place_text, with_path}
 use Rattle.sv_program.specs.FilePlace.{IsPlaceText, ValueInFile}
+use Rattle.sv_program.specs.Refusal.{refusal_text}
 use Rattle.sv_program.specs.Unavailable.{reason_text}
 use Rattle.sv_program.specs.declared.command_fault.CommandFault.{CommandFault}
 use Rattle.sv_program.specs.declared.command_fault.CommandFault.TheVariants as fault
@@ -68,6 +69,7 @@ IsFaultDetail (fault.Socket found) given = Says (socket_reason found) given
 IsFaultDetail (fault.Script line) given = Says (codes "the line is malformed, or the container refuses what it requests") given
 IsFaultDetail (fault.User shown) given = Says (codes "the context has no user " ++ shown) given
 IsFaultDetail (fault.Method shown) given = Says (codes "the method is not a token: " ++ shown) given
+IsFaultDetail (fault.Refused refusal) given = Says (refusal_text refusal) given
 IsFaultDetail fault.Input given = Says (codes "standard input cannot be read") given
 IsFaultDetail fault.Output given = Says (codes "standard output cannot be written, and may be incomplete") given
 IsFaultDetail fault.NoMemory given = given ≡ None

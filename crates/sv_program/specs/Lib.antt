@@ -19,5 +19,7 @@ pub mod ConfigurationFiles
 pub mod ExamplePolicy
 pub mod FirstLine
 pub mod Printed
+pub mod Refusal
+pub mod Constraints
 pub mod Uncovered
 pub mod UncoveredCommand

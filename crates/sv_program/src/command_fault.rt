@@ -8,6 +8,7 @@ ghost use Rattle.sv_program.specs.FaultLine.{line_text, shown_text};
 use crate::detail::{Detail, files_detail, socket_detail, start_detail};
 use crate::file_fault::FileFault;
 use crate::file_place::FilePlace;
+use crate::refusal::Refusal;
 use crate::socket_fault::SocketFault;
 use crate::unavailable::{Unavailable, UnavailableEntry};
 use std::alloc::{AllocError, AllocFailed};
@@ -90,6 +91,8 @@ pub enum CommandFault {
     User(Text),
     /// The text is not a method: `sv: method`, status 2. It is a TOML basic string.
     Method(Text),
+    /// A server at a control socket did not do what it was asked for: `sv: refused`, status 1.
+    Refused(Refusal),
     /// Memory ran out: `sv: no memory`, status 3.
     NoMemory,
     /// A report was written, and has this number of findings that must not be there: `sv: findings NUMBER`, status 4.
@@ -115,6 +118,7 @@ impl CommandFault {
             | CommandFault::Files { .. }
             | CommandFault::Start { .. }
             | CommandFault::Socket(_)
+            | CommandFault::Refused(_)
             | CommandFault::Faults(_) => 1,
             CommandFault::Script { .. } | CommandFault::User(_) | CommandFault::Method(_) => 2,
             CommandFault::NoMemory => 3,
@@ -148,6 +152,7 @@ impl CommandFault {
             CommandFault::Script { .. } => Some(Detail::Sentence(SCRIPT_REASON)),
             CommandFault::User(shown) => Some(Detail::User(shown.as_str())),
             CommandFault::Method(shown) => Some(Detail::Method(shown.as_str())),
+            CommandFault::Refused(refusal) => Some(Detail::Sentence(refusal.text())),
             CommandFault::Input => Some(Detail::Sentence(INPUT_REASON)),
             CommandFault::Output => Some(Detail::Sentence(OUTPUT_REASON)),
             CommandFault::NoMemory => None,
@@ -227,6 +232,7 @@ impl CommandFault {
             },
             CommandFault::User(_) => plain("sv: user"),
             CommandFault::Method(_) => plain("sv: method"),
+            CommandFault::Refused(_) => plain("sv: refused"),
             CommandFault::NoMemory => plain("sv: no memory"),
             CommandFault::Findings(number) => Line {
                 front: "sv: findings",

@@ -5,6 +5,7 @@
 mod command_fault;
 mod configuration;
 mod configuration_files;
+mod constraint_report;
 mod detail;
 mod disk;
 mod example_policy;
@@ -19,6 +20,7 @@ mod line;
 mod offending_value;
 mod output;
 mod place;
+mod refusal;
 mod sentence;
 mod socket_fault;
 mod taken;
@@ -31,6 +33,7 @@ mod value_place;
 pub use command_fault::CommandFault;
 pub use configuration::{ContextTexts, descriptor_in, realm_in, server_in, users_in};
 pub use configuration_files::{read_contexts, read_server_file};
+pub use constraint_report::constraint_lines;
 pub use detail::Detail;
 pub use disk::{Disk, FileStore, FileText};
 pub use file_fault::FileFault;
@@ -43,6 +46,7 @@ pub use limits::{
     MAX_SEARCHED_LINES, MAX_SHOWN_CHARACTERS, limits_are_as_stated, limits_of_the_second_line,
 };
 pub use output::{print_line, print_text, report_fault};
+pub use refusal::Refusal;
 pub use socket_fault::SocketFault;
 pub use sv_constraints::{OwnedDecision, OwnedWhy};
 pub use toml_value::quoted;

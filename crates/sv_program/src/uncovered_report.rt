@@ -77,7 +77,8 @@ fn push_gap(lines: &mut String, path: &str, gap: &Gap) -> Result<(), NoMemory>
     Ok(())
 }
 
-fn push_methods(line: &mut String, methods: &Methods) -> Result<(), NoMemory>
+/// Appends methods: `*` for all, their names, or `!` and the names of those that are left out.
+pub(crate) fn push_methods(line: &mut String, methods: &Methods) -> Result<(), NoMemory>
     ensures { OnOk result (string_bytes line.new ≡ string_bytes line.old ++ spec.methods_text methods.now) }
 {
     match methods {
@@ -98,7 +99,8 @@ fn push_omission(line: &mut String, names: &[Text]) -> Result<(), NoMemory>
     push_names(line, names)
 }
 
-fn push_names(line: &mut String, names: &[Text]) -> Result<(), NoMemory>
+/// Appends names, separated by commas.
+pub(crate) fn push_names(line: &mut String, names: &[Text]) -> Result<(), NoMemory>
     ensures { OnOk result (string_bytes line.new ≡ string_bytes line.old ++ spec.names_text names.now) }
 {
     let Some((name, others)) = names.split_first() else {
