@@ -1,1 +1,3 @@
 pub mod NameLemmas
+pub mod CookieLemmas
+pub mod SettingLemmas

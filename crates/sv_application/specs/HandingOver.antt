@@ -42,26 +42,33 @@ handed_request exchange = record { target = target exchange; caller = caller_nam
 
 -- ---- the fields that are set, in order
 
-abbrev pub with_field : List ℕ → List ℕ → State → State
+unfoldable pub with_field : List ℕ → List ℕ → State → State
 with_field name value before = after_all (SetHeader name value ∷ []) before
+
+abbrev pub with_names : CallerNames → State → State
+with_names names before =
+    with_field (codes "x-application-roles") names.roles (with_field (codes "x-application-caller") names.name before)
 
 abbrev pub with_caller : Option CallerNames → State → State
 with_caller None before = before
-with_caller (Some caller) before =
-    with_field (codes "x-application-roles") caller.roles (with_field (codes "x-application-caller") caller.name before)
+with_caller (Some names) before = with_names names before
 
 abbrev pub with_cookies : Option (List ℕ) → State → State
 with_cookies None before = before
 with_cookies (Some text) before = with_field (codes "x-application-cookie") text before
 
--- the exchange with the fields about the request
+abbrev pub with_client : HandedOver → State → State
+with_client request before = with_cookies request.cookies (with_caller request.caller before)
+
 abbrev pub with_request : HandedOver → State → State
-with_request request before =
-    with_cookies request.cookies (with_caller request.caller (with_field (codes "x-application-target") request.target before))
+with_request request before = with_client request (with_field (codes "x-application-target") request.target before)
+
+abbrev pub with_all : HandedOver → List ℕ → State → State
+with_all request internal before = with_field (codes "x-accel-redirect") internal (with_request request before)
 
 -- the exchange after its request was handed over to the application at the internal location
 abbrev pub handed_over : List ℕ → State → State
-handed_over internal before = with_field (codes "x-accel-redirect") internal (with_request (handed_request before) before)
+handed_over internal before = with_all (handed_request before) internal before
 
 -- ---- the first fault of setting them
 
@@ -70,26 +77,34 @@ abbrev pub call_fault : ExchangeFault → Option ExchangeFault
 call_fault faults.NoMemory = None
 call_fault fault = Some fault
 
-abbrev pub set_answer : List ℕ → List ℕ → State → Result (Unit {0}) ExchangeFault
+unfoldable pub set_answer : List ℕ → List ℕ → State → Result (Unit {0}) ExchangeFault
 set_answer name value before = answer (SetHeader name value) before >>= (λ _. Ok tt)
+
+abbrev pub names_answer : CallerNames → State → Result (Unit {0}) ExchangeFault
+names_answer names before =
+    set_answer (codes "x-application-caller") names.name before
+    >> set_answer (codes "x-application-roles") names.roles (with_field (codes "x-application-caller") names.name before)
 
 abbrev pub caller_answer : Option CallerNames → State → Result (Unit {0}) ExchangeFault
 caller_answer None before = Ok tt
-caller_answer (Some caller) before =
-    set_answer (codes "x-application-caller") caller.name before
-    >> set_answer (codes "x-application-roles") caller.roles (with_field (codes "x-application-caller") caller.name before)
+caller_answer (Some names) before = names_answer names before
 
 abbrev pub cookies_answer : Option (List ℕ) → State → Result (Unit {0}) ExchangeFault
 cookies_answer None before = Ok tt
 cookies_answer (Some text) before = set_answer (codes "x-application-cookie") text before
 
+abbrev pub client_answer : HandedOver → State → Result (Unit {0}) ExchangeFault
+client_answer request before =
+    caller_answer request.caller before >> cookies_answer request.cookies (with_caller request.caller before)
+
 abbrev pub request_answer : HandedOver → State → Result (Unit {0}) ExchangeFault
 request_answer request before =
     set_answer (codes "x-application-target") request.target before
-    >> (caller_answer request.caller (with_field (codes "x-application-target") request.target before)
-    >> cookies_answer request.cookies (with_caller request.caller (with_field (codes "x-application-target") request.target before)))
+    >> client_answer request (with_field (codes "x-application-target") request.target before)
+
+abbrev pub all_answer : HandedOver → List ℕ → State → Result (Unit {0}) ExchangeFault
+all_answer request internal before =
+    request_answer request before >> set_answer (codes "x-accel-redirect") internal (with_request request before)
 
 abbrev pub handing_answer : List ℕ → State → Result (Unit {0}) ExchangeFault
-handing_answer internal before =
-    request_answer (handed_request before) before
-    >> set_answer (codes "x-accel-redirect") internal (with_request (handed_request before) before)
+handing_answer internal before = all_answer (handed_request before) internal before

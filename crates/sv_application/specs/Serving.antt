@@ -1,9 +1,9 @@
 -- The effect of calls on the servlet `Application` and on its exchanges.
-use Rattle.std.specs.Prelude.{◌≡◌, ℕ, Bool, true, false, not, ◌&&◌, ◌||◌, ◌==◌, List, [], ◌∷◌, codes, length, MatchOption, Option, None, Some, Result, Ok, Err}
+use Rattle.std.specs.Prelude.{◌≡◌, ℕ, Bool, true, false, not, ◌&&◌, ◌||◌, ◌==◌, List, [], ◌∷◌, codes, length, OnOk, Result, Ok, Err}
 use Rattle.std.specs.List.{list_all}
-use Rattle.std.specs.Option.{option_unwrap_or}
+use Rattle.std.specs.Option.{unwrap_or}
 use Rattle.std.specs.Str.{byte}
-use Rattle.sv_application.specs.HandingOver.{handed_over, handing_answer}
+use Rattle.sv_application.specs.HandingOver.{call_fault, handed_over, handing_answer}
 use Rattle.sv_component.specs.Call.{Call, Inited, Serviced, Entered, Left, Heard, Destroyed}
 use Rattle.sv_component.specs.Config.{param_of}
 use Rattle.sv_component.specs.declared.answers.Init.{Init}
@@ -15,8 +15,10 @@ use Rattle.sv_exchange.specs.Dispatches.{kind_of}
 use Rattle.sv_exchange.specs.Fault.{fault_status}
 use Rattle.sv_exchange.specs.State.{State}
 use Rattle.sv_exchange.specs.declared.exchange_fault.ExchangeFault.{ExchangeFault}
+use Rattle.sv_exchange.specs.declared.exchange_fault.ExchangeFault.TheVariants as faults
 use Rattle.sv_mapping.specs.declared.kind.Kind.{Kind}
 use Rattle.sv_mapping.specs.declared.kind.Kind.TheVariants as kinds
+use Rattle.sv_text.specs.Gives.{Gives}
 use Rattle.sv_uri.specs.LocationField.{is_letter_or_digit}
 
 abbrev pub is_name_byte : ℕ → Bool
@@ -29,7 +31,7 @@ is_location (first ∷ name) = first == byte "@" && not (length name == 0) && li
 
 -- the location that the configuration gives
 abbrev pub location_in : Config → List ℕ
-location_in config = option_unwrap_or (param_of (codes "location") config.params) (codes "@application")
+location_in config = unwrap_or (param_of (codes "location") config.params) (codes "@application")
 
 -- an error with this status, unless memory ran out
 abbrev pub IsError : ℕ → Step → Type 0
@@ -44,13 +46,17 @@ Inits config before inits.Failed after = is_location (location_in config) ≡ fa
 Inits config before inits.NoMemory after = Unit {0}
 Inits config before inits.Unavailable after = ⊥
 
--- a request of a client was handed over, or the step is the error of this fault, unless memory ran out
+-- the step of a request that was handed over, or refused with a fault
+abbrev pub IsStepOf : Result (Unit {0}) ExchangeFault → Step → Type 0
+IsStepOf (Ok done) step = step ≡ steps.Done
+IsStepOf (Err faults.NoMemory) step = step ≡ steps.NoMemory
+IsStepOf (Err fault) step = IsError (fault_status fault) step
+
+-- the request was handed over to the application at the location, unless that was refused
 abbrev pub HandsOver : List ℕ → State → Step → State → Type 0
-HandsOver location before steps.Done after = after ≡ handed_over location before
-HandsOver location before steps.NoMemory after = Unit {0}
-HandsOver location before (steps.Error code text) after =
-    (fault : ExchangeFault) × (handing_answer location before ≡ Err fault) × (code ≡ fault_status fault)
-HandsOver location before step after = ⊥
+HandsOver location before step after =
+    (done : Result (Unit {0}) ExchangeFault)
+    × IsStepOf done step × OnOk done (after ≡ handed_over location before) × Gives call_fault done (handing_answer location before)
 
 -- in any other dispatch nothing is handed over
 abbrev pub Serves : Kind → List ℕ → State → Step → State → Type 0

@@ -2,7 +2,7 @@
 
 ghost use Rattle.std.specs.Prelude.{◌≡◌, []};
 ghost use Rattle.std.specs.List.{list_all};
-ghost use Rattle.sv_text.specs.Gives.{GivesAnswer};
+ghost use Rattle.sv_exchange.specs.Changing.{Reaches};
 ghost use Rattle.sv_application.specs.Serving as spec;
 
 use crate::handing_over::hand_over;
@@ -57,11 +57,7 @@ impl Servlet for Application {
         if exchange.kind() != Kind::Request {
             return error(alloc, NOT_FOUND);
         }
-        match hand_over(alloc, exchange, self.location.as_str()) {
-            Ok(()) => Step::Done,
-            Err(ExchangeFault::NoMemory) => Step::NoMemory,
-            Err(fault) => error(alloc, fault.status()),
-        }
+        serve(alloc, exchange, self.location.as_str())
     }
 
     fn destroy(&mut self) {}
@@ -87,6 +83,25 @@ fn is_name_byte(b: u8) -> bool
     ensures { result ≡ spec.is_name_byte b }
 {
     b.is_ascii_alphanumeric() || b == b'-' || b == b'_'
+}
+
+/// Hands a request of a client over.
+fn serve(alloc: Global, exchange: &mut Exchange, location: &str) -> Step
+    ensures handed { spec.HandsOver location.now exchange.old result exchange.new }
+    ensures reached { Reaches exchange.old exchange.new }
+{
+    step_of(alloc, hand_over(alloc, exchange, location))
+}
+
+/// Returns the step of a request that was handed over, or refused.
+fn step_of(alloc: Global, done: Result<(), ExchangeFault>) -> Step
+    ensures { spec.IsStepOf done result }
+{
+    match done {
+        Ok(()) => Step::Done,
+        Err(ExchangeFault::NoMemory) => Step::NoMemory,
+        Err(fault) => error(alloc, fault.status()),
+    }
 }
 
 /// Returns the step of an error with this status.

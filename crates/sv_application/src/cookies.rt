@@ -1,7 +1,9 @@
 //! The cookies of a request without that of the session.
 
-ghost use Rattle.std.specs.Prelude.{◌≡◌, ◌∷◌, ◌++◌, [], IfOk, OnOk, map, string_bytes};
+ghost use Rattle.std.specs.Prelude.{◌≡◌, ◌∷◌, ◌++◌, [], IfOk, None, OnOk, Some, if◌then◌else◌, map, string_bytes};
 ghost use Rattle.std.specs.List.{filter};
+ghost use Rattle.std.specs.Option.{option_copied};
+ghost use Rattle.std.specs.Str.{is_utf8};
 ghost use Rattle.sv_application.specs.Cookies as spec;
 ghost use Rattle.sv_login.specs.Cookies.{pieces_of};
 
@@ -53,13 +55,22 @@ fn push_cookie<'a>(found: &mut Vec<&'a str>, piece: &'a [u8], name: &str) -> Res
     ensures { OnOk result (map (λ cookie. cookie.now) found.new.items
         ≡ map (λ cookie. cookie.now) found.old.items ++ filter (spec.is_other name.now) (piece.now ∷ [])) }
 {
-    let Ok(text) = str::from_utf8(piece) else {
-        return Ok(());
-    };
-    if cookie_value(name, piece).is_none() {
-        found.push(text)?;
+    if let Some(text) = text_of(piece) {
+        if cookie_value(name, piece).is_none() {
+            found.push(text)?;
+        }
     }
     Ok(())
+}
+
+/// Returns the bytes as a text, if they are UTF-8.
+fn text_of(bytes: &[u8]) -> Option<&str>
+    ensures { option_copied result ≡ (if is_utf8 bytes.now then Some bytes.now else None) }
+{
+    match str::from_utf8(bytes) {
+        Ok(text) => Some(text),
+        Err(_) => None,
+    }
 }
 
 /// Returns the cookies as the value of a field, separated by a semicolon and a space.

@@ -52,10 +52,91 @@ pub fn hand_over(
     ensures reached { Reaches exchange.old exchange.new }
 {
     let request = handed_request(alloc, exchange)?;
-    set(exchange, "x-application-target", request.target.as_str())?;
-    set_caller(exchange, &request.caller)?;
-    set_cookies(exchange, &request.cookies)?;
+    set_all(exchange, &request, internal)
+}
+
+/// Sets the fields about the request, and then the internal location.
+fn set_all(
+    exchange: &mut Exchange,
+    request: &HandedOver,
+    internal: &str,
+) -> Result<(), ExchangeFault>
+    ensures set { OnOk result (exchange.new ≡ spec.with_all request.now internal.now exchange.old) }
+    ensures answered { Gives spec.call_fault result (spec.all_answer request.now internal.now exchange.old) }
+    ensures reached { Reaches exchange.old exchange.new }
+{
+    set_request(exchange, request)?;
     set(exchange, "x-accel-redirect", internal)
+}
+
+/// Sets the fields about the request.
+fn set_request(exchange: &mut Exchange, request: &HandedOver) -> Result<(), ExchangeFault>
+    ensures set { OnOk result (exchange.new ≡ spec.with_request request.now exchange.old) }
+    ensures answered { Gives spec.call_fault result (spec.request_answer request.now exchange.old) }
+    ensures reached { Reaches exchange.old exchange.new }
+{
+    set_text(exchange, "x-application-target", &request.target)?;
+    set_client(exchange, request)
+}
+
+/// Sets the fields about the client: its caller and its cookies.
+fn set_client(exchange: &mut Exchange, request: &HandedOver) -> Result<(), ExchangeFault>
+    ensures set { OnOk result (exchange.new ≡ spec.with_client request.now exchange.old) }
+    ensures answered { Gives spec.call_fault result (spec.client_answer request.now exchange.old) }
+    ensures reached { Reaches exchange.old exchange.new }
+{
+    set_caller(exchange, &request.caller)?;
+    set_cookies(exchange, &request.cookies)
+}
+
+fn set_caller(exchange: &mut Exchange, caller: &Option<CallerNames>) -> Result<(), ExchangeFault>
+    ensures set { OnOk result (exchange.new ≡ spec.with_caller caller.now exchange.old) }
+    ensures answered { Gives spec.call_fault result (spec.caller_answer caller.now exchange.old) }
+    ensures reached { Reaches exchange.old exchange.new }
+{
+    match caller {
+        Some(names) => set_names(exchange, names),
+        None => Ok(()),
+    }
+}
+
+/// Sets the fields about a caller.
+fn set_names(exchange: &mut Exchange, names: &CallerNames) -> Result<(), ExchangeFault>
+    ensures set { OnOk result (exchange.new ≡ spec.with_names names.now exchange.old) }
+    ensures answered { Gives spec.call_fault result (spec.names_answer names.now exchange.old) }
+    ensures reached { Reaches exchange.old exchange.new }
+{
+    set_text(exchange, "x-application-caller", &names.name)?;
+    set_text(exchange, "x-application-roles", &names.roles)
+}
+
+fn set_cookies(exchange: &mut Exchange, cookies: &Option<Text>) -> Result<(), ExchangeFault>
+    ensures set { OnOk result (exchange.new ≡ spec.with_cookies cookies.now exchange.old) }
+    ensures answered { Gives spec.call_fault result (spec.cookies_answer cookies.now exchange.old) }
+    ensures reached { Reaches exchange.old exchange.new }
+{
+    match cookies {
+        Some(text) => set_text(exchange, "x-application-cookie", text),
+        None => Ok(()),
+    }
+}
+
+fn set_text(exchange: &mut Exchange, name: &str, value: &Text) -> Result<(), ExchangeFault>
+    ensures set { OnOk result (exchange.new ≡ spec.with_field name.now value.now exchange.old) }
+    ensures answered { Gives spec.call_fault result (spec.set_answer name.now value.now exchange.old) }
+    ensures reached { Reaches exchange.old exchange.new }
+{
+    set(exchange, name, value.as_str())
+}
+
+/// Sets a field.
+fn set(exchange: &mut Exchange, name: &str, value: &str) -> Result<(), ExchangeFault>
+    ensures set { OnOk result (exchange.new ≡ spec.with_field name.now value.now exchange.old) }
+    ensures answered { Gives spec.call_fault result (spec.set_answer name.now value.now exchange.old) }
+    ensures reached { Reaches exchange.old exchange.new }
+{
+    exchange.set_header(name, value)?;
+    Ok(())
 }
 
 /// Returns what the application receives of a request.
@@ -91,7 +172,7 @@ fn push_query(text: &mut String, query: Option<&str>) -> Result<(), NoMemory>
 }
 
 fn caller_names(alloc: Global, caller: Option<&Caller>) -> Result<Option<CallerNames>, NoMemory>
-    ensures { GivesAnswer result (spec.caller_names (option_copied caller)) }
+    ensures { GivesAnswer result (spec.caller_names (option_copied caller.entry)) }
 {
     let Some(caller) = caller else {
         return Ok(None);
@@ -122,40 +203,4 @@ fn joined_cookies(alloc: Global, cookies: &[&str]) -> Result<Option<Text>, NoMem
         return Ok(None);
     }
     Ok(Some(Text::from_string(cookies_text(alloc, cookies)?)))
-}
-
-/// Sets a field.
-fn set(exchange: &mut Exchange, name: &str, value: &str) -> Result<(), ExchangeFault>
-    ensures set { OnOk result (exchange.new ≡ spec.with_field name.now value.now exchange.old) }
-    ensures answered { Gives spec.call_fault result (spec.set_answer name.now value.now exchange.old) }
-    ensures reached { Reaches exchange.old exchange.new }
-{
-    exchange.set_header(name, value)?;
-    Ok(())
-}
-
-fn set_caller(
-    exchange: &mut Exchange,
-    caller: &Option<CallerNames>,
-) -> Result<(), ExchangeFault>
-    ensures set { OnOk result (exchange.new ≡ spec.with_caller caller.now exchange.old) }
-    ensures answered { Gives spec.call_fault result (spec.caller_answer caller.now exchange.old) }
-    ensures reached { Reaches exchange.old exchange.new }
-{
-    let Some(caller) = caller else {
-        return Ok(());
-    };
-    set(exchange, "x-application-caller", caller.name.as_str())?;
-    set(exchange, "x-application-roles", caller.roles.as_str())
-}
-
-fn set_cookies(exchange: &mut Exchange, cookies: &Option<Text>) -> Result<(), ExchangeFault>
-    ensures set { OnOk result (exchange.new ≡ spec.with_cookies cookies.now exchange.old) }
-    ensures answered { Gives spec.call_fault result (spec.cookies_answer cookies.now exchange.old) }
-    ensures reached { Reaches exchange.old exchange.new }
-{
-    match cookies {
-        Some(text) => set(exchange, "x-application-cookie", text.as_str()),
-        None => Ok(()),
-    }
 }

@@ -23,6 +23,7 @@ pub use links::link_to;
 pub use methods::{Verb, asked_verb};
 pub use redirects::{RedirectKind, redirect, redirect_elsewhere};
 pub use request_cookies::cookie;
+pub use sv_application::{Application, hand_over};
 pub use sv_component::{
     Config, Event, Exchange, ExchangeFault, Filter, Gate, Init, Listener, Named, Param, Servlet,
     Step,
