@@ -37,6 +37,17 @@ def see(what, came, wanted):
         sys.exit(f"{what}: {came!r} and not {wanted!r}")
 
 
+def unit_words(unit, key):
+    """Returns the words after a key of a unit of systemd."""
+    with open(unit) as file:
+        return [
+            word
+            for line in file
+            if line.startswith(f"{key}=")
+            for word in line.strip().partition("=")[2].split()
+        ]
+
+
 def free_ports(count):
     """So many ports that are free."""
     with contextlib.ExitStack() as stack:
