@@ -1,11 +1,12 @@
 # The completion of bash for sv, as `sv help --format bash` prints it.
 _sv() {
     local word=${COMP_WORDS[COMP_CWORD]} before=${COMP_WORDS[COMP_CWORD - 1]} names=
-    local commands="first policy uncovered audit check replay serve run selftest help version "
+    local commands="first policy uncovered audit check replay serve run ctl selftest help version "
     COMPREPLY=()
     case $COMP_CWORD:${COMP_WORDS[1]}:$before:$word in
     1:*) names=$commands;;
     2:help:*) names="$commands config";;
+    3:ctl:*) names="status constraints uncovered explain append withdraw stop";;
     *:audit:--format:*) names="text json html keys";;
     *:help:--format:*) names="man md bash";;
     *:audit:--format:*) return;;
@@ -32,6 +33,7 @@ _sv() {
     *:replay:*:-*) names="";;
     *:serve:*:-*) names="";;
     *:run:*:-*) names="--control --journal --listen --same-seed --connections --idle-seconds --held-mebibytes ";;
+    *:ctl:*:-*) names="";;
     *:selftest:*:-*) names="";;
     *:help:*:-*) names="--format ";;
     *:version:*:-*) names="";;

@@ -1,5 +1,5 @@
 -- The effects of the commands of the program.
-use Rattle.std.specs.Prelude.{◌≡◌, ◌≢◌, ℕ, List, Option, Result, Ok, Err}
+use Rattle.std.specs.Prelude.{◌≡◌, ◌≢◌, ℕ, List, map, string_bytes, Option, Result, Ok, Err}
 use Rattle.sv_deployments.specs.declared.program_filter.ProgramFilter.{ProgramFilter}
 use Rattle.sv_deployments.specs.declared.program_listener.ProgramListener.{ProgramListener}
 use Rattle.sv_deployments.specs.declared.program_servlet.ProgramServlet.{ProgramServlet}
@@ -19,8 +19,10 @@ use Rattle.sv.specs.CheckCommand.{Checks, IsBeforeReport}
 use Rattle.sv.specs.Policy.{RunsPolicy}
 use Rattle.sv.specs.Printed.{Shows}
 use Rattle.sv.specs.Help.{help_text, manual_text}
+use Rattle.sv_arguments.specs.ControlRequest.{line_of}
 use Rattle.sv_arguments.specs.declared.command.Command.{Command}
-use Rattle.sv_arguments.specs.declared.command.Command.TheVariants.{First, Policy, Uncovered, Audit, Check, Replay, Serve, Run, SelfTest, Help, Manual, Version}
+use Rattle.sv_arguments.specs.declared.command.Command.TheVariants.{First, Policy, Uncovered, Audit, Check, Replay, Serve, Run, Ctl, SelfTest, Help, Manual, Version}
+use Rattle.sv_listening.specs.Controlling.{Answers}
 use Rattle.sv.specs.declared.texts.TheConstants.{VERSION}
 
 -- a fault in reading a server's files and folders is the command's fault
@@ -59,6 +61,8 @@ module _ (moving : ComponentSteps ProgramServlet ProgramFilter ProgramListener) 
   RunsCommand gives files (Replay config) result before after stream old new = ReadsFiles gives files config.now result before after
   RunsCommand gives files (Serve service) result before after stream old new = ReadsFiles gives files service.config.now result before after
   RunsCommand gives files (Run options) result before after stream old new = ReadsFiles gives files options.config.now result before after
+  RunsCommand gives files (Ctl request) result before after stream old new =
+      (after ≡ before) × Answers request.socket.now (line_of (map string_bytes request.words.now)) result old new
   RunsCommand gives files (SelfTest config) result before after stream old new = ReadsFiles gives files config.now result before after
   RunsCommand gives files (Help topic) result before after stream old new = (after ≡ before) × UnlessNoMemory result (Shows (help_text topic) result old new)
   RunsCommand gives files (Manual manual) result before after stream old new = (after ≡ before) × UnlessNoMemory result (Shows (manual_text manual) result old new)

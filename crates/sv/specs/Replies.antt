@@ -1,4 +1,5 @@
--- The replies of a container to queries: the explanation of a request, the uncovered methods, and its status.
+-- The replies of a container to queries: the explanation of a request, the constraints in force, the uncovered methods,
+-- and its status.
 use Rattle.std.specs.Prelude.{ℕ, ◌+◌, List, ◌++◌, codes, flat_map, length, min, Ok, Err}
 use Rattle.std.specs.Fmt.{decimal}
 use Rattle.sv_context.specs.State.{ContextState}
@@ -6,6 +7,7 @@ use Rattle.sv_policy.specs.Explanation.{Answer}
 use Rattle.sv_policy.specs.Text.{explanation_text}
 use Rattle.sv_policy.specs.declared.explain_fault.ExplainFault.TheVariants.{BadMethod, NoMemory, NoSuchUser}
 use Rattle.sv_policy.specs.Gaps.{gaps}
+use Rattle.sv_program.specs.Constraints.{constraint_lines}
 use Rattle.sv_program.specs.Uncovered.{gap_line}
 use Rattle.sv_uri.specs.ContextPath.{shown_context}
 
@@ -28,6 +30,14 @@ module _ {S F L : Type 0} where
   -- the same for all contexts, in their order
   abbrev pub gaps_text : List (ContextState S F L) → List ℕ
   gaps_text contexts = flat_map context_gaps_text contexts
+
+  -- the lines of the constraints in force in a context: a line for each pattern of each collection
+  abbrev pub context_constraints_text : ContextState S F L → List ℕ
+  context_constraints_text context = flat_map (constraint_lines context.content.context_path) context.policy.constraints
+
+  -- the same for all contexts, in their order
+  abbrev pub constraints_text : List (ContextState S F L) → List ℕ
+  constraints_text contexts = flat_map context_constraints_text contexts
 
   -- the number of live sessions of a context
   abbrev pub sessions_text : ContextState S F L → List ℕ

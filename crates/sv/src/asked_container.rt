@@ -12,7 +12,7 @@ ghost use Rattle.sv_run.specs.Host.{StepsSo};
 ghost use Rattle.sv_run.specs.Connections.{awaited_in};
 ghost use Rattle.sv_text.specs.Gives.{GivesAnswer};
 
-use crate::gaps::{standing_of, uncovered_of};
+use crate::gaps::{constraints_of, standing_of, uncovered_of};
 use std::alloc::Global;
 use sv_component::{Filter, Listener, Servlet};
 use sv_connection::Queries;
@@ -23,7 +23,7 @@ use sv_text::{Bytes, NoMemory};
 use sv_wire::Awaited;
 
 /// A container that counts its events and answers queries: what would happen to a request under its current
-/// constraints, which methods these leave uncovered, and what its status is.
+/// constraints, what these are and which methods they leave uncovered, and what its status is.
 pub(crate) struct AskedContainer<S, F, L, W> {
     container: Container<S, F, L, W>,
     // The number of events taken, including refused ones. The count saturates.
@@ -88,6 +88,8 @@ impl<S, F, L, W> Queries for AskedContainer<S, F, L, W> {
 
     ghost uncovers = { λ asked. Some (spec.gaps_text (state_of asked.container).world.contexts) };
 
+    ghost constrains = { λ asked. Some (spec.constraints_text (state_of asked.container).world.contexts) };
+
     ghost stands = { λ asked. Some (spec.counts_text asked.events (state_of asked.container).world.contexts) };
 
     fn explain(
@@ -105,6 +107,13 @@ impl<S, F, L, W> Queries for AskedContainer<S, F, L, W> {
 
     fn uncovered(&self, alloc: Global) -> Result<Option<Bytes>, NoMemory> {
         match uncovered_of(alloc, self.container.contexts()) {
+            Ok(lines) => Ok(Some(lines)),
+            Err(NoMemory) => Err(NoMemory),
+        }
+    }
+
+    fn constraints(&self, alloc: Global) -> Result<Option<Bytes>, NoMemory> {
+        match constraints_of(alloc, self.container.contexts()) {
             Ok(lines) => Ok(Some(lines)),
             Err(NoMemory) => Err(NoMemory),
         }

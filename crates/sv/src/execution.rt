@@ -5,6 +5,7 @@ ghost use Rattle.std.specs.Prelude.{◌≡◌, IfErr};
 ghost use Rattle.sv.specs.Execution.{IsBefore, ReadsFiles, RunsCommand, ServesNothing};
 
 use crate::check_command::check;
+use crate::ctl_command::ctl;
 use crate::help_command::{help, print_manual};
 use crate::policy_command::policy;
 use crate::replay_command::replay;
@@ -57,6 +58,7 @@ pub fn carry_out<
             serve(alloc, store, host, writer, service.config, count)
         }
         Command::Run(options) => run(alloc, store, host, writer, &options),
+        Command::Ctl(request) => ctl(alloc, host, writer, &request),
         Command::SelfTest { config } => self_test(alloc, store, host, writer, config),
         Command::Help(topic) => help(alloc, writer, topic),
         Command::Manual(manual) => print_manual(alloc, writer, manual),

@@ -1,4 +1,4 @@
-//! The uncovered methods of contexts, and their status.
+//! The uncovered methods of contexts, their constraints, and their status.
 
 ghost use Rattle.std.specs.Prelude.{◌≡◌, ◌++◌, codes, flat_map, IfOk, OnOk};
 ghost use Rattle.std.specs.Fmt.{decimal};
@@ -11,7 +11,7 @@ use std::alloc::{AllocError, Global};
 use sv_context::Context;
 use sv_mapping::HasContextPath;
 use sv_policy::HasPolicy;
-use sv_program::gap_lines;
+use sv_program::{constraint_lines, gap_lines};
 use sv_text::{Bytes, NoMemory, Text};
 use sv_uri::shown_context;
 
@@ -40,6 +40,38 @@ fn context_gaps<S, F, L>(alloc: Global, context: &Context<S, F, L>) -> Result<Te
 {
     let gaps = context.policy().uncovered(alloc)?;
     gap_lines(alloc, context.context_path(), gaps.as_slice())
+}
+
+/// Returns the lines of the constraints in force. The contexts are in their order.
+///
+/// # Errors
+/// Memory ran out.
+pub(crate) fn constraints_of<S, F, L>(
+    alloc: Global,
+    contexts: &[Context<S, F, L>],
+) -> Result<Bytes, NoMemory>
+    ensures { GivesAnswer result (spec.constraints_text contexts.now) }
+{
+    let mut lines = String::new(alloc);
+    for context in contexts {
+        let more = context_constraints(alloc, context)?;
+        lines.push_str(more.as_str())?;
+    }
+    Ok(Bytes::from_vec(lines.into_bytes()))
+}
+
+// Returns the lines of the constraints of one context.
+fn context_constraints<S, F, L>(
+    alloc: Global,
+    context: &Context<S, F, L>,
+) -> Result<Text, NoMemory>
+    ensures { GivesAnswer result (spec.context_constraints_text context.now) }
+{
+    constraint_lines(
+        alloc,
+        context.context_path(),
+        context.policy().constraints(),
+    )
 }
 
 /// Returns the number of events taken and the number of live sessions of each context. The contexts are in their

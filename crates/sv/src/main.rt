@@ -3,6 +3,7 @@
 
 mod asked_container;
 mod check_command;
+mod ctl_command;
 mod execution;
 mod gaps;
 mod help_command;

@@ -6,7 +6,7 @@ use Rattle.std.specs.Str.{bytes_eq}
 use Rattle.sv_arguments.specs.Topics.{IsCalled, IsHelpOption, topic_name, topics}
 use Rattle.sv_arguments.specs.Values.{Finds}
 use Rattle.sv_arguments.specs.declared.topic.Topic.{Topic}
-use Rattle.sv_arguments.specs.declared.topic.Topic.TheVariants.{First, Policy, Uncovered, Audit, Check, Replay, Serve, Run, SelfTest, Help, Version}
+use Rattle.sv_arguments.specs.declared.topic.Topic.TheVariants.{First, Policy, Uncovered, Audit, Check, Replay, Serve, Run, Ctl, SelfTest, Help, Version}
 
 abbrev pub named : List ℕ → Option (List ℕ)
 named word = find (bytes_eq word) (map topic_name topics)
@@ -21,6 +21,7 @@ found Check none = cc
 found Replay none = cc
 found Serve none = cc
 found Run none = cc
+found Ctl none = cc
 found SelfTest none = cc
 found Help none = cc
 found Version none = cc

@@ -7,7 +7,7 @@ use Rattle.sv_arguments.specs.Command.{AreWordsOf, IsManualAfter}
 use Rattle.sv_arguments.specs.Topics.{IsCalled}
 use Rattle.sv_arguments.specs.Values.{Finds}
 use Rattle.sv_arguments.specs.declared.command.Command.{Command}
-use Rattle.sv_arguments.specs.declared.command.Command.TheVariants.{First, Policy, Uncovered, Audit, Check, Replay, Serve, Run, SelfTest, Help, Manual, Version}
+use Rattle.sv_arguments.specs.declared.command.Command.TheVariants.{First, Policy, Uncovered, Audit, Check, Replay, Serve, Run, Ctl, SelfTest, Help, Manual, Version}
 use Rattle.sv_arguments.specs.declared.topic.Topic.{Topic}
 use Rattle.sv_arguments.specs.declared.topic.Topic.TheVariants as topic
 
@@ -34,6 +34,7 @@ module _ (word : List ℕ) (rest : List (List ℕ)) (calls : IsCalled word topic
   only_manual (Replay config) is = other_name (codes "replay") _ is refl
   only_manual (Serve service) is = other_name (codes "serve") _ is refl
   only_manual (Run options) (others, is, asked) = other_name (codes "run") others is refl
+  only_manual (Ctl request) (others, is, asked) = other_name (codes "ctl") others is refl
   only_manual (SelfTest config) is = other_name (codes "selftest") _ is refl
   only_manual (Help about) is = is
   only_manual (Manual manual) is = is
@@ -50,6 +51,7 @@ is_named words (Some (Check config)) is = absurd is
 is_named words (Some (Replay config)) is = absurd is
 is_named words (Some (Serve service)) is = absurd is
 is_named words (Some (Run options)) is = absurd is
+is_named words (Some (Ctl request)) is = absurd is
 is_named words (Some (SelfTest config)) is = absurd is
 is_named words (Some (Help about)) is = absurd is
 is_named words (Some (Manual manual)) is = is

@@ -5,14 +5,16 @@ use Rattle.std.specs.Str.{bytes_eq}
 use Rattle.sv_arguments.proofs.Decoding.{same_heads}
 use Rattle.sv_arguments.specs.Command.{AreWordsOf, AskForHelp, IsNamed}
 use Rattle.sv_arguments.specs.declared.command.Command.{Command}
-use Rattle.sv_arguments.specs.declared.command.Command.TheVariants.{First, Policy, Uncovered, Audit, Check, Replay, Serve, Run, SelfTest, Help, Manual, Version}
+use Rattle.sv_arguments.specs.declared.command.Command.TheVariants.{First, Policy, Uncovered, Audit, Check, Replay, Serve, Run, Ctl, SelfTest, Help, Manual, Version}
 use Rattle.sv_arguments.specs.declared.topic.Topic.{Topic}
 use Rattle.sv_arguments.specs.declared.topic.Topic.TheVariants as topic
 use Rattle.sv_arguments.specs.AuditOptions.{IsAudit}
+use Rattle.sv_arguments.specs.ControlRequest.{IsControl}
 use Rattle.sv_arguments.specs.RunOptions.{IsAsked}
 use Rattle.sv_arguments.specs.Topics.{IsCalled, topic_name}
 use Rattle.sv_arguments.specs.Values.{Finds}
 use Rattle.sv_arguments.specs.declared.audit_options.AuditOptions.{AuditOptions}
+use Rattle.sv_arguments.specs.declared.control_request.ControlRequest.{ControlRequest}
 use Rattle.sv_arguments.specs.declared.run_options.RunOptions.{RunOptions}
 
 module _ (words : List (List ℕ)) where
@@ -27,6 +29,7 @@ module _ (words : List (List ℕ)) where
   only_run none (Serve service) is = cc
   only_run none (Run options) (rest, same, asked) =
       none options (subst (λ w. IsAsked w options) (sym (ap (drop 1) same)) asked)
+  only_run none (Ctl request) (rest, same, asked) = cc
   only_run none (SelfTest config) is = cc
   only_run none (Help about) is = is
   only_run none (Manual manual) is = cc
@@ -48,11 +51,29 @@ module _ (words : List (List ℕ)) where
   only_audit none (Replay config) is = other_name (codes "replay") _ is refl
   only_audit none (Serve service) is = other_name (codes "serve") _ is refl
   only_audit none (Run options) (rest, same, asked) = other_name (codes "run") rest same refl
+  only_audit none (Ctl request) (rest, same, asked) = other_name (codes "ctl") rest same refl
   only_audit none (SelfTest config) is = other_name (codes "selftest") _ is refl
   only_audit none (Help about) is = is
   only_audit none (Manual manual) is = other_name (codes "help") _ is refl
   only_audit none Version (word, same, inl is) = other_name word _ same (ap (λ (name : List ℕ). bytes_eq name (codes "audit")) is)
   only_audit none Version (word, same, inr is) = other_name word _ same (ap (λ (name : List ℕ). bytes_eq name (codes "audit")) is)
+
+  pub only_ctl : ((any : ControlRequest) → IsControl words any → ⊥) → (command : Command) → AreWordsOf (codes "ctl" ∷ words) command → ⊥
+  only_ctl none (First deny) is = cc
+  only_ctl none (Policy question) is = cc
+  only_ctl none (Uncovered config) is = cc
+  only_ctl none (Audit options) (rest, same, asked) = cc
+  only_ctl none (Check config) is = cc
+  only_ctl none (Replay config) is = cc
+  only_ctl none (Serve service) is = cc
+  only_ctl none (Run options) (rest, same, asked) = cc
+  only_ctl none (Ctl request) (rest, same, asked) =
+      none request (subst (λ w. IsControl w request) (sym (ap (drop 1) same)) asked)
+  only_ctl none (SelfTest config) is = cc
+  only_ctl none (Help about) is = is
+  only_ctl none (Manual manual) is = cc
+  only_ctl none Version (word, same, inl is) = cc
+  only_ctl none Version (word, same, inr is) = cc
 
 module _ (word : List ℕ) (rest words : List (List ℕ)) (same : words ≡ word ∷ rest) (none : (topic : Topic) → IsCalled word topic → ⊥) where
   begins : (name : List ℕ) (others : List (List ℕ)) → words ≡ name ∷ others → word ≡ name
@@ -68,6 +89,7 @@ module _ (word : List ℕ) (rest words : List (List ℕ)) (same : words ≡ word
   not_called (Replay config) is = none topic.Replay (begins (topic_name topic.Replay) _ is)
   not_called (Serve service) is = none topic.Serve (begins (topic_name topic.Serve) _ is)
   not_called (Run options) is = none topic.Run (begins (topic_name topic.Run) is.0 is.1)
+  not_called (Ctl request) is = none topic.Ctl (begins (topic_name topic.Ctl) is.0 is.1)
   not_called (SelfTest config) is = none topic.SelfTest (begins (topic_name topic.SelfTest) _ is)
   not_called (Help about) is = is
   not_called (Manual manual) is = none topic.Help (inl (begins (codes "help") _ is))

@@ -15,7 +15,7 @@ use Rattle.sv_arguments.specs.Values.{Finds}
 use Rattle.sv_arguments.specs.declared.command.Command.{Command}
 use Rattle.sv_arguments.specs.declared.command.Command.TheVariants as command
 use Rattle.sv_arguments.specs.declared.topic.Topic.{Topic}
-use Rattle.sv_arguments.specs.declared.topic.Topic.TheVariants.{First, Policy, Uncovered, Audit, Check, Replay, Serve, Run, SelfTest, Help, Version}
+use Rattle.sv_arguments.specs.declared.topic.Topic.TheVariants.{First, Policy, Uncovered, Audit, Check, Replay, Serve, Run, Ctl, SelfTest, Help, Version}
 
 -- the command that a word calls
 topic_at : List ℕ → Option Topic
@@ -28,6 +28,7 @@ topic_at word =
     else if bytes_eq word (codes "replay") then Some Replay
     else if bytes_eq word (codes "serve") then Some Serve
     else if bytes_eq word (codes "run") then Some Run
+    else if bytes_eq word (codes "ctl") then Some Ctl
     else if bytes_eq word (codes "selftest") then Some SelfTest
     else if bytes_eq word (codes "version") then Some Version
     else if bytes_eq word (codes "--version") then Some Version
@@ -43,6 +44,7 @@ topic_at-called word Check same = ap topic_at same
 topic_at-called word Replay same = ap topic_at same
 topic_at-called word Serve same = ap topic_at same
 topic_at-called word Run same = ap topic_at same
+topic_at-called word Ctl same = ap topic_at same
 topic_at-called word SelfTest same = ap topic_at same
 topic_at-called word Help (inl same) = ap topic_at same
 topic_at-called word Help (inr (inl same)) = ap topic_at same
@@ -102,6 +104,7 @@ begins arguments (command.Check config) is = (_, _, is, refl)
 begins arguments (command.Replay config) is = (_, _, is, refl)
 begins arguments (command.Serve service) is = (_, _, is, refl)
 begins arguments (command.Run options) (rest, is, asked) = (_, rest, is, refl)
+begins arguments (command.Ctl request) (rest, is, asked) = (_, rest, is, refl)
 begins arguments (command.SelfTest config) is = (_, _, is, refl)
 begins arguments (command.Help about) is = absurd is
 begins arguments (command.Manual manual) is = (_, _, is, inl refl)

@@ -9,7 +9,7 @@ use Rattle.sv_arguments.specs.declared.key.Key.TheVariants as key
 use Rattle.sv_arguments.specs.declared.option_set.OptionSet.{OptionSet}
 use Rattle.sv_arguments.specs.declared.option_set.OptionSet.TheVariants as set
 use Rattle.sv_arguments.specs.declared.topic.Topic.{Topic}
-use Rattle.sv_arguments.specs.declared.topic.Topic.TheVariants.{First, Policy, Uncovered, Audit, Check, Replay, Serve, Run, SelfTest, Help, Version}
+use Rattle.sv_arguments.specs.declared.topic.Topic.TheVariants.{First, Policy, Uncovered, Audit, Check, Replay, Serve, Run, Ctl, SelfTest, Help, Version}
 use Rattle.sv_manual.specs.Manual.{named_usage}
 
 pub has_usage : (topic : Topic) → named_usage (topic_name topic) commands ≡ topic_usage topic
@@ -21,6 +21,7 @@ has_usage Check = refl
 has_usage Replay = refl
 has_usage Serve = refl
 has_usage Run = refl
+has_usage Ctl = refl
 has_usage SelfTest = refl
 has_usage Help = refl
 has_usage Version = refl
@@ -34,6 +35,7 @@ has_options Check = refl
 has_options Replay = refl
 has_options Serve = refl
 has_options Run = refl
+has_options Ctl = refl
 has_options SelfTest = refl
 has_options Help = refl
 has_options Version = refl

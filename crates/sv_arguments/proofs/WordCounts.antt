@@ -6,7 +6,7 @@ use Rattle.sv_arguments.proofs.Decoding.{same_heads}
 use Rattle.sv_arguments.specs.Laws.{TakeTheirWords, TakesManuals}
 use Rattle.sv_arguments.specs.Question.{question_words}
 use Rattle.sv_arguments.specs.Service.{service_words}
-use Rattle.sv_arguments.specs.declared.command.Command.TheVariants.{First, Policy, Uncovered, Audit, Check, Replay, Serve, Run, SelfTest, Help, Manual, Version}
+use Rattle.sv_arguments.specs.declared.command.Command.TheVariants.{First, Policy, Uncovered, Audit, Check, Replay, Serve, Run, Ctl, SelfTest, Help, Manual, Version}
 use Rattle.sv_arguments.specs.declared.manual.Manual.TheVariants as manual
 use Rattle.sv_program.specs.Arguments.{name_words, optional_words}
 use Rattle.sv_program.specs.FirstLine.{first_options}
@@ -46,6 +46,7 @@ take_their_words name words (Replay config) plain named = counted 1 1 name (code
 take_their_words name words (Serve service) plain named =
     counted 2 2 name (codes "serve") words (service_words service) named.0 (omega arith, omega arith)
 take_their_words name words (Run options) plain named = absurd (false≢true plain)
+take_their_words name words (Ctl request) plain named = absurd (false≢true plain)
 take_their_words name words (SelfTest config) plain named = counted 1 1 name (codes "selftest") words (name_words config) named.0 (name_count config)
 take_their_words name words (Help about) plain named = absurd (false≢true plain)
 take_their_words name words (Manual manual) plain named = absurd (false≢true plain)

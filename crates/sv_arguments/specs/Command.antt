@@ -1,13 +1,14 @@
 -- The command that arguments name.
 use Rattle.std.specs.Prelude.{◌≡◌, ℕ, ◌⊎◌, List, [], ◌∷◌, codes, Option, Some, None}
 use Rattle.sv_arguments.specs.AuditOptions.{IsAudit}
+use Rattle.sv_arguments.specs.ControlRequest.{IsControl}
 use Rattle.sv_arguments.specs.RunOptions.{IsAsked}
 use Rattle.sv_arguments.specs.Manual.{manual_words}
 use Rattle.sv_arguments.specs.Question.{question_words}
 use Rattle.sv_arguments.specs.Service.{service_words}
 use Rattle.sv_arguments.specs.Topics.{IsCalled, IsHelpOption, topic_name}
 use Rattle.sv_arguments.specs.declared.command.Command.{Command}
-use Rattle.sv_arguments.specs.declared.command.Command.TheVariants.{First, Policy, Uncovered, Audit, Check, Replay, Serve, Run, SelfTest, Help, Manual, Version}
+use Rattle.sv_arguments.specs.declared.command.Command.TheVariants.{First, Policy, Uncovered, Audit, Check, Replay, Serve, Run, Ctl, SelfTest, Help, Manual, Version}
 use Rattle.sv_arguments.specs.declared.topic.Topic.{Topic}
 use Rattle.sv_arguments.specs.declared.topic.Topic.TheVariants as topic
 use Rattle.sv_program.specs.Arguments.{name_words}
@@ -40,6 +41,7 @@ AreWordsOf arguments (Check config) = arguments ≡ codes "check" ∷ name_words
 AreWordsOf arguments (Replay config) = arguments ≡ codes "replay" ∷ name_words config
 AreWordsOf arguments (Serve service) = arguments ≡ codes "serve" ∷ service_words service
 AreWordsOf arguments (Run options) = IsBehind (codes "run") IsAsked arguments options
+AreWordsOf arguments (Ctl request) = IsBehind (codes "ctl") IsControl arguments request
 AreWordsOf arguments (SelfTest config) = arguments ≡ codes "selftest" ∷ name_words config
 AreWordsOf arguments (Help about) = ⊥
 AreWordsOf arguments (Manual manual) = arguments ≡ codes "help" ∷ manual_words manual

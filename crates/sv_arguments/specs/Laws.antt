@@ -13,7 +13,7 @@ use Rattle.sv_arguments.specs.Settings.{key_word, option_keys, set_of, takes_wor
 use Rattle.sv_arguments.specs.Topics.{commands, options, topic_name, topic_names, topic_usage}
 use Rattle.sv_arguments.specs.Usage.{IsUsageLine}
 use Rattle.sv_arguments.specs.declared.command.Command.{Command}
-use Rattle.sv_arguments.specs.declared.command.Command.TheVariants.{First, Policy, Uncovered, Audit, Check, Replay, Serve, Run, SelfTest, Help, Manual, Version}
+use Rattle.sv_arguments.specs.declared.command.Command.TheVariants.{First, Policy, Uncovered, Audit, Check, Replay, Serve, Run, Ctl, SelfTest, Help, Manual, Version}
 use Rattle.sv_arguments.specs.declared.key.Key.{Key}
 use Rattle.sv_arguments.specs.declared.manual.Manual.{Manual as ManualForm}
 use Rattle.sv_arguments.specs.declared.option_set.OptionSet.{OptionSet}
@@ -68,6 +68,7 @@ topic_of (Check config) = topic.Check
 topic_of (Replay config) = topic.Replay
 topic_of (Serve service) = topic.Serve
 topic_of (Run options) = topic.Run
+topic_of (Ctl request) = topic.Ctl
 topic_of (SelfTest config) = topic.SelfTest
 topic_of (Help about) = topic.Help
 topic_of (Manual manual) = topic.Help
@@ -86,10 +87,11 @@ NameOne = (arguments : List (List ℕ)) (one other : Command) → IsNamed argume
 abbrev pub HaveOneLine : Type 0
 HaveOneLine = (arguments : List (List ℕ)) (one other : List ℕ) → IsUsageLine arguments one → IsUsageLine arguments other → one ≡ other
 
--- the commands without options
+-- the commands without options and without words of their own
 abbrev pub is_plain : Topic → Bool
 is_plain topic.Run = false
 is_plain topic.Audit = false
+is_plain topic.Ctl = false
 is_plain topic.Help = false
 is_plain other = true
 

@@ -3,6 +3,8 @@ pub mod AuditOptions
 pub mod AuditWords
 pub mod RunOptions
 pub mod Given
+pub mod ControlWord
+pub mod ControlRequest
 pub mod Command
 pub mod Laws
 pub mod Manual
@@ -16,4 +18,5 @@ pub mod Topics
 pub mod Plain
 pub mod HelpUsage
 pub mod UnknownNames
+pub mod ControlUsage
 pub mod Usage

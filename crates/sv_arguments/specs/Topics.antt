@@ -1,13 +1,13 @@
 -- The commands as topics of help.
 use Rattle.std.specs.Prelude.{◌≡◌, ℕ, ◌⊎◌, List, [], ◌∷◌, codes, map}
 use Rattle.sv_arguments.specs.declared.topic.Topic.{Topic}
-use Rattle.sv_arguments.specs.declared.topic.Topic.TheVariants.{First, Policy, Uncovered, Audit, Check, Replay, Serve, Run, SelfTest, Help, Version}
+use Rattle.sv_arguments.specs.declared.topic.Topic.TheVariants.{First, Policy, Uncovered, Audit, Check, Replay, Serve, Run, Ctl, SelfTest, Help, Version}
 use Rattle.sv_manual.specs.Rows.{CommandFields, OptionFields, command_fields, option_fields}
 use Rattle.sv_manual.specs.declared.commands.TheConstants.{COMMANDS, OPTIONS}
 
 -- all commands, in the order of the help
 abbrev pub topics : List Topic
-topics = First ∷ Policy ∷ Uncovered ∷ Audit ∷ Check ∷ Replay ∷ Serve ∷ Run ∷ SelfTest ∷ Help ∷ Version ∷ []
+topics = First ∷ Policy ∷ Uncovered ∷ Audit ∷ Check ∷ Replay ∷ Serve ∷ Run ∷ Ctl ∷ SelfTest ∷ Help ∷ Version ∷ []
 
 abbrev pub topic_name : Topic → List ℕ
 topic_name First = codes "first"
@@ -18,6 +18,7 @@ topic_name Check = codes "check"
 topic_name Replay = codes "replay"
 topic_name Serve = codes "serve"
 topic_name Run = codes "run"
+topic_name Ctl = codes "ctl"
 topic_name SelfTest = codes "selftest"
 topic_name Help = codes "help"
 topic_name Version = codes "version"
@@ -36,6 +37,7 @@ topic_usage Check = codes "sv check CONFIG"
 topic_usage Replay = codes "sv replay CONFIG"
 topic_usage Serve = codes "sv serve CONFIG N"
 topic_usage Run = codes "sv run CONFIG [OPTION ..]"
+topic_usage Ctl = codes "sv ctl SOCKET WORD .."
 topic_usage SelfTest = codes "sv selftest CONFIG"
 topic_usage Help = codes "sv help [COMMAND | [config] [--format FORMAT]]"
 topic_usage Version = codes "sv version"

@@ -1,6 +1,7 @@
 -- The second line about arguments that name no command.
 use Rattle.std.specs.Prelude.{◌≡◌, ℕ, List, [], ◌∷◌, ◌++◌, codes, Option, Some, None}
 use Rattle.sv_arguments.specs.AuditWords.{format_name}
+use Rattle.sv_arguments.specs.ControlUsage.{control_line}
 use Rattle.sv_arguments.specs.HelpUsage.{IsHelpLine}
 use Rattle.sv_arguments.specs.Near.{near}
 use Rattle.sv_arguments.specs.OptionFault.{IsRefused}
@@ -15,7 +16,7 @@ use Rattle.sv_arguments.specs.declared.option_fault.OptionFault.TheVariants.{NoS
 use Rattle.sv_arguments.specs.declared.option_set.OptionSet.{OptionSet}
 use Rattle.sv_arguments.specs.declared.option_set.OptionSet.TheVariants as set
 use Rattle.sv_arguments.specs.declared.topic.Topic.{Topic}
-use Rattle.sv_arguments.specs.declared.topic.Topic.TheVariants.{Run, Audit, Help}
+use Rattle.sv_arguments.specs.declared.topic.Topic.TheVariants.{Run, Audit, Ctl, Help}
 use Rattle.sv_program.specs.Shown.{quoted}
 
 -- the command with these options
@@ -57,6 +58,7 @@ abbrev pub IsLineAfter : List ℕ → Option Topic → List (List ℕ) → List 
 IsLineAfter word None arguments line = line ≡ unknown_command word
 IsLineAfter word (Some Run) arguments line = IsOptionLine set.Run arguments line
 IsLineAfter word (Some Audit) arguments line = IsOptionLine set.Audit arguments line
+IsLineAfter word (Some Ctl) arguments line = line ≡ control_line arguments
 IsLineAfter word (Some Help) arguments line = IsHelpLine word arguments line
 IsLineAfter word (Some topic) arguments line = line ≡ plain_line topic arguments
 

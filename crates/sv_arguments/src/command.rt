@@ -8,6 +8,7 @@ ghost use Rattle.sv_arguments.specs.Values.{Finds};
 ghost use Rattle.sv_program.specs.Arguments.{Names, name_words};
 
 use crate::audit_options::AuditOptions;
+use crate::control_request::ControlRequest;
 use crate::manual::Manual;
 use crate::question::Question;
 use crate::run_options::RunOptions;
@@ -48,6 +49,8 @@ pub enum Command<'a> {
     /// `run CONFIG [OPTION ..]`: serves any number of connections, many at once. [`RunOptions::parse`] lists the
     /// options.
     Run(RunOptions<'a>),
+    /// `ctl SOCKET WORD ..`: sends a line to the server at a control socket, and prints its reply.
+    Ctl(ControlRequest<'a>),
     /// `selftest CONFIG`: sends one request to a server's container over its own connection, and prints the first line
     /// of the response.
     SelfTest {
@@ -107,6 +110,7 @@ fn command_in(arguments: &[String]) -> Option<Command<'_>>
         }
         Topic::Serve => Some(Command::Serve(Service::parse(rest)?)),
         Topic::Run => run_in(rest),
+        Topic::Ctl => ctl_in(rest),
         Topic::SelfTest => {
             let config = config_in(rest)?;
             Some(Command::SelfTest { config })
@@ -185,6 +189,16 @@ fn audit_in(arguments: &[String]) -> Option<Command<'_>>
     match AuditOptions::parse(arguments) {
         Ok(options) => Some(Command::Audit(options)),
         Err(_) => None,
+    }
+}
+
+/// Returns the command `ctl` with its request in its arguments, or none.
+fn ctl_in(arguments: &[String]) -> Option<Command<'_>>
+    ensures { Finds (AreWordsOf (codes "ctl" ∷ map string_bytes arguments.now)) result }
+{
+    match ControlRequest::parse(arguments) {
+        Some(request) => Some(Command::Ctl(request)),
+        None => None,
     }
 }
 

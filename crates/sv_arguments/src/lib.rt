@@ -4,6 +4,9 @@
 
 mod audit_options;
 mod command;
+mod control_request;
+mod control_usage;
+mod control_word;
 mod count;
 mod given;
 mod help_usage;
@@ -22,6 +25,8 @@ mod usage;
 
 pub use audit_options::{AuditOptions, audit_arguments_ask_for_one_thing};
 pub use command::{Command, arguments_name_one_command};
+pub use control_request::ControlRequest;
+pub use control_word::ControlWord;
 pub use count::Count;
 pub use key::Key;
 pub use manual::Manual;

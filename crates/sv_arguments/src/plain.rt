@@ -67,7 +67,7 @@ fn usage_hint(alloc: Global, topic: Topic) -> Result<Text, NoMemory>
 }
 
 /// Returns the first word beyond the most that are taken, or else the last one.
-fn wrong_word(most: usize, words: &[String]) -> &str
+pub(crate) fn wrong_word(most: usize, words: &[String]) -> &str
     ensures { result.now ≡ spec.wrong_word most (map string_bytes words.now) }
 {
     let last = words.len().saturating_sub(1);
@@ -89,6 +89,7 @@ fn least_words(topic: Topic) -> usize
         Topic::Replay => 1,
         Topic::Serve => 2,
         Topic::Run => 1,
+        Topic::Ctl => 1,
         Topic::SelfTest => 1,
         Topic::Help => 1,
         Topic::Version => 0,
@@ -107,6 +108,7 @@ fn most_words(topic: Topic) -> usize
         Topic::Replay => 1,
         Topic::Serve => 2,
         Topic::Run => 1,
+        Topic::Ctl => 1,
         Topic::SelfTest => 1,
         Topic::Help => 1,
         Topic::Version => 0,

@@ -23,6 +23,8 @@ pub enum Topic {
     Serve,
     /// The command `run`.
     Run,
+    /// The command `ctl`.
+    Ctl,
     /// The command `selftest`.
     SelfTest,
     /// The command `help`.
@@ -32,7 +34,7 @@ pub enum Topic {
 }
 
 /// All topics, in the order in which `help` lists them.
-pub const TOPICS: [Topic; 11] = [
+pub const TOPICS: [Topic; 12] = [
     Topic::First,
     Topic::Policy,
     Topic::Uncovered,
@@ -41,6 +43,7 @@ pub const TOPICS: [Topic; 11] = [
     Topic::Replay,
     Topic::Serve,
     Topic::Run,
+    Topic::Ctl,
     Topic::SelfTest,
     Topic::Help,
     Topic::Version,
@@ -86,6 +89,7 @@ impl Topic {
             Topic::Replay => "replay",
             Topic::Serve => "serve",
             Topic::Run => "run",
+            Topic::Ctl => "ctl",
             Topic::SelfTest => "selftest",
             Topic::Help => "help",
             Topic::Version => "version",

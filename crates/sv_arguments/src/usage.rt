@@ -15,6 +15,7 @@ ghost use Rattle.sv_program.specs.Shown as shown;
 ghost use Rattle.sv_text.specs.Gives.{GivesAnswer};
 
 use crate::audit_options::{AuditOptions, format_word};
+use crate::control_usage::control_detail;
 use crate::help_usage::help_detail;
 use crate::key::Key;
 use crate::near::nearest;
@@ -74,6 +75,7 @@ pub fn usage_detail(alloc: Global, arguments: &[String]) -> Result<Text, NoMemor
         None => unknown_command(alloc, word.as_str()),
         Some(Topic::Run) => run_detail(alloc, rest),
         Some(Topic::Audit) => audit_detail(alloc, rest),
+        Some(Topic::Ctl) => control_detail(alloc, rest),
         Some(Topic::Help) => help_detail(alloc, word.as_str(), rest),
         Some(topic) => plain_line(alloc, topic, rest),
     }

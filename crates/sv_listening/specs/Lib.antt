@@ -1,4 +1,5 @@
 pub mod Bound
+pub mod Controlling
 pub mod Laws
 pub mod Lines
 pub mod Pacing

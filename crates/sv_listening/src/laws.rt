@@ -4,7 +4,8 @@ ghost use Rattle.std.specs.Prelude.{◌≡◌};
 ghost use Rattle.sv_listening.specs.SocketLaws.{PartsAreWhatIsRead};
 
 use crate::limits::{
-    MAX_ANSWER_BYTES, MAX_SELF_TEST_ACCEPTS, SELF_TEST_SECONDS, SERVE_IDLE_SECONDS,
+    MAX_ANSWER_BYTES, MAX_SELF_TEST_ACCEPTS, REPLY_SECONDS, SELF_TEST_SECONDS, SERVE_IDLE_SECONDS,
+    STOP_SECONDS,
 };
 use sv_streams::Stream;
 
@@ -12,6 +13,8 @@ use sv_streams::Stream;
 pub fn limits_are_as_stated()
     ensures idle { SERVE_IDLE_SECONDS ≡ 5 }
     ensures test { SELF_TEST_SECONDS ≡ 5 }
+    ensures reply { REPLY_SECONDS ≡ 10 }
+    ensures stop { STOP_SECONDS ≡ 20 }
     ensures accepts { MAX_SELF_TEST_ACCEPTS ≡ 1000 }
     ensures answer { MAX_ANSWER_BYTES ≡ 8388608 }
 {}

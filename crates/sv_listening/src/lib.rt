@@ -3,6 +3,7 @@
 #![tactic(auto)]
 
 mod bounds;
+mod control_request;
 mod laws;
 mod limits;
 mod lines;
@@ -28,8 +29,12 @@ mod stream_close;
 mod time;
 
 pub use bounds::{an_event_sends_little, parts_complete_little, pieces_are_parts};
+pub use control_request::{ask_control, converse, refusal_of};
 pub use laws::{limits_are_as_stated, parts_are_what_is_read};
-pub use limits::{MAX_ANSWER_BYTES, MAX_SELF_TEST_ACCEPTS, SELF_TEST_SECONDS, SERVE_IDLE_SECONDS};
+pub use limits::{
+    MAX_ANSWER_BYTES, MAX_SELF_TEST_ACCEPTS, REPLY_SECONDS, SELF_TEST_SECONDS, SERVE_IDLE_SECONDS,
+    STOP_SECONDS,
+};
 pub use lines::event_lines;
 pub use own_acceptor::OwnAcceptor;
 pub use part_stream::PartStream;

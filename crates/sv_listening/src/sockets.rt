@@ -1,6 +1,7 @@
 //! A port of this machine, and the faults of commands that listen or open files.
 
 ghost use Rattle.std.specs.Prelude.{◌≡◌};
+ghost use Rattle.sv_listening.specs.Controlling.{IsBroken};
 ghost use Rattle.sv_listening.specs.RunFault.{fault_of_run};
 
 use std::alloc::Global;
@@ -44,7 +45,9 @@ pub(crate) fn file_fault(alloc: Global, name: &str, error: io::Error) -> Command
 }
 
 /// Returns the fault for a socket file that cannot be used. Its name is limited more than those of other files.
-pub(crate) fn socket_file_fault(alloc: Global, name: &str, error: io::Error) -> CommandFault {
+pub(crate) fn socket_file_fault(alloc: Global, name: &str, error: io::Error) -> CommandFault
+    ensures { IsBroken name.now result }
+{
     let why = if error.kind() == ErrorKind::InvalidInput {
         Unavailable::LongName
     } else {
@@ -53,7 +56,9 @@ pub(crate) fn socket_file_fault(alloc: Global, name: &str, error: io::Error) -> 
     unavailable(alloc, name, why)
 }
 
-fn unavailable(alloc: Global, name: &str, why: Unavailable) -> CommandFault {
+fn unavailable(alloc: Global, name: &str, why: Unavailable) -> CommandFault
+    ensures { IsBroken name.now result }
+{
     match Text::copy_of(alloc, name) {
         Ok(name) => CommandFault::File(name, why),
         Err(NoMemory) => CommandFault::NoMemory,

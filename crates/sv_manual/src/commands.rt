@@ -9,7 +9,7 @@ pub type CommandRow = (&'static str, &'static str, &'static str);
 pub type OptionRow = (&'static str, &'static str, &'static str, &'static str);
 
 /// The commands, in the order in which `help` lists them.
-pub const COMMANDS: [CommandRow; 11] = [
+pub const COMMANDS: [CommandRow; 12] = [
     (
         "first",
         "[deny]",
@@ -49,6 +49,11 @@ pub const COMMANDS: [CommandRow; 11] = [
         "run",
         "CONFIG [OPTION ..]",
         "serves many connections at once, at the port of the server file; options, in any order:",
+    ),
+    (
+        "ctl",
+        "SOCKET WORD ..",
+        "sends a line to the control socket of run, and prints the reply; words as for --control",
     ),
     (
         "selftest",
@@ -138,7 +143,8 @@ not with --as, --role, --accept, --lines, --unknown-files, --path or --method",
         "run",
         "--control",
         "SOCKET",
-        "takes lines at that socket file: status, uncovered, explain, append, withdraw, stop",
+        "takes lines at that socket file: status, constraints, uncovered, explain, append,
+withdraw, stop",
     ),
     (
         "run",

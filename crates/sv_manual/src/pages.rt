@@ -25,7 +25,7 @@ pub const MAN_END: &str = "\
 The command succeeded.
 .TP
 1
-The configuration or the system has a fault.
+The configuration or the system has a fault, or a running server refused a request of ctl.
 .TP
 2
 The arguments or a script are wrong.
@@ -52,9 +52,9 @@ files.
 
 /// The end of the page in Markdown.
 pub const MARKDOWN_END: &str = "
-The exit status is 0 if the command succeeded, 1 if the configuration or the system has a fault, 2 if
-the arguments or a script are wrong, 3 if memory ran out, and 4 if an audit has findings that must
-not be there.
+The exit status is 0 if the command succeeded, 1 if the configuration or the system has a fault or a
+running server refused a request of `ctl`, 2 if the arguments or a script are wrong, 3 if memory ran
+out, and 4 if an audit has findings that must not be there.
 ";
 
 /// The beginning of the completion of bash, up to the names of the commands.
@@ -70,6 +70,7 @@ pub const COMPLETION_CASES: &str = "\"
     case $COMP_CWORD:${COMP_WORDS[1]}:$before:$word in
     1:*) names=$commands;;
     2:help:*) names=\"$commands config\";;
+    3:ctl:*) names=\"status constraints uncovered explain append withdraw stop\";;
     *:audit:--format:*) names=\"text json html keys\";;
     *:help:--format:*) names=\"man md bash\";;
 ";

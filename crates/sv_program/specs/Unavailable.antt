@@ -1,9 +1,9 @@
 -- Why a file, a directory or an address is not available.
 use Rattle.std.specs.Prelude.{ℕ, List, codes}
 use Rattle.std.specs.declared.io.ErrorKind.{ErrorKind}
-use Rattle.std.specs.declared.io.ErrorKind.TheVariants.{NotFound, PermissionDenied, IsADirectory, NotADirectory, Unsupported, FileTooLarge, InvalidData, InvalidInput, InvalidFilename, FilesystemLoop, AlreadyExists, StorageFull, ReadOnlyFilesystem, AddrInUse, AddrNotAvailable}
+use Rattle.std.specs.declared.io.ErrorKind.TheVariants.{NotFound, PermissionDenied, IsADirectory, NotADirectory, Unsupported, FileTooLarge, InvalidData, InvalidInput, InvalidFilename, FilesystemLoop, AlreadyExists, StorageFull, ReadOnlyFilesystem, AddrInUse, AddrNotAvailable, ConnectionRefused}
 use Rattle.sv_program.specs.declared.unavailable.Unavailable.{Unavailable}
-use Rattle.sv_program.specs.declared.unavailable.Unavailable.TheVariants.{Missing, Denied, IsDirectory, NotDirectory, SpecialFile, Link, LinkLoop, TooLarge, NotUtf8, LongName, BadName, NamelessEntry, NotSocket, NoSpace, ReadOnly, AddressInUse, NoSuchAddress, Other}
+use Rattle.sv_program.specs.declared.unavailable.Unavailable.TheVariants.{Missing, Denied, IsDirectory, NotDirectory, SpecialFile, Link, LinkLoop, TooLarge, NotUtf8, LongName, BadName, NamelessEntry, NotSocket, NoSpace, ReadOnly, AddressInUse, NoSuchAddress, NoListener, Other}
 
 -- the reason that an error of the system gives, by the kind of the error
 abbrev pub reason_of : ErrorKind → Unavailable
@@ -22,6 +22,7 @@ reason_of StorageFull = NoSpace
 reason_of ReadOnlyFilesystem = ReadOnly
 reason_of AddrInUse = AddressInUse
 reason_of AddrNotAvailable = NoSuchAddress
+reason_of ConnectionRefused = NoListener
 reason_of kind = Other
 
 -- the reason in words
@@ -43,4 +44,5 @@ reason_text NoSpace = codes "the file system has no space"
 reason_text ReadOnly = codes "the file system is read-only"
 reason_text AddressInUse = codes "the address is in use"
 reason_text NoSuchAddress = codes "this machine does not have the address"
+reason_text NoListener = codes "no program listens there"
 reason_text Other = codes "the system reports an error"

@@ -43,6 +43,8 @@ pub enum Unavailable {
     AddressInUse,
     /// No interface of this machine has the address.
     NoSuchAddress,
+    /// No program listens at the socket.
+    NoListener,
     /// The system reported another error.
     Other,
 }
@@ -68,6 +70,7 @@ impl Unavailable {
             ErrorKind::ReadOnlyFilesystem => Unavailable::ReadOnly,
             ErrorKind::AddrInUse => Unavailable::AddressInUse,
             ErrorKind::AddrNotAvailable => Unavailable::NoSuchAddress,
+            ErrorKind::ConnectionRefused => Unavailable::NoListener,
             _ => Unavailable::Other,
         }
     }
@@ -94,6 +97,7 @@ impl Unavailable {
             Unavailable::ReadOnly => "the file system is read-only",
             Unavailable::AddressInUse => "the address is in use",
             Unavailable::NoSuchAddress => "this machine does not have the address",
+            Unavailable::NoListener => "no program listens there",
             Unavailable::Other => "the system reports an error",
         }
     }

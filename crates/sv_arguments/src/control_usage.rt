@@ -1,0 +1,89 @@
+//! The second line about the arguments of the command `ctl`.
+
+ghost use Rattle.std.specs.Prelude.{map, string_bytes};
+ghost use Rattle.sv_arguments.specs.ControlUsage as spec;
+ghost use Rattle.sv_text.specs.Gives.{GivesAnswer};
+
+use crate::control_word::{ControlWord, near_word};
+use crate::plain::{lacks_line, wrong_word};
+use crate::topic::Topic;
+use crate::unknown_names::hint;
+use std::alloc::Global;
+use sv_program::quoted;
+use sv_text::{NoMemory, Text};
+
+/// The words, as they are listed for a word that is near to none.
+const LISTING: &str =
+    "it knows status, constraints, uncovered, explain, append, withdraw, stop";
+
+/// Returns the line about these arguments of `ctl`, if they are wrong: the socket or the word is missing, the word is
+/// not known, it has too few or too many arguments, or else a word has a line feed.
+///
+/// # Errors
+/// [`NoMemory`].
+pub(crate) fn control_detail(alloc: Global, arguments: &[String]) -> Result<Text, NoMemory>
+    ensures { GivesAnswer result (spec.control_line (map string_bytes arguments.now)) }
+{
+    let Some((_, words)) = arguments.split_first() else {
+        return lacks_line(alloc, Topic::Ctl);
+    };
+    let Some((word, arguments)) = words.split_first() else {
+        return lacks_line(alloc, Topic::Ctl);
+    };
+    match ControlWord::named(word.as_str()) {
+        Some(known) => known_line(alloc, known, word.as_str(), arguments),
+        None => unknown_line(alloc, word.as_str()),
+    }
+}
+
+/// Returns the line about a word that is not known.
+fn unknown_line(alloc: Global, word: &str) -> Result<Text, NoMemory>
+    ensures { GivesAnswer result (spec.unknown_line word.now) }
+{
+    let name = near_word(alloc, word)?;
+    let hint = hint(alloc, name, LISTING)?;
+    let word = quoted(alloc, word)?;
+    Ok(Text::from_string(format!(in alloc; "  ctl has no word {word}; {hint}")?))
+}
+
+/// Returns the line about the arguments of a known word.
+fn known_line(
+    alloc: Global,
+    known: ControlWord,
+    word: &str,
+    arguments: &[String],
+) -> Result<Text, NoMemory>
+    ensures { GivesAnswer result (spec.known_line known word.now (map string_bytes arguments.now)) }
+{
+    if arguments.len() < known.least() {
+        few_line(alloc, known, word)
+    } else if known.most() < arguments.len() {
+        many_line(alloc, known, word, wrong_word(known.most(), arguments))
+    } else {
+        Text::copy_of(alloc, "  ctl takes no word with a line feed")
+    }
+}
+
+/// Returns the line about a word with too few arguments.
+fn few_line(alloc: Global, known: ControlWord, word: &str) -> Result<Text, NoMemory>
+    ensures { GivesAnswer result (spec.few_line known word.now) }
+{
+    let usage = known.usage();
+    let line = format!(in alloc; "  {word} lacks an argument; usage: sv ctl SOCKET {usage}")?;
+    Ok(Text::from_string(line))
+}
+
+/// Returns the line about an argument that a word does not take.
+fn many_line(
+    alloc: Global,
+    known: ControlWord,
+    word: &str,
+    argument: &str,
+) -> Result<Text, NoMemory>
+    ensures { GivesAnswer result (spec.many_line known word.now argument.now) }
+{
+    let argument = quoted(alloc, argument)?;
+    let usage = known.usage();
+    let line = format!(in alloc; "  {word} does not take {argument}; usage: sv ctl SOCKET {usage}")?;
+    Ok(Text::from_string(line))
+}
