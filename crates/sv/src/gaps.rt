@@ -61,10 +61,7 @@ pub(crate) fn constraints_of<S, F, L>(
 }
 
 // Returns the lines of the constraints of one context.
-fn context_constraints<S, F, L>(
-    alloc: Global,
-    context: &Context<S, F, L>,
-) -> Result<Text, NoMemory>
+fn context_constraints<S, F, L>(alloc: Global, context: &Context<S, F, L>) -> Result<Text, NoMemory>
     ensures { GivesAnswer result (spec.context_constraints_text context.now) }
 {
     constraint_lines(

@@ -13,8 +13,7 @@ use sv_program::quoted;
 use sv_text::{NoMemory, Text};
 
 /// The words, as they are listed for a word that is near to none.
-const LISTING: &str =
-    "it knows status, constraints, uncovered, explain, append, withdraw, stop";
+const LISTING: &str = "it knows status, constraints, uncovered, explain, append, withdraw, stop";
 
 /// Returns the line about these arguments of `ctl`, if they are wrong: the socket or the word is missing, the word is
 /// not known, it has too few or too many arguments, or else a word has a line feed.
@@ -84,6 +83,8 @@ fn many_line(
 {
     let argument = quoted(alloc, argument)?;
     let usage = known.usage();
-    let line = format!(in alloc; "  {word} does not take {argument}; usage: sv ctl SOCKET {usage}")?;
+    let line = format!(in alloc;
+        "  {word} does not take {argument}; usage: sv ctl SOCKET {usage}"
+    )?;
     Ok(Text::from_string(line))
 }

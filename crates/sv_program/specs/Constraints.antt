@@ -29,19 +29,21 @@ abbrev pub roles_text : Auth → List ℕ
 roles_text auth.Absent = codes "open"
 roles_text (auth.Roles names) = admitted_text names
 
--- the end of the lines of a collection with these methods
-abbrev pub ending : Constraint → Methods → List ℕ
-ending constraint methods =
-    codes " methods=" ++ methods_text methods ++ codes " transport=" ++ transport_name constraint.transport ++ codes " roles=" ++ roles_text constraint.auth
+-- the text before a pattern: the context by its shown path, and the number of the constraint
+abbrev pub front_of : List ℕ → ℕ → List ℕ
+front_of context number = codes "constraint context=" ++ context ++ codes " number=" ++ decimal number ++ codes " pattern="
 
--- the line of a pattern in the context of this path: the number of its constraint, the pattern, and the end
-abbrev pub pattern_line : List ℕ → ℕ → List ℕ → List ℕ → List ℕ
-pattern_line path number its_ending pattern =
-    codes "constraint context=" ++ shown_context path ++ codes " number=" ++ decimal number ++ codes " pattern=" ++ pattern ++ its_ending ++ codes "\n"
+-- the text after a pattern of a collection with these methods
+abbrev pub end_of : Constraint → Methods → List ℕ
+end_of constraint methods =
+    codes " methods=" ++ methods_text methods ++ codes " transport=" ++ transport_name constraint.transport ++ codes " roles=" ++ roles_text constraint.auth ++ codes "\n"
+
+abbrev pub pattern_line : List ℕ → List ℕ → List ℕ → List ℕ
+pattern_line front end pattern = front ++ pattern ++ end
 
 abbrev pub collection_lines : List ℕ → Constraint → Collection → List ℕ
 collection_lines path constraint collection =
-    flat_map (pattern_line path constraint.number (ending constraint collection.methods)) collection.patterns
+    flat_map (pattern_line (front_of (shown_context path) constraint.number) (end_of constraint collection.methods)) collection.patterns
 
 abbrev pub constraint_lines : List ℕ → Constraint → List ℕ
 constraint_lines path constraint = flat_map (collection_lines path constraint) constraint.collections

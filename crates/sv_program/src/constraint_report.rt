@@ -1,13 +1,13 @@
 //! The report on constraints in force: a line for each pattern of each of their collections.
 
-ghost use Rattle.std.specs.Prelude.{◌≡◌, ◌++◌, flat_map, IfOk, OnOk};
+ghost use Rattle.std.specs.Prelude.{◌≡◌, ◌++◌, flat_map, OnOk};
+ghost use Rattle.std.specs.Fmt.{decimal};
 ghost use Rattle.std.specs.String.{string_bytes};
 ghost use Rattle.sv_program.specs.Constraints as spec;
-ghost use Rattle.sv_program.specs.Uncovered.{methods_text};
 ghost use Rattle.sv_text.specs.Gives.{GivesAnswer};
 
 use crate::uncovered_report::{push_methods, push_names};
-use std::alloc::{AllocError, Global};
+use std::alloc::Global;
 use sv_constraints::{Auth, Collection, Constraint, Methods, Transport};
 use sv_mapping::Pattern;
 use sv_text::{NoMemory, Text};
@@ -56,64 +56,59 @@ fn push_collection(
 ) -> Result<(), NoMemory>
     ensures { OnOk result (string_bytes lines.new ≡ string_bytes lines.old ++ spec.collection_lines path.now constraint.now collection.now) }
 {
-    let ending = ending_of(alloc, constraint, &collection.methods)?;
+    let front = front_of(alloc, shown_context(path), constraint.number)?;
+    let end = end_of(alloc, constraint, &collection.methods)?;
     push_patterns(
-        alloc,
         lines,
-        path,
-        constraint.number,
-        ending.as_str(),
+        front.as_str(),
+        end.as_str(),
         collection.patterns.as_slice(),
     )
 }
 
-/// Appends a line for each pattern. The lines have the same end.
+/// Appends the patterns, each between these texts.
 fn push_patterns(
-    alloc: Global,
     lines: &mut String,
-    path: &str,
-    number: u64,
-    ending: &str,
+    front: &str,
+    end: &str,
     patterns: &[Pattern],
 ) -> Result<(), NoMemory>
-    ensures { OnOk result (string_bytes lines.new ≡ string_bytes lines.old ++ flat_map (spec.pattern_line path.now number ending.now) patterns.now) }
+    ensures { OnOk result (string_bytes lines.new ≡ string_bytes lines.old ++ flat_map (spec.pattern_line front.now end.now) patterns.now) }
 {
     for pattern in patterns {
-        let line = line_of(alloc, path, number, pattern.text(), ending)?;
-        lines.push_str(line.as_str())?;
+        lines.push_str(front)?;
+        lines.push_str(pattern.text())?;
+        lines.push_str(end)?;
     }
     Ok(())
 }
 
-/// Returns the line of a pattern.
-fn line_of(
-    alloc: Global,
-    path: &str,
-    number: u64,
-    pattern: &str,
-    ending: &str,
-) -> Result<String, AllocError>
-    ensures { IfOk result (λ line. string_bytes line ≡ spec.pattern_line path.now number ending.now pattern.now) }
+/// Returns the text before the patterns of a constraint with this number in the context with this shown path.
+fn front_of(alloc: Global, context: &str, number: u64) -> Result<Text, NoMemory>
+    ensures { GivesAnswer result (spec.front_of context.now number) }
 {
-    let context = shown_context(path);
-    format!(in alloc; "constraint context={context} number={number} pattern={pattern}{ending}\n")
+    let number = number_text(alloc, number)?;
+    let front = format!(in alloc; "constraint context={context} number={number} pattern=")?;
+    Ok(Text::from_string(front))
 }
 
-/// Returns the end of the lines of a collection with these methods.
-fn ending_of(
-    alloc: Global,
-    constraint: &Constraint,
-    methods: &Methods,
-) -> Result<Text, NoMemory>
-    ensures { GivesAnswer result (spec.ending constraint.now methods.now) }
+fn number_text(alloc: Global, number: u64) -> Result<Text, NoMemory>
+    ensures { GivesAnswer result (decimal number) }
+{
+    Ok(Text::from_string(format!(in alloc; "{number}")?))
+}
+
+/// Returns the text after the patterns of a collection with these methods.
+fn end_of(alloc: Global, constraint: &Constraint, methods: &Methods) -> Result<Text, NoMemory>
+    ensures { GivesAnswer result (spec.end_of constraint.now methods.now) }
 {
     let mut names = String::new(alloc);
     push_methods(&mut names, methods)?;
     let mut roles = String::new(alloc);
     push_roles(&mut roles, &constraint.auth)?;
     let transport = transport_name(constraint.transport);
-    let line = format!(in alloc; " methods={names} transport={transport} roles={roles}")?;
-    Ok(Text::from_string(line))
+    let end = format!(in alloc; " methods={names} transport={transport} roles={roles}\n")?;
+    Ok(Text::from_string(end))
 }
 
 /// Returns the name of a transport guarantee.

@@ -5,4 +5,4 @@ use Rattle.sv_program.proofs.constraint_report.push_patterns.Given as goal
 
 abbrev pub invariant-loop-pattern : goal.invariant-loop-pattern
 invariant-loop-pattern l =
-    string_bytes l.lines ≡ string_bytes l.fn.lines ++ flat_map (spec.pattern_line l.path l.number l.ending) (take l.pattern-index l.patterns)
+    string_bytes l.lines ≡ string_bytes l.fn.lines ++ flat_map (spec.pattern_line l.front l.end) (take l.pattern-index l.patterns)
