@@ -92,6 +92,7 @@ def all_kinds(folder):
         + constraint(["*.txt"], ["stranger"])
         + constraint(["/a/tls/*"], None, "", confidential)
         + constraint(["/a/none/*", "/WEB-INF/x/*"], [])
+        + constraint(["/gone/*"], ["a"])
         + LOGIN
     )
     sheet = '<link rel="stylesheet" href="/css/x.css">'

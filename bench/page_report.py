@@ -65,7 +65,9 @@ def cell_of(group):
     methods, line = methods_of(group), group["line"]
     place = "" if line is None else f", line {line}"
     ending = "." if group["constraint"] is None else f" Constraint: {group['constraint']}{place}."
-    return WHO[group["because"]][1], methods, f"{methods} {entry_of(group)}", ending
+    # A cell that the viewer may not enter looks as one that nobody may enter.
+    kind = "nobody" if group["viewerEnters"] is False else WHO[group["because"]][1]
+    return kind, methods, f"{methods} {entry_of(group)}", ending
 
 
 def fixed_cell(kind, methods, who):
