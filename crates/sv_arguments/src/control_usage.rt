@@ -67,9 +67,8 @@ fn known_line(
 fn few_line(alloc: Global, known: ControlWord, word: &str) -> Result<Text, NoMemory>
     ensures { GivesAnswer result (spec.few_line known word.now) }
 {
-    let usage = known.usage();
-    let line = format!(in alloc; "  {word} lacks an argument; usage: sv ctl SOCKET {usage}")?;
-    Ok(Text::from_string(line))
+    let hint = usage_after(alloc, known)?;
+    Ok(Text::from_string(format!(in alloc; "  {word} lacks an argument{hint}")?))
 }
 
 /// Returns the line about an argument that a word does not take.
@@ -82,9 +81,13 @@ fn many_line(
     ensures { GivesAnswer result (spec.many_line known word.now argument.now) }
 {
     let argument = quoted(alloc, argument)?;
+    let hint = usage_after(alloc, known)?;
+    Ok(Text::from_string(format!(in alloc; "  {word} does not take {argument}{hint}")?))
+}
+
+fn usage_after(alloc: Global, known: ControlWord) -> Result<Text, NoMemory>
+    ensures { GivesAnswer result (spec.usage_after known) }
+{
     let usage = known.usage();
-    let line = format!(in alloc;
-        "  {word} does not take {argument}; usage: sv ctl SOCKET {usage}"
-    )?;
-    Ok(Text::from_string(line))
+    Ok(Text::from_string(format!(in alloc; "; usage: sv ctl SOCKET {usage}")?))
 }
