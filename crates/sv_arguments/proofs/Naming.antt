@@ -1,5 +1,5 @@
 -- Arguments that name a command.
-use Rattle.std.proofs.Common.{◌≡◌, ℕ, Bool, false, List, ◌∷◌, Option, Some, None, codes, inl, inr, refl, sym, ap, subst, drop, ◌∙◌}
+use Rattle.std.proofs.Common.{◌≡◌, ℕ, Bool, true, false, List, ◌∷◌, Option, Some, None, codes, inl, inr, refl, sym, ap, subst, drop, ◌∙◌}
 use Rattle.std.proofs.lemmas.Bool.{false≢true}
 use Rattle.std.specs.Str.{bytes_eq}
 use Rattle.sv_arguments.proofs.Decoding.{same_heads}
@@ -18,6 +18,13 @@ use Rattle.sv_arguments.specs.declared.control_request.ControlRequest.{ControlRe
 use Rattle.sv_arguments.specs.declared.run_options.RunOptions.{RunOptions}
 
 module _ (words : List (List ℕ)) where
+  -- arguments that begin with another name are not those of a command with this name
+  other_name : (own : List ℕ) → bytes_eq own own ≡ true → (name : List ℕ) (others : List (List ℕ))
+      → own ∷ words ≡ name ∷ others → bytes_eq name own ≡ false → ⊥
+  other_name own itself name others same other =
+      let Same : List ℕ → Bool = λ word. bytes_eq word own in
+      false≢true (sym other ∙ (ap Same (sym (same_heads own name words others same).0) ∙ itself))
+
   -- no other command has these arguments
   pub only_run : ((any : RunOptions) → IsAsked words any → ⊥) → (command : Command) → AreWordsOf (codes "run" ∷ words) command → ⊥
   only_run none (First deny) is = cc
@@ -29,34 +36,29 @@ module _ (words : List (List ℕ)) where
   only_run none (Serve service) is = cc
   only_run none (Run options) (rest, same, asked) =
       none options (subst (λ w. IsAsked w options) (sym (ap (drop 1) same)) asked)
-  only_run none (Ctl request) (rest, same, asked) = cc
+  only_run none (Ctl request) (rest, same, asked) = other_name (codes "run") refl (codes "ctl") rest same refl
   only_run none (SelfTest config) is = cc
   only_run none (Help about) is = is
   only_run none (Manual manual) is = cc
   only_run none Version (word, same, inl is) = cc
   only_run none Version (word, same, inr is) = cc
 
-  other_name : (name : List ℕ) (others : List (List ℕ)) → codes "audit" ∷ words ≡ name ∷ others → bytes_eq name (codes "audit") ≡ false → ⊥
-  other_name name others same other =
-      let Same : List ℕ → Bool = λ word. bytes_eq word (codes "audit") in
-      false≢true (sym other ∙ ap Same (sym (same_heads (codes "audit") name words others same).0))
-
   pub only_audit : ((any : AuditOptions) → IsAudit words any → ⊥) → (command : Command) → AreWordsOf (codes "audit" ∷ words) command → ⊥
-  only_audit none (First deny) is = other_name (codes "first") _ is refl
-  only_audit none (Policy question) is = other_name (codes "policy") _ is refl
-  only_audit none (Uncovered config) is = other_name (codes "uncovered") _ is refl
+  only_audit none (First deny) is = other_name (codes "audit") refl (codes "first") _ is refl
+  only_audit none (Policy question) is = other_name (codes "audit") refl (codes "policy") _ is refl
+  only_audit none (Uncovered config) is = other_name (codes "audit") refl (codes "uncovered") _ is refl
   only_audit none (Audit options) (rest, same, asked) =
       none options (subst (λ w. IsAudit w options) (sym (ap (drop 1) same)) asked)
-  only_audit none (Check config) is = other_name (codes "check") _ is refl
-  only_audit none (Replay config) is = other_name (codes "replay") _ is refl
-  only_audit none (Serve service) is = other_name (codes "serve") _ is refl
-  only_audit none (Run options) (rest, same, asked) = other_name (codes "run") rest same refl
-  only_audit none (Ctl request) (rest, same, asked) = other_name (codes "ctl") rest same refl
-  only_audit none (SelfTest config) is = other_name (codes "selftest") _ is refl
+  only_audit none (Check config) is = other_name (codes "audit") refl (codes "check") _ is refl
+  only_audit none (Replay config) is = other_name (codes "audit") refl (codes "replay") _ is refl
+  only_audit none (Serve service) is = other_name (codes "audit") refl (codes "serve") _ is refl
+  only_audit none (Run options) (rest, same, asked) = other_name (codes "audit") refl (codes "run") rest same refl
+  only_audit none (Ctl request) (rest, same, asked) = other_name (codes "audit") refl (codes "ctl") rest same refl
+  only_audit none (SelfTest config) is = other_name (codes "audit") refl (codes "selftest") _ is refl
   only_audit none (Help about) is = is
-  only_audit none (Manual manual) is = other_name (codes "help") _ is refl
-  only_audit none Version (word, same, inl is) = other_name word _ same (ap (λ (name : List ℕ). bytes_eq name (codes "audit")) is)
-  only_audit none Version (word, same, inr is) = other_name word _ same (ap (λ (name : List ℕ). bytes_eq name (codes "audit")) is)
+  only_audit none (Manual manual) is = other_name (codes "audit") refl (codes "help") _ is refl
+  only_audit none Version (word, same, inl is) = other_name (codes "audit") refl word _ same (ap (λ (name : List ℕ). bytes_eq name (codes "audit")) is)
+  only_audit none Version (word, same, inr is) = other_name (codes "audit") refl word _ same (ap (λ (name : List ℕ). bytes_eq name (codes "audit")) is)
 
   pub only_ctl : ((any : ControlRequest) → IsControl words any → ⊥) → (command : Command) → AreWordsOf (codes "ctl" ∷ words) command → ⊥
   only_ctl none (First deny) is = cc
@@ -66,7 +68,7 @@ module _ (words : List (List ℕ)) where
   only_ctl none (Check config) is = cc
   only_ctl none (Replay config) is = cc
   only_ctl none (Serve service) is = cc
-  only_ctl none (Run options) (rest, same, asked) = cc
+  only_ctl none (Run options) (rest, same, asked) = other_name (codes "ctl") refl (codes "run") rest same refl
   only_ctl none (Ctl request) (rest, same, asked) =
       none request (subst (λ w. IsControl w request) (sym (ap (drop 1) same)) asked)
   only_ctl none (SelfTest config) is = cc
