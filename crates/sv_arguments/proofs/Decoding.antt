@@ -7,7 +7,7 @@ use Rattle.std.specs.Str.{bytes_eq}
 use Rattle.sv_arguments.specs.Options.{IsProper, IsValue}
 use Rattle.sv_arguments.specs.Settings.{Setting, Keyed, key_word, own_words, setting_words, takes_word, words_of}
 use Rattle.sv_arguments.specs.declared.key.Key.{Key}
-use Rattle.sv_arguments.specs.declared.key.Key.TheVariants.{Control, Journal, Listen, SameSeed, Connections, IdleSeconds, HeldMebibytes, Secure, Format, As, Role, FailOn, Accept, Lines, UnknownFiles, Path, Method, Diff}
+use Rattle.sv_arguments.specs.declared.key.Key.TheVariants.{Control, Journal, Listen, SameSeed, Connections, IdleSeconds, HeldMebibytes, SignalDescriptor, Secure, Format, As, Role, FailOn, Accept, Lines, UnknownFiles, Path, Method, Diff}
 use Rattle.sv_arguments.specs.declared.option_set.OptionSet.{OptionSet}
 
 -- the option of a word
@@ -20,6 +20,7 @@ key_at word =
     else if bytes_eq word (codes "--connections") then Some Connections
     else if bytes_eq word (codes "--idle-seconds") then Some IdleSeconds
     else if bytes_eq word (codes "--held-mebibytes") then Some HeldMebibytes
+    else if bytes_eq word (codes "--signal-descriptor") then Some SignalDescriptor
     else if bytes_eq word (codes "--secure") then Some Secure
     else if bytes_eq word (codes "--format") then Some Format
     else if bytes_eq word (codes "--as") then Some As
@@ -42,6 +43,7 @@ key_at-key_word SameSeed = refl
 key_at-key_word Connections = refl
 key_at-key_word IdleSeconds = refl
 key_at-key_word HeldMebibytes = refl
+key_at-key_word SignalDescriptor = refl
 key_at-key_word Secure = refl
 key_at-key_word Format = refl
 key_at-key_word As = refl

@@ -10,8 +10,8 @@ use Rattle.sv_arguments.specs.AuditWords.{IsFormat, format_name}
 use Rattle.sv_arguments.specs.Laws.{AreSame, AskForOne, AuditsOne, SameAccess, SameViewer}
 use Rattle.sv_arguments.specs.RunOptions.{GiveRun}
 use Rattle.sv_arguments.specs.Settings.{Setting, values, words_of}
-use Rattle.sv_arguments.specs.Values.{IsAddress, IsCount, IsGiven, IsName, Says, SaysOr}
-use Rattle.sv_arguments.specs.declared.key.Key.TheVariants.{Accept, As, Connections, Control, Diff, FailOn, Format, HeldMebibytes, IdleSeconds, Journal, Lines, Listen, Method, Path, Role, SameSeed, Secure, UnknownFiles}
+use Rattle.sv_arguments.specs.Values.{IsAddress, IsCount, IsDescriptor, IsGiven, IsName, Says, SaysOr}
+use Rattle.sv_arguments.specs.declared.key.Key.TheVariants.{Accept, As, Connections, Control, Diff, FailOn, Format, HeldMebibytes, IdleSeconds, Journal, Lines, Listen, Method, Path, Role, SameSeed, Secure, SignalDescriptor, UnknownFiles}
 use Rattle.sv_arguments.specs.declared.option_set.OptionSet.TheVariants as set
 use Rattle.sv_arguments.specs.declared.run_options.RunOptions.{RunOptions}
 use Rattle.sv_audit_command.specs.declared.access_options.AccessOptions.{AccessOptions}
@@ -49,6 +49,9 @@ names_one (word ∷ second ∷ words) (Some x) other a b = absurd a
 
 counts_one : (limit : ℕ) (word : List ℕ) (x y : ℕ) → IsCount limit word x → IsCount limit word y → x ≡ y
 counts_one limit word x y a b = sym a.1 ∙ b.1
+
+descriptors_one : (word : List ℕ) (x y : ℕ) → IsDescriptor word x → IsDescriptor word y → x ≡ y
+descriptors_one word x y a b = counts_one 1048575 word x y a.0 b.0
 
 given_one : (words : List (List ℕ)) (one other : Bool) → IsGiven words one → IsGiven words other → one ≡ other
 given_one [] false false a b = refl
@@ -105,6 +108,7 @@ run_one settings one other config a b = (
   says_one (IsCount 1024) (counts_one 1024) (values Connections settings) one.connections other.connections a.4 b.4,
   says_one (IsCount 86400) (counts_one 86400) (values IdleSeconds settings) one.idle_seconds other.idle_seconds a.5 b.5,
   says_one (IsCount 1048576) (counts_one 1048576) (values HeldMebibytes settings) one.held_mebibytes other.held_mebibytes a.6 b.6,
+  says_one IsDescriptor descriptors_one (values SignalDescriptor settings) one.signal_descriptor other.signal_descriptor a.7 b.7,
 )
 
 pub ask_for_one : AskForOne

@@ -3,10 +3,10 @@ use Rattle.std.specs.Prelude.{◌≡◌, ℕ, ◌≤◌, true, List, [], ◌∷�
 use Rattle.sv_audit_command.specs.Kinds.{AreKinds}
 use Rattle.sv_audit_command.specs.declared.access_options.Format as report
 use Rattle.sv_arguments.specs.Settings.{Setting, Keyed, given_rival, is_given, needed, set_of, values}
-use Rattle.sv_arguments.specs.Values.{IsAddress, IsCount}
+use Rattle.sv_arguments.specs.Values.{IsAddress, IsCount, IsDescriptor}
 use Rattle.sv_arguments.specs.AuditWords.{IsFormat, IsUnfit}
 use Rattle.sv_arguments.specs.declared.key.Key.{Key}
-use Rattle.sv_arguments.specs.declared.key.Key.TheVariants.{Listen, SameSeed, Connections, IdleSeconds, HeldMebibytes, Secure, Format, FailOn, UnknownFiles, Diff}
+use Rattle.sv_arguments.specs.declared.key.Key.TheVariants.{Listen, SameSeed, Connections, IdleSeconds, HeldMebibytes, SignalDescriptor, Secure, Format, FailOn, UnknownFiles, Diff}
 use Rattle.sv_arguments.specs.declared.option_set.OptionSet.{OptionSet}
 use Rattle.std.specs.declared.net.socket_addr.SocketAddr.{SocketAddr}
 
@@ -17,6 +17,7 @@ IsValue SameSeed word = word ≡ []
 IsValue Connections word = (count : ℕ) × IsCount 1024 word count
 IsValue IdleSeconds word = (count : ℕ) × IsCount 86400 word count
 IsValue HeldMebibytes word = (count : ℕ) × IsCount 1048576 word count
+IsValue SignalDescriptor word = (number : ℕ) × IsDescriptor word number
 IsValue Secure word = word ≡ []
 IsValue Format word = (format : report.Format) × IsFormat word format
 IsValue FailOn word = AreKinds word

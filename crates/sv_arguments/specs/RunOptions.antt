@@ -2,8 +2,8 @@
 use Rattle.std.specs.Prelude.{◌≡◌, ℕ, List, ◌∷◌}
 use Rattle.sv_arguments.specs.Options.{AreComplete}
 use Rattle.sv_arguments.specs.Settings.{Setting, values, words_of}
-use Rattle.sv_arguments.specs.Values.{IsAddress, IsCount, IsGiven, IsName, Says}
-use Rattle.sv_arguments.specs.declared.key.Key.TheVariants.{Connections, Control, HeldMebibytes, IdleSeconds, Journal, Listen, SameSeed}
+use Rattle.sv_arguments.specs.Values.{IsAddress, IsCount, IsDescriptor, IsGiven, IsName, Says}
+use Rattle.sv_arguments.specs.declared.key.Key.TheVariants.{Connections, Control, HeldMebibytes, IdleSeconds, Journal, Listen, SameSeed, SignalDescriptor}
 use Rattle.sv_arguments.specs.declared.option_set.OptionSet.TheVariants.{Run}
 use Rattle.sv_arguments.specs.declared.run_options.RunOptions.{RunOptions}
 
@@ -17,6 +17,7 @@ GiveRun settings options =
     × Says (IsCount 1024) (values Connections settings) options.connections
     × Says (IsCount 86400) (values IdleSeconds settings) options.idle_seconds
     × Says (IsCount 1048576) (values HeldMebibytes settings) options.held_mebibytes
+    × Says IsDescriptor (values SignalDescriptor settings) options.signal_descriptor
 
 -- the arguments are the name of the server file, then the words of settings in any order, which give these options
 abbrev pub IsAsked : List (List ℕ) → RunOptions → Type 0

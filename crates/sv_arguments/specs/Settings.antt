@@ -3,7 +3,7 @@ use Rattle.std.specs.Prelude.{◌≡◌, ℕ, Bool, true, false, List, [], ◌�
 use Rattle.std.specs.List.{find, flat_map}
 use Rattle.std.specs.Str.{bytes_eq}
 use Rattle.sv_arguments.specs.declared.key.Key.{Key}
-use Rattle.sv_arguments.specs.declared.key.Key.TheVariants.{Control, Journal, Listen, SameSeed, Connections, IdleSeconds, HeldMebibytes, Secure, Format, As, Role, FailOn, Accept, Lines, UnknownFiles, Path, Method, Diff}
+use Rattle.sv_arguments.specs.declared.key.Key.TheVariants.{Control, Journal, Listen, SameSeed, Connections, IdleSeconds, HeldMebibytes, SignalDescriptor, Secure, Format, As, Role, FailOn, Accept, Lines, UnknownFiles, Path, Method, Diff}
 use Rattle.sv_arguments.specs.declared.option_set.OptionSet.{OptionSet}
 use Rattle.sv_arguments.specs.declared.option_set.OptionSet.TheVariants.{Run, Audit}
 
@@ -19,6 +19,7 @@ key_word SameSeed = codes "--same-seed"
 key_word Connections = codes "--connections"
 key_word IdleSeconds = codes "--idle-seconds"
 key_word HeldMebibytes = codes "--held-mebibytes"
+key_word SignalDescriptor = codes "--signal-descriptor"
 key_word Secure = codes "--secure"
 key_word Format = codes "--format"
 key_word As = codes "--as"
@@ -40,6 +41,7 @@ value_name SameSeed = codes "nothing"
 value_name Connections = codes "a number from 1 to 1024"
 value_name IdleSeconds = codes "a number from 1 to 86400"
 value_name HeldMebibytes = codes "a number from 1 to 1048576"
+value_name SignalDescriptor = codes "a number from 3 to 1048575"
 value_name Secure = codes "nothing"
 value_name Format = codes "text, json, html or keys"
 value_name As = codes "USER"
@@ -54,7 +56,7 @@ value_name Diff = codes "a server file"
 
 -- the options of a command, in the order of its help
 abbrev pub option_keys : OptionSet → List Key
-option_keys Run = Control ∷ Journal ∷ Listen ∷ SameSeed ∷ Connections ∷ IdleSeconds ∷ HeldMebibytes ∷ []
+option_keys Run = Control ∷ Journal ∷ Listen ∷ SameSeed ∷ Connections ∷ IdleSeconds ∷ HeldMebibytes ∷ SignalDescriptor ∷ []
 option_keys Audit = Secure ∷ Format ∷ As ∷ Role ∷ FailOn ∷ Accept ∷ Lines ∷ UnknownFiles ∷ Path ∷ Method ∷ Diff ∷ []
 
 abbrev pub option_words : OptionSet → List (List ℕ)

@@ -19,6 +19,10 @@ IsAddress word address = IsSocketText word address
 abbrev pub IsCount : ℕ → List ℕ → ℕ → Type 0
 IsCount limit word count = (list_all is_ascii_digit word ≡ true) × (digits_value 10 word ≡ count) × (0 < count) × (count ≤ limit)
 
+-- the word consists of decimal digits, and they write the number of a descriptor that is no standard stream
+abbrev pub IsDescriptor : List ℕ → ℕ → Type 0
+IsDescriptor word number = IsCount 1048575 word number × (3 ≤ number)
+
 -- no word gives no value, and one word gives its meaning
 abbrev pub Says : {A : Type 0} → (List ℕ → A → Type 0) → List (List ℕ) → Option A → Type 0
 Says means [] None = Unit {0}

@@ -3,10 +3,16 @@
 ghost use Rattle.std.specs.Char.{is_ascii_digit};
 ghost use Rattle.std.specs.List.{list_all};
 ghost use Rattle.std.specs.Prelude.{Some, true, ◌≡◌};
-ghost use Rattle.sv_arguments.specs.Values.{Finds, IsAddress, IsCount, IsNumber};
+ghost use Rattle.sv_arguments.specs.Values.{Finds, IsAddress, IsCount, IsDescriptor, IsNumber};
 ghost use Rattle.sv_script.specs.Fields.{number};
 
 use std::net::SocketAddr;
+
+/// The first number of a descriptor that is no standard stream.
+const FIRST_DESCRIPTOR: u32 = 3;
+
+/// The greatest number of a descriptor, by the default of Linux (`/proc/sys/fs/nr_open`).
+const MAX_DESCRIPTOR: u32 = 1_048_575;
 
 /// Returns the number that decimal digits write, if it is from 1 to the limit.
 pub(crate) fn count_in(text: &str, limit: u32) -> Option<u32>
@@ -18,6 +24,18 @@ pub(crate) fn count_in(text: &str, limit: u32) -> Option<u32>
     let count = number_in(text)?;
     if 0 < count && count <= limit {
         Some(count)
+    } else {
+        None
+    }
+}
+
+/// Returns the number of a descriptor that the word writes, if it is no standard stream.
+pub(crate) fn descriptor_in(word: &str) -> Option<u32>
+    ensures { Finds (IsDescriptor word.now) result }
+{
+    let number = count_in(word, MAX_DESCRIPTOR)?;
+    if FIRST_DESCRIPTOR <= number {
+        Some(number)
     } else {
         None
     }

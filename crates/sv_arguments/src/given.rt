@@ -5,10 +5,10 @@ ghost use Rattle.sv_arguments.specs.Given.{AreAllOf, AreOf, IsFirst, IsNext, IsS
 ghost use Rattle.sv_arguments.specs.OptionFault.{IsRefused, IsWrong};
 ghost use Rattle.sv_arguments.specs.Options.{AreProper, HasUnfit, IsProper, IsValue};
 ghost use Rattle.sv_arguments.specs.Settings.{Keyed, Setting, given_rival, is_given, setting_words, values, words_of};
-ghost use Rattle.sv_arguments.specs.Values.{Finds, IsAddress, IsCount, IsGiven, IsName, Says};
+ghost use Rattle.sv_arguments.specs.Values.{Finds, IsAddress, IsCount, IsDescriptor, IsGiven, IsName, Says};
 
 use crate::audit_options::unfit_named;
-use crate::count::{address_in, count_in};
+use crate::count::{address_in, count_in, descriptor_in};
 use crate::key::Key;
 use crate::option_fault::OptionFault;
 use crate::option_set::OptionSet;
@@ -92,6 +92,15 @@ impl<'a> Given<'a> {
     {
         let word = self.value(key)?;
         count_in(word, limit)
+    }
+
+    /// Returns the number of a descriptor after an option whose values are such numbers.
+    pub(crate) fn descriptor(&self, key: Key) -> Option<u32>
+        ensures { (settings : List Setting) → AreOf self.now.set (map string_bytes self.now.words.now) settings
+            → ((word : List ℕ) → IsValue key word → (number : ℕ) × IsDescriptor word number) → Says IsDescriptor (values key settings) result }
+    {
+        let word = self.value(key)?;
+        descriptor_in(word)
     }
 }
 

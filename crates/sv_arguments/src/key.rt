@@ -5,7 +5,7 @@ ghost use Rattle.sv_arguments.specs.Options.{IsValue};
 ghost use Rattle.sv_arguments.specs.Settings.{key_word, rivals, takes_word, value_name};
 
 use crate::audit_options::format_named;
-use crate::count::{address_in, count_in};
+use crate::count::{address_in, count_in, descriptor_in};
 use sv_audit_command::are_kinds;
 
 /// Maximum value of `--connections`.
@@ -34,6 +34,8 @@ pub enum Key {
     IdleSeconds,
     /// `--held-mebibytes N`: maximum number of mebibytes that all connections hold together.
     HeldMebibytes,
+    /// `--signal-descriptor N`: the number of the descriptor at which the signals of the process are read.
+    SignalDescriptor,
     /// `--secure`: requests arrive over a connection whose transport is guaranteed.
     Secure,
     /// `--format FORMAT`: the form of the report.
@@ -71,6 +73,7 @@ impl Key {
             Key::Connections => "--connections",
             Key::IdleSeconds => "--idle-seconds",
             Key::HeldMebibytes => "--held-mebibytes",
+            Key::SignalDescriptor => "--signal-descriptor",
             Key::Secure => "--secure",
             Key::Format => "--format",
             Key::As => "--as",
@@ -97,6 +100,7 @@ impl Key {
             Key::Connections => "a number from 1 to 1024",
             Key::IdleSeconds => "a number from 1 to 86400",
             Key::HeldMebibytes => "a number from 1 to 1048576",
+            Key::SignalDescriptor => "a number from 3 to 1048575",
             Key::Secure => "nothing",
             Key::Format => "text, json, html or keys",
             Key::As => "USER",
@@ -123,6 +127,7 @@ impl Key {
             Key::Connections => true,
             Key::IdleSeconds => true,
             Key::HeldMebibytes => true,
+            Key::SignalDescriptor => true,
             Key::Secure => false,
             Key::Format => true,
             Key::As => true,
@@ -149,6 +154,7 @@ impl Key {
             Key::Connections => &[],
             Key::IdleSeconds => &[],
             Key::HeldMebibytes => &[],
+            Key::SignalDescriptor => &[],
             Key::Secure => &[],
             Key::Format => &[Key::Path],
             Key::As => &[Key::Role, Key::Diff],
@@ -184,6 +190,7 @@ impl Key {
             Key::Connections => count_in(word, MAX_CONNECTIONS).is_some(),
             Key::IdleSeconds => count_in(word, MAX_IDLE_SECONDS).is_some(),
             Key::HeldMebibytes => count_in(word, MAX_HELD_MEBIBYTES).is_some(),
+            Key::SignalDescriptor => descriptor_in(word).is_some(),
             Key::Secure => word.is_empty(),
             Key::Format => format_named(word).is_some(),
             Key::As => true,

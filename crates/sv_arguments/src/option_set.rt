@@ -83,6 +83,9 @@ fn run_key(word: &str) -> Option<Key>
     if word == "--held-mebibytes" {
         return Some(Key::HeldMebibytes);
     }
+    if word == "--signal-descriptor" {
+        return Some(Key::SignalDescriptor);
+    }
     None
 }
 

@@ -30,12 +30,15 @@ pub struct RunOptions<'a> {
     pub idle_seconds: Option<u32>,
     /// Maximum number of mebibytes that all connections hold together, or none for the default.
     pub held_mebibytes: Option<u32>,
+    /// The number of the descriptor at which the signals of the process are read, if there is one.
+    pub signal_descriptor: Option<u32>,
 }
 
 impl<'a> RunOptions<'a> {
     /// Parses the arguments: the name of the server file, followed by options in any order, each at most once. The
     /// options are `--control SOCKET`, `--journal FILE`, `--listen ADDRESS:PORT`, `--same-seed`, `--connections N` (1
-    /// to 1,024), `--idle-seconds N` (1 to 86,400) and `--held-mebibytes N` (1 to 1,048,576).
+    /// to 1,024), `--idle-seconds N` (1 to 86,400), `--held-mebibytes N` (1 to 1,048,576) and `--signal-descriptor N`
+    /// (3 to 1,048,575).
     ///
     /// # Errors
     /// The first fault, from the left.
@@ -53,6 +56,7 @@ impl<'a> RunOptions<'a> {
             connections: given.count(Key::Connections, MAX_CONNECTIONS),
             idle_seconds: given.count(Key::IdleSeconds, MAX_IDLE_SECONDS),
             held_mebibytes: given.count(Key::HeldMebibytes, MAX_HELD_MEBIBYTES),
+            signal_descriptor: given.descriptor(Key::SignalDescriptor),
         })
     }
 }

@@ -31,7 +31,7 @@ use sv_program::quoted;
 use sv_text::{NoMemory, Text};
 
 /// The options of `run`, in the order of its help.
-const RUN_OPTIONS: [&str; 7] = [
+const RUN_OPTIONS: [&str; 8] = [
     "--control",
     "--journal",
     "--listen",
@@ -39,6 +39,7 @@ const RUN_OPTIONS: [&str; 7] = [
     "--connections",
     "--idle-seconds",
     "--held-mebibytes",
+    "--signal-descriptor",
 ];
 
 /// The options of `audit`, in the order of its help.

@@ -73,7 +73,7 @@ pub const COMMANDS: [CommandRow; 12] = [
 ];
 
 /// The options, by their commands.
-pub const OPTIONS: [OptionRow; 19] = [
+pub const OPTIONS: [OptionRow; 20] = [
     (
         "audit",
         "--secure",
@@ -176,6 +176,12 @@ withdraw, stop",
         "--held-mebibytes",
         "N",
         "MiB that all connections hold, 1 to 1048576; 64 without it",
+    ),
+    (
+        "run",
+        "--signal-descriptor",
+        "N",
+        "reads signals there; fitskhela-launch opens it, and gives this option",
     ),
     (
         "help",

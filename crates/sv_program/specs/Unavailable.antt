@@ -3,7 +3,7 @@ use Rattle.std.specs.Prelude.{ℕ, List, codes}
 use Rattle.std.specs.declared.io.ErrorKind.{ErrorKind}
 use Rattle.std.specs.declared.io.ErrorKind.TheVariants.{NotFound, PermissionDenied, IsADirectory, NotADirectory, Unsupported, FileTooLarge, InvalidData, InvalidInput, InvalidFilename, FilesystemLoop, AlreadyExists, StorageFull, ReadOnlyFilesystem, AddrInUse, AddrNotAvailable, ConnectionRefused}
 use Rattle.sv_program.specs.declared.unavailable.Unavailable.{Unavailable}
-use Rattle.sv_program.specs.declared.unavailable.Unavailable.TheVariants.{Missing, Denied, IsDirectory, NotDirectory, SpecialFile, Link, LinkLoop, TooLarge, NotUtf8, LongName, BadName, NamelessEntry, NotSocket, NoSpace, ReadOnly, AddressInUse, NoSuchAddress, NoListener, Other}
+use Rattle.sv_program.specs.declared.unavailable.Unavailable.TheVariants.{Missing, Denied, IsDirectory, NotDirectory, SpecialFile, Link, LinkLoop, TooLarge, NotUtf8, LongName, BadName, NamelessEntry, NotSocket, NoSpace, ReadOnly, AddressInUse, NoSuchAddress, NoListener, NoSignals, Other}
 
 -- the reason that an error of the system gives, by the kind of the error
 abbrev pub reason_of : ErrorKind → Unavailable
@@ -45,4 +45,5 @@ reason_text ReadOnly = codes "the file system is read-only"
 reason_text AddressInUse = codes "the address is in use"
 reason_text NoSuchAddress = codes "this machine does not have the address"
 reason_text NoListener = codes "no program listens there"
+reason_text NoSignals = codes "no descriptor of signals is open there"
 reason_text Other = codes "the system reports an error"

@@ -45,6 +45,8 @@ pub enum Unavailable {
     NoSuchAddress,
     /// No program listens at the socket.
     NoListener,
+    /// It is no open descriptor of signals.
+    NoSignals,
     /// The system reported another error.
     Other,
 }
@@ -98,6 +100,7 @@ impl Unavailable {
             Unavailable::AddressInUse => "the address is in use",
             Unavailable::NoSuchAddress => "this machine does not have the address",
             Unavailable::NoListener => "no program listens there",
+            Unavailable::NoSignals => "no descriptor of signals is open there",
             Unavailable::Other => "the system reports an error",
         }
     }
