@@ -22,12 +22,13 @@ use sv_program::{CommandFault, FileStore};
 /// Starts the container of the server file with the random words of the options' seeding, and listens at the address.
 /// The default address is 127.0.0.1 with the server file's port. Writes the line `listening ADDRESS:PORT`, and serves
 /// all connections within the options' limits, none waiting for another. This ends when the control socket, if one is
-/// named, receives `stop`, or when the process is ended from outside. Shuts the container down, even after a fault. If
-/// a journal is named, appends the effects of the events to that file.
+/// named, receives `stop`, when the descriptor of signals, if one is given, reports SIGTERM or SIGINT, or when the process
+/// is ended from outside. Shuts the container down, even after a fault. If a journal is named, appends the effects of the
+/// events to that file.
 ///
 /// # Errors
-/// The first fault: those of [`start_server`], with nothing written; then [`CommandFault::File`] if a journal or a
-/// control socket cannot be opened; then [`CommandFault::Socket`], [`CommandFault::Output`] or
+/// The first fault: those of [`start_server`], with nothing written; then [`CommandFault::File`] if a journal, a
+/// descriptor of signals or a control socket cannot be opened; then [`CommandFault::Socket`], [`CommandFault::Output`] or
 /// [`CommandFault::NoMemory`] as the run meets them.
 pub fn run<S: FileStore + FolderStore, H: Net + Clock + RandomSource + Files + Eprint, W: Write>(
     alloc: Global,
@@ -54,6 +55,7 @@ pub fn run<S: FileStore + FolderStore, H: Net + Clock + RandomSource + Files + E
         address: address_or(options.listen, port),
         limits: limits_of(options),
         control: options.control,
+        signals: options.signal_descriptor,
     };
     let asked = AskedContainer::new(container);
     let (served, asked) = match options.journal {

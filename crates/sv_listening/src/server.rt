@@ -1,6 +1,6 @@
 //! Serving all connections of an address at once.
 
-use crate::sockets::{address_fault, fault_of_run, socket_file_fault};
+use crate::sockets::{address_fault, fault_of_run, signals_fault, socket_file_fault};
 use std::alloc::Global;
 use std::cell::Cell;
 use std::io::Write;
@@ -12,7 +12,7 @@ use sv_program::{CommandFault, SocketFault, print_line};
 use sv_readiness::{Listening, RoundClock, Sockets};
 use sv_run::{EventHandler, RunFault};
 
-/// The address that a server listens on, the limits of its connections and its control socket.
+/// The address that a server listens on, the limits of its connections, its control socket and its signals.
 #[derive(Clone, Copy)]
 pub struct ListenOptions<'a> {
     /// The address. Port 0 selects any free port.
@@ -21,6 +21,8 @@ pub struct ListenOptions<'a> {
     pub limits: Limits,
     /// The name of the control socket file, if there is one.
     pub control: Option<&'a str>,
+    /// The number of the descriptor at which the signals of the process are read, if there is one.
+    pub signals: Option<u32>,
 }
 
 /// Listens at the address and writes the line `listening ADDRESS:PORT`. Port 0 selects any free port. Then serves all
@@ -47,12 +49,13 @@ pub fn listen_and_run<H: Net + Clock, W: Write, R: EventHandler>(
 }
 
 /// Serves as [`listen_and_run`] does, with these options. If a socket file is named, it also answers queries there,
-/// passes the edits sent there to the handler, and ends when the line `stop` is sent there. Then the bytes that wait
-/// are written for at most 5 seconds, and the bytes that peers still send are read and dropped for 2 more seconds.
+/// passes the edits sent there to the handler, and ends when the line `stop` is sent there. If a descriptor of signals is
+/// given, it also ends at SIGTERM or SIGINT. Then the bytes that wait are written for at most 5 seconds, and the bytes
+/// that peers still send are read and dropped for 2 more seconds.
 ///
 /// # Errors
-/// [`CommandFault::Socket`]; then [`CommandFault::File`] for a socket file that cannot be used; then those of
-/// [`listen_and_run`].
+/// [`CommandFault::Socket`]; then [`CommandFault::File`] for a descriptor of signals, or for a socket file, that cannot be
+/// used; then those of [`listen_and_run`].
 pub fn run_controlled<H: Net + Clock + Files, W: Write, R: EventHandler + Queries>(
     alloc: Global,
     host: &H,
@@ -64,6 +67,9 @@ pub fn run_controlled<H: Net + Clock + Files, W: Write, R: EventHandler + Querie
         Ok(listening) => listening,
         Err(error) => return (Err(address_fault(options.address, error)), handler),
     };
+    if let Err(fault) = take_signals(alloc, &mut listening, options.signals) {
+        return (Err(fault), handler);
+    }
     match take_lines(alloc, host, &mut listening, options.control) {
         Ok(()) => tell_and_run(alloc, host, writer, listening, options.limits, handler),
         Err(fault) => (Err(fault), handler),
@@ -82,6 +88,21 @@ fn tell_and_run<H: Net + Clock, W: Write, R: EventHandler + Queries>(
     match tell_address(alloc, writer, &listening) {
         Ok(()) => run_listening(alloc, host, listening, limits, handler),
         Err(fault) => (Err(fault), handler),
+    }
+}
+
+// Takes signals at the descriptor, if one is given.
+fn take_signals(
+    alloc: Global,
+    listening: &mut Listening,
+    signals: Option<u32>,
+) -> Result<(), CommandFault> {
+    let Some(descriptor) = signals else {
+        return Ok(());
+    };
+    match listening.take_signals_at(descriptor) {
+        Ok(()) => Ok(()),
+        Err(_) => Err(signals_fault(alloc, descriptor)),
     }
 }
 

@@ -56,6 +56,14 @@ pub(crate) fn socket_file_fault(alloc: Global, name: &str, error: io::Error) -> 
     unavailable(alloc, name, why)
 }
 
+/// Returns the fault for a descriptor of signals that cannot be used.
+pub(crate) fn signals_fault(alloc: Global, descriptor: u32) -> CommandFault {
+    match format!(in alloc; "descriptor {descriptor}") {
+        Ok(name) => CommandFault::File(Text::from_string(name), Unavailable::NoSignals),
+        Err(_) => CommandFault::NoMemory,
+    }
+}
+
 fn unavailable(alloc: Global, name: &str, why: Unavailable) -> CommandFault
     ensures { IsBroken name.now result }
 {

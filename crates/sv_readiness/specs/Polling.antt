@@ -1,17 +1,20 @@
--- The calls of the sockets: the line that the control socket reads, and the edit that a query asks for.
-use Rattle.std.specs.Prelude.{◌≡◌, ℕ, ◌<◌, ◌≤◌, List, ◌++◌, length, take, Option, None, Some, Result, Ok, Err}
+-- The calls of the sockets: the line that the control socket reads, the edit that a query asks for, and the reasons of a
+-- stop.
+use Rattle.std.specs.Prelude.{◌≡◌, ◌⊎◌, ℕ, ◌<◌, ◌≤◌, Bool, true, List, ◌++◌, length, take, Option, None, Some, Result, Ok, Err}
 use Rattle.std.specs.Io.KnownBytes.{Consumes, Keeps}
 use Rattle.sv_connection.specs.Asking.{Explaining, Saying}
 use Rattle.sv_connection.specs.Polling.{Accept, Answer, Close, PollerCall, Status, Wait}
-use Rattle.sv_connection.specs.declared.poller.PollEvent.TheVariants.{Asked}
+use Rattle.sv_connection.specs.declared.poller.PollEvent.TheVariants.{Asked, Stop}
 use Rattle.sv_connection.specs.declared.queries.Figures.{Figures}
 use Rattle.sv_policy.specs.declared.edit.Edit.{Edit}
-use Rattle.sv_readiness.specs.Asking.{RepliesTo, ask_of, line_end}
+use Rattle.sv_readiness.specs.Asking.{RepliesTo, ask_of, asks_to_stop, line_end}
 use Rattle.sv_readiness.specs.declared.control.Control.{Control}
 use Rattle.sv_readiness.specs.declared.control_commands.Ask.TheVariants as ask
 use Rattle.sv_readiness.specs.declared.control_line.Heard.{Heard}
 use Rattle.sv_readiness.specs.declared.control_line.Heard.TheVariants.{End, Part, TooLong, UntilPaused, Whole}
 use Rattle.sv_readiness.specs.declared.limits.TheConstants.{MAX_LINE_BYTES}
+use Rattle.sv_readiness.specs.declared.signals.Signals.{Signals}
+use Rattle.sv_readiness.specs.Signals.{ask_to_stop, last_read}
 use Rattle.sv_run.specs.Reacting.{Reacting}
 use Rattle.sv_run.specs.declared.step_fault.StepFault.{StepFault}
 use Rattle.sv_text.specs.declared.no_memory.NoMemory.{NoMemory}
@@ -45,6 +48,24 @@ abbrev pub HoldsLine : Option Control → Type 0
 HoldsLine None = ⊥
 HoldsLine (Some control) = IsLine control.line.items
 
+-- the line is whole, and it is the command `stop`
+abbrev pub IsStopLine : List ℕ → Type 0
+IsStopLine line = IsLine line × (asks_to_stop line ≡ true)
+
+-- the control socket, if there is one, holds the line `stop`
+abbrev pub HoldsStop : Option Control → Type 0
+HoldsStop None = ⊥
+HoldsStop (Some control) = IsStopLine control.line.items
+
+-- the last read of the descriptor of signals, if there is one, gave a record of SIGTERM or SIGINT
+abbrev pub HoldsSignal : Option Signals → Type 0
+HoldsSignal None = ⊥
+HoldsSignal (Some signals) = ask_to_stop (last_read signals) ≡ true
+
+-- the reasons of a stop: the system reports no more events, a client of the control socket asks for it, or a signal
+abbrev pub IsStopped : Bool → Option Control → Option Signals → Type 0
+IsStopped has_failed control signals = (has_failed ≡ true) ⊎ (HoldsStop control ⊎ HoldsSignal signals)
+
 -- the line that the control socket holds asks for this edit of the context of this path
 abbrev pub IsAskedBy : Option Control → List ℕ → Edit → Type 0
 IsAskedBy None path edit = ⊥
@@ -55,14 +76,15 @@ abbrev pub Asks : Option Control → Option (List ℕ × Edit) → Type 0
 Asks control None = Unit {0}
 Asks control (Some (path, edit)) = IsAskedBy control path edit
 
--- a call, by the control socket before and after it: a query is reported only once its line is whole, and it asks for the
--- edit of that line or for none; accepting and closing a connection leave the line
-abbrev pub Polls : {S : Type 0} → Option Control → PollerCall S → Option Control → Type 0
-Polls before (Wait event) after = event ≡ Asked → HoldsLine after
-Polls before (Accept number stream) after = after ≡ before
-Polls before (Close number stream closing) after = after ≡ before
-Polls before (Answer figures asked) after = Asks before asked
-Polls before (Status figures) after = Unit {0}
+-- a call, by the control socket before and after it, and whether the system has failed and the signals after it: a query is
+-- reported only once its line is whole, and it asks for the edit of that line or for none; a stop is reported only for one
+-- of its reasons; accepting and closing a connection leave the line
+abbrev pub Polls : {S : Type 0} → Option Control → PollerCall S → Option Control → Bool → Option Signals → Type 0
+Polls before (Wait event) after has_failed signals = (event ≡ Asked → HoldsLine after) × (event ≡ Stop → IsStopped has_failed after signals)
+Polls before (Accept number stream) after has_failed signals = after ≡ before
+Polls before (Close number stream closing) after has_failed signals = after ≡ before
+Polls before (Answer figures asked) after has_failed signals = Asks before asked
+Polls before (Status figures) after has_failed signals = Unit {0}
 
 module _ {R : Type 0} (before : R) (steps : Reacting R) (explains : Explaining R) (uncovers constrains stands : Saying R) (figures : Figures) where
   -- the control socket replies to the line that it holds, or is left without memory for the reply

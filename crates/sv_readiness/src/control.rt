@@ -1,8 +1,9 @@
 //! The control socket, a Unix socket file that takes commands for a running server.
 
-ghost use Rattle.std.specs.Prelude.{◌≡◌, Some};
-ghost use Rattle.sv_connection.specs.declared.poller.PollEvent.TheVariants.{Asked};
-ghost use Rattle.sv_readiness.specs.Polling.{IsLine, RepliesAt};
+ghost use Rattle.std.specs.Prelude.{◌≡◌, Some, true};
+ghost use Rattle.sv_connection.specs.declared.poller.PollEvent.TheVariants.{Asked, Stop};
+ghost use Rattle.sv_readiness.specs.Asking as spec;
+ghost use Rattle.sv_readiness.specs.Polling.{IsLine, IsStopLine, RepliesAt};
 
 use crate::control_client::{ControlClient, Progress};
 use crate::control_clients::ControlClients;
@@ -121,7 +122,8 @@ impl<'a> Control<'a> {
     /// Reads from each client whose time has ended. If its line is whole, returns its event. Otherwise, drops it. Then
     /// accepts all clients that wait.
     pub fn expire(&mut self, now: u64) -> Option<PollEvent>
-        ensures { result ≡ Some Asked → IsLine self.new.line.items }
+        ensures asked { result ≡ Some Asked → IsLine self.new.line.items }
+        ensures stop { result ≡ Some Stop → IsStopLine self.new.line.items }
     {
         for place in 0..self.clients.len() {
             if self.clients.is_due(place, now) {
@@ -139,7 +141,8 @@ impl<'a> Control<'a> {
     /// Reads from the client at a place, and returns an event once its line is whole. This function itself replies to
     /// `stop`. A client that closes before its line is whole is dropped. If a reply is in progress, writes more of it.
     pub fn hear(&mut self, place: usize, now: u64) -> Option<PollEvent>
-        ensures { result ≡ Some Asked → IsLine self.new.line.items }
+        ensures asked { result ≡ Some Asked → IsLine self.new.line.items }
+        ensures stop { result ≡ Some Stop → IsStopLine self.new.line.items }
     {
         let mut client = self.clients.take(place)?;
         match client.proceed(self.registry) {
@@ -157,14 +160,17 @@ impl<'a> Control<'a> {
 
     // Returns the event of a client's whole line.
     fn told_by_line(&mut self, place: usize, client: ControlClient, now: u64) -> PollEvent
-        ensures { result ≡ Asked → self.new.line ≡ client.line }
+        ensures line { self.new.line ≡ client.line }
+        ensures stop { result ≡ Stop → spec.asks_to_stop client.line.items ≡ true }
     {
         let mut client = client;
-        if asks_to_stop(client.line()) {
+        let line = client.take_line();
+        if asks_to_stop(line.as_slice()) {
             self.stop(client, now);
+            self.line = line;
             return PollEvent::Stop;
         }
-        self.line = client.take_line();
+        self.line = line;
         self.asker = Some((place, client));
         PollEvent::Asked
     }

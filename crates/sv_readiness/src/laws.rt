@@ -1,6 +1,7 @@
-//! The limits as numbers, and theorems about the slewed clock, each the contract of a function with an empty body.
+//! The limits as numbers, and theorems about signals and the slewed clock, each the contract of a function with an empty body.
 
 ghost use Rattle.std.specs.Prelude.{◌≡◌};
+ghost use Rattle.sv_readiness.specs.Signals.{ShortReadsAskForNothing, StopsHaveARecord};
 ghost use Rattle.sv_readiness.specs.SlewingLaws.{
   ComesToTheWallClock,
   FollowsTheWallClock,
@@ -12,7 +13,7 @@ use crate::limits::{
     ASKED_AT_ONCE, DROPPED_READ_BYTES, EVENTS_AT_ONCE, FIRST_DROPPED_READ_BYTES, LINGER_SECONDS,
     MAX_ASKING_SECONDS, MAX_CONTROL_CLIENTS, MAX_DROPPED_BYTES, MAX_DROPPED_READS, MAX_LINE_BYTES,
     MAX_LINGERING, MAX_READY_BEFORE_ACCEPT, MAX_READY_BEFORE_READING, MAX_SENT_AT_ONCE,
-    SLEW_DIVISOR,
+    SIGNAL_BYTES_AT_ONCE, SIGNAL_RECORD_BYTES, SLEW_DIVISOR,
 };
 
 /// States the limits of this crate as numbers. By them a closed connection drops at most 1 MiB at a time and 16 MiB in
@@ -32,7 +33,19 @@ pub fn limits_are_as_stated()
     ensures asking { MAX_ASKING_SECONDS ≡ 2 }
     ensures read { DROPPED_READ_BYTES ≡ 16384 }
     ensures first { FIRST_DROPPED_READ_BYTES ≡ 256 }
+    ensures signals { SIGNAL_BYTES_AT_ONCE ≡ 1024 }
+    ensures signal { SIGNAL_RECORD_BYTES ≡ 128 }
     ensures slew { SLEW_DIVISOR ≡ 20 }
+{}
+
+/// Bytes that ask for a stop have a whole record of SIGTERM or SIGINT, after any number of other records.
+pub fn a_stop_has_a_record()
+    ensures { StopsHaveARecord }
+{}
+
+/// Fewer bytes than a record ask for nothing.
+pub fn a_short_read_asks_for_nothing()
+    ensures { ShortReadsAskForNothing }
 {}
 
 /// The time of the container never goes back, for any readings of the boot time and of the wall clock.

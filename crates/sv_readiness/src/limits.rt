@@ -46,6 +46,12 @@ pub(crate) const ASKED_AT_ONCE: usize = 1024;
 /// the reply.
 pub const MAX_ASKING_SECONDS: u64 = 2;
 
+/// The number of bytes of the record of one signal (`struct signalfd_siginfo` of Linux).
+pub const SIGNAL_RECORD_BYTES: usize = 128;
+
+/// Maximum number of bytes in one read of signals: eight records.
+pub const SIGNAL_BYTES_AT_ONCE: usize = 1_024;
+
 /// The time of the container moves towards the wall clock by one millisecond per this many milliseconds of boot time.
 /// So it makes up an error of one hour in 20 hours, and runs at most 5 percent fast or slow.
 pub const SLEW_DIVISOR: u64 = 20;

@@ -1,13 +1,14 @@
 //! A listener and the poll that reports its connections.
 
 use crate::control::CONTROL;
+use crate::signals::register_signals;
 use mio::net::{TcpListener, TcpStream, UnixListener, UnixStream};
 use mio::{Interest, Poll, Registry, Token};
 use std::fs::{Files, Permissions, remove_file, set_permissions, symlink_metadata};
 use std::io;
 use std::io::ErrorKind;
 use std::net::{Net, SocketAddr};
-use std::os::fd::OwnedFd;
+use std::os::fd::{OwnedFd, RawFd};
 use std::os::unix::fs::{FileTypeExt, PermissionsExt};
 
 // The token of the listener. No connection has it as its number.
@@ -16,12 +17,13 @@ pub(crate) const LISTENER: usize = usize::MAX;
 // File mode that lets only the owner connect.
 const OWNER_ALONE: u32 = 0o600;
 
-/// A listener, and the poll that reports waiting clients and ready connections.
+/// A listener, and the poll that reports waiting clients, ready connections and signals.
 #[derive(Drop)]
 pub struct Listening {
     pub(crate) poll: Poll,
     pub(crate) listener: TcpListener,
     pub(crate) control: Option<UnixListener>,
+    pub(crate) signals: Option<RawFd>,
 }
 
 impl Listening {
@@ -38,6 +40,7 @@ impl Listening {
             poll,
             listener,
             control: None,
+            signals: None,
         })
     }
 
@@ -61,6 +64,20 @@ impl Listening {
             .registry()
             .register(&mut control, Token(CONTROL), Interest::READABLE)?;
         self.control = Some(control);
+        Ok(())
+    }
+
+    /// Also reads the signals of this process at the descriptor of this number, which another program opened by
+    /// `signalfd(2)`. It is never closed.
+    ///
+    /// # Errors
+    /// The system's: there is no such descriptor, or its readiness cannot be reported.
+    pub fn take_signals_at(&mut self, descriptor: u32) -> io::Result<()> {
+        let Ok(descriptor) = RawFd::try_from(descriptor) else {
+            return Err(io::Error::from(ErrorKind::InvalidInput));
+        };
+        register_signals(self.poll.registry(), descriptor)?;
+        self.signals = Some(descriptor);
         Ok(())
     }
 

@@ -1,8 +1,8 @@
 //! The poller of a listener and its connections.
 
 ghost use Rattle.std.specs.Prelude.{◌≡◌, ◌≢◌, ◌≤◌, Some};
-ghost use Rattle.sv_connection.specs.declared.poller.PollEvent.TheVariants.{Asked};
-ghost use Rattle.sv_readiness.specs.Polling.{HoldsLine, RepliesIfAny};
+ghost use Rattle.sv_connection.specs.declared.poller.PollEvent.TheVariants.{Asked, Stop};
+ghost use Rattle.sv_readiness.specs.Polling.{HoldsLine, HoldsStop, IsStopped, RepliesIfAny};
 ghost use Rattle.sv_readiness.specs.declared.control.TheConstants.{FIRST_CLIENT};
 
 use crate::acceptor::Acceptor;
@@ -12,6 +12,7 @@ use crate::limits::{EVENTS_AT_ONCE, MAX_READY_BEFORE_ACCEPT, MAX_READY_BEFORE_RE
 use crate::lingering_close::Lingering;
 use crate::listener::{LISTENER, Listening};
 use crate::ready::Ready;
+use crate::signals::{SIGNALS, Signals, hear_signals, leave_signals, signals_of};
 use crate::slewed_clock::{Reading, SlewedClock};
 use crate::stream_peer::StreamPeer;
 use mio::event::Source;
@@ -37,6 +38,7 @@ pub struct Sockets<'a, C> {
     ready: Ready,
     lingering: Lingering<TcpStream>,
     control: Option<Control<'a>>,
+    signals: Option<Signals<'a>>,
     // The time of the container, and its cached second, which timestamps events.
     slewed: SlewedClock,
     moment: &'a Cell<u64>,
@@ -70,6 +72,7 @@ impl<'a, C: Clock> Sockets<'a, C> {
             poll,
             listener,
             control,
+            signals,
         } = listening;
         let events = Events::with_capacity(alloc, EVENTS_AT_ONCE)?;
         Ok(Sockets {
@@ -81,6 +84,7 @@ impl<'a, C: Clock> Sockets<'a, C> {
             ready: Ready::new(),
             lingering: Lingering::new(alloc),
             control: control_of(alloc, registry, control),
+            signals: signals_of(registry, signals),
             slewed: SlewedClock::new(read_clocks(clock, Reading { boot: 0, wall: 0 })),
             moment,
             now: 0,
@@ -108,11 +112,15 @@ impl<'a, C: Clock> Sockets<'a, C> {
         }
     }
 
-    // Returns the event of a token, if any. A stream in lingering close and a control client without a whole line have
-    // none.
+    // Returns the event of a token, if any. A stream in lingering close, a control client without a whole line and signals
+    // that ask for no stop have none.
     fn told_of(&mut self, token: usize) -> Option<PollEvent>
-        ensures { result ≡ Some Asked → HoldsLine self.new.control }
+        ensures asked { result ≡ Some Asked → HoldsLine self.new.control }
+        ensures stop { result ≡ Some Stop → IsStopped self.new.has_failed self.new.control self.new.signals }
     {
+        if token == SIGNALS {
+            return self.told_by_signals();
+        }
         if token >= FIRST_CLIENT && token != LISTENER {
             return self.heard_at(token);
         }
@@ -129,10 +137,23 @@ impl<'a, C: Clock> Sockets<'a, C> {
         Some(told_by(token))
     }
 
+    // Returns the event of the signals that wait, if any.
+    fn told_by_signals(&mut self) -> Option<PollEvent>
+        ensures asked { result ≢ Some Asked }
+        ensures stop { result ≡ Some Stop → IsStopped self.new.has_failed self.new.control self.new.signals }
+    {
+        if hear_signals(&mut self.signals) {
+            Some(PollEvent::Stop)
+        } else {
+            None
+        }
+    }
+
     // Returns the event of the control socket, if any.
     fn heard_at(&mut self, token: usize) -> Option<PollEvent>
         requires { FIRST_CLIENT ≤ token }
-        ensures { result ≡ Some Asked → HoldsLine self.new.control }
+        ensures asked { result ≡ Some Asked → HoldsLine self.new.control }
+        ensures stop { result ≡ Some Stop → HoldsStop self.new.control }
     {
         let now = self.seconds();
         let Some(control) = &mut self.control else {
@@ -148,7 +169,8 @@ impl<'a, C: Clock> Sockets<'a, C> {
     // Closes expired streams and expired control clients. These are read first; if a line is whole, returns its event
     // instead.
     fn expire(&mut self) -> Option<PollEvent>
-        ensures { result ≡ Some Asked → HoldsLine self.new.control }
+        ensures asked { result ≡ Some Asked → HoldsLine self.new.control }
+        ensures stop { result ≡ Some Stop → HoldsStop self.new.control }
     {
         self.lingering.expire(self.second);
         match &mut self.control {
@@ -182,7 +204,8 @@ impl<'a, C: Clock> Sockets<'a, C> {
     // has passed, returns the event of the control socket, and otherwise `Second`. Returns no event if the second has
     // not passed; the caller then delivers the events that were polled.
     fn report_next(&mut self) -> Option<PollEvent>
-        ensures { result ≡ Some Asked → HoldsLine self.new.control }
+        ensures asked { result ≡ Some Asked → HoldsLine self.new.control }
+        ensures stop { result ≡ Some Stop → IsStopped self.new.has_failed self.new.control self.new.signals }
     {
         if self.report().is_err() {
             self.has_failed = true;
@@ -267,13 +290,13 @@ impl<'a, C: Clock> Sockets<'a, C> {
     }
 
     // Returns the peer of an accepted connection. The next wait reports it as ready. If another accept may come first,
-    // its readiness is reported by the system instead. The last numbers are tokens of the listener and the control
-    // socket, so no connection gets them.
+    // its readiness is reported by the system instead. The last numbers are tokens of the listener, the control socket and
+    // the signals, so no connection gets them.
     fn peer_of(&mut self, stream: TcpStream, number: u64) -> Option<StreamPeer<'a, TcpStream>>
         ensures { self.new.control ≡ self.old.control }
     {
         let token = Token(number as usize);
-        if token.0 >= FIRST_CLIENT {
+        if token.0 >= SIGNALS {
             return None;
         }
         let mut peer = StreamPeer::new(stream, self.registry, token);
@@ -287,7 +310,8 @@ impl<'a, C: Clock> Sockets<'a, C> {
 
     // Waits for the next event.
     fn next_told(&mut self) -> PollEvent
-        ensures { result ≡ Asked → HoldsLine self.new.control }
+        ensures asked { result ≡ Asked → HoldsLine self.new.control }
+        ensures stop { result ≡ Stop → IsStopped self.new.has_failed self.new.control self.new.signals }
     {
         self.note_refused_asker();
         if self.tells_crowd() {
@@ -312,6 +336,7 @@ impl<'a, C: Clock> Sockets<'a, C> {
                 }
             }
         }
+        self.has_failed = true;
         PollEvent::Stop
     }
 }
@@ -321,7 +346,7 @@ impl<'a, C: Clock> Poller for Sockets<'a, C> {
 
     type Peer = StreamPeer<'a, TcpStream>;
 
-    ghost polls = { λ before call after. Polls before.control call after.control };
+    ghost polls = { λ before call after. Polls before.control call after.control after.has_failed after.signals };
 
     fn wait(&mut self) -> PollEvent {
         let told = match self.accepted.take() {
@@ -330,6 +355,10 @@ impl<'a, C: Clock> Poller for Sockets<'a, C> {
         };
         self.acceptor
             .note_told(matches!(told, PollEvent::Incoming | PollEvent::Second));
+        // Further signals change nothing, so the output that waits is still sent.
+        if told == PollEvent::Stop {
+            leave_signals(&mut self.signals);
+        }
         told
     }
 
@@ -418,7 +447,8 @@ fn rest_of_second(time: Duration) -> Duration {
 
 // Returns the event of a token: a connection may be ready, or a client may be waiting.
 fn told_by(token: usize) -> PollEvent
-    ensures { result ≢ Asked }
+    ensures asked { result ≢ Asked }
+    ensures stop { result ≢ Stop }
 {
     if token == LISTENER {
         return PollEvent::Incoming;
