@@ -1,3 +1,4 @@
 mod AnsweringLemmas
 mod DroppingLemmas
+mod SignalLemmas
 mod SlewingLemmas
