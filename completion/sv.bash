@@ -24,6 +24,7 @@ _sv() {
     *:run:--connections:*) return;;
     *:run:--idle-seconds:*) return;;
     *:run:--held-mebibytes:*) return;;
+    *:run:--signal-descriptor:*) return;;
     *:help:--format:*) return;;
     *:first:*:-*) names="";;
     *:policy:*:-*) names="";;
@@ -32,7 +33,7 @@ _sv() {
     *:check:*:-*) names="";;
     *:replay:*:-*) names="";;
     *:serve:*:-*) names="";;
-    *:run:*:-*) names="--control --journal --listen --same-seed --connections --idle-seconds --held-mebibytes ";;
+    *:run:*:-*) names="--control --journal --listen --same-seed --connections --idle-seconds --held-mebibytes --signal-descriptor ";;
     *:ctl:*:-*) names="";;
     *:selftest:*:-*) names="";;
     *:help:*:-*) names="--format ";;
