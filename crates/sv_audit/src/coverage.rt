@@ -20,7 +20,7 @@ pub fn covering<'a>(
     ensures { IfOk result (λ found. map (λ member. member.now) found.items ≡
         filter (λ member. covers_at member pattern.now (option_copied method.entry)) (map (λ member. member.now) members.now)) }
 {
-    let mut found = Vec::new(alloc);
+    let mut found = Vec::with_capacity(alloc, members.len())?;
     for member in members {
         if covers_at(member, pattern, method) {
             found.push(*member)?;

@@ -50,7 +50,7 @@ pub use order::{copied_texts, sorted};
 pub use path_shapes::matches_nothing;
 pub use patterns::{all_patterns, is_among, is_extension_pattern, patterns_in};
 pub use representatives::representative_paths;
-pub use roles::{all_roles, push_meant};
+pub use roles::push_meant;
 pub use row_differences::differences;
 pub use rows::{Group, Row, Table};
 pub use secure::without_transport;

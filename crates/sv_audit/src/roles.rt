@@ -114,14 +114,14 @@ fn roles_of(alloc: Global, rules: &Rules, members: &[&Constraint]) -> Result<Lis
 }
 
 /// Returns the roles that the constraints mean, in order and with duplicates.
-pub fn all_roles<'a>(
+fn all_roles<'a>(
     alloc: Global,
     declared: &'a [Text],
     members: &[&'a Constraint],
 ) -> Result<Vec<&'a str>, NoMemory>
     ensures { IfOk result (λ roles. map (λ role. role.now) roles.items ≡ flat_map (λ member. roles_meant declared.now member.auth) (map (λ member. member.now) members.now)) }
 {
-    let mut roles = Vec::new(alloc);
+    let mut roles = Vec::with_capacity(alloc, members.len())?;
     for member in members {
         push_meant(&mut roles, declared, &member.auth)?;
     }

@@ -15,14 +15,9 @@ use Rattle.sv_policy.specs.Patterns.{lists_pattern}
 use Rattle.sv_program.specs.Uncovered.{names_text}
 use Rattle.sv_report.specs.Escaped.{escaped}
 use Rattle.sv_report.specs.FindingWords.{kind_name}
-use Rattle.sv_report.specs.Words.{who_text}
 use Rattle.sv_uri.specs.ContextPath.{shown_context}
+use Rattle.sv_audit_command.specs.KeyWords.{access_text, word}
 use Rattle.sv_audit_command.specs.MethodsKey.{methods_key}
-
--- The pattern, or two quotation marks for the empty one.
-abbrev pub pattern_word : List ℕ → List ℕ
-pattern_word [] = codes "\"\""
-pattern_word (first ∷ rest) = first ∷ rest
 
 -- The first constraint with this number.
 abbrev pub constraint_numbered : List Constraint → ℕ → Option Constraint
@@ -30,7 +25,7 @@ constraint_numbered constraints number = find (λ constraint. nat_eq constraint.
 
 -- The words of its patterns.
 abbrev pub words_of : Constraint → List (List ℕ)
-words_of constraint = flat_map (λ collection. map pattern_word collection.patterns) constraint.collections
+words_of constraint = flat_map (λ collection. map word collection.patterns) constraint.collections
 
 -- The patterns of a constraint, separated by commas.
 abbrev pub patterns_text : List Constraint → ℕ → List ℕ
@@ -38,15 +33,15 @@ patterns_text constraints number = option_map_or (λ constraint. names_text (wor
 
 -- A pattern and methods.
 abbrev pub covered_subject : List ℕ → Methods → List ℕ
-covered_subject pattern methods = pattern_word pattern ++ codes " " ++ methods_key methods
+covered_subject pattern methods = word pattern ++ codes " " ++ methods_key methods
 
 -- The same, and the pattern that decides on other servers.
 abbrev pub otherwise_subject : List ℕ → Methods → List ℕ → List ℕ
-otherwise_subject pattern methods other = covered_subject pattern methods ++ codes " " ++ pattern_word other
+otherwise_subject pattern methods other = covered_subject pattern methods ++ codes " " ++ word other
 
 -- A pattern, and who may use GET and HEAD there.
 abbrev pub heads_subject : List ℕ → Access → Access → List ℕ
-heads_subject pattern get head = pattern_word pattern ++ codes " GET " ++ who_text true get ++ codes " HEAD " ++ who_text true head
+heads_subject pattern get head = word pattern ++ codes " GET " ++ access_text get ++ codes " HEAD " ++ access_text head
 
 -- What the finding is about: a pattern, with what it opens if it does, the patterns of a constraint, a path, or a role.
 abbrev pub subject : List Constraint → Finding → List ℕ
@@ -55,19 +50,19 @@ subject constraints (Uncovered pattern methods) = covered_subject pattern method
 subject constraints (ReadOtherwise pattern methods other) = otherwise_subject pattern methods other
 subject constraints (HeadDiffers pattern get head) = heads_subject pattern get head
 subject constraints (Dead number) = patterns_text constraints number
-subject constraints (DeadPattern number pattern) = pattern_word pattern
+subject constraints (DeadPattern number pattern) = word pattern
 subject constraints (Overruled number) = patterns_text constraints number
-subject constraints (Unreached number pattern) = pattern_word pattern
-subject constraints (Unserved number pattern) = pattern_word pattern
-subject constraints (Escaped number pattern) = pattern_word pattern
-subject constraints (LoginNeeds path) = path
-subject constraints (UnknownRole number role) = role
-subject constraints (UnheldRole role) = role
-subject constraints (UnusedRole role) = role
+subject constraints (Unreached number pattern) = word pattern
+subject constraints (Unserved number pattern) = word pattern
+subject constraints (Escaped number pattern) = word pattern
+subject constraints (LoginNeeds path) = word path
+subject constraints (UnknownRole number role) = word role
+subject constraints (UnheldRole role) = word role
+subject constraints (UnusedRole role) = word role
 
 -- `CONTEXT KIND SUBJECT`, on one line.
 abbrev pub key_of : List ℕ → List Constraint → Finding → List ℕ
-key_of path constraints finding = escaped (shown_context path ++ codes " " ++ kind_name finding ++ codes " " ++ subject constraints finding)
+key_of path constraints finding = escaped (word (shown_context path) ++ codes " " ++ kind_name finding ++ codes " " ++ subject constraints finding)
 
 -- The number of the first of constraints.
 abbrev pub first_number : List Constraint → Option ℕ

@@ -5,6 +5,7 @@ pub mod Viewer
 pub mod Kinds
 pub mod Accepted
 pub mod MethodsKey
+pub mod KeyWords
 pub mod Key
 pub mod ContextReports
 pub mod ExplainedRequest

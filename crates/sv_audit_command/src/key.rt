@@ -6,7 +6,9 @@ ghost use Rattle.sv_constraints.specs.declared.constraint.Constraint.{Constraint
 ghost use Rattle.sv_policy.specs.Groups.{IsGrouped};
 ghost use Rattle.sv_text.specs.Gives.{GivesAnswer};
 ghost use Rattle.sv_audit_command.specs.Key as spec;
+ghost use Rattle.sv_audit_command.specs.KeyWords.{word};
 
+use crate::key_words::{push_access, push_word, word};
 use crate::methods_key::{push_methods, push_texts};
 use std::alloc::Global;
 use sv_audit::{Access, best_text};
@@ -15,7 +17,7 @@ use sv_findings::Finding;
 use sv_mapping::{Pattern, PatternTable};
 use sv_policy::Groups;
 use sv_report::escaped::escaped;
-use sv_report::{kind_name, who_text};
+use sv_report::kind_name;
 use sv_text::{NoMemory, Text};
 use sv_uri::shown_context;
 
@@ -30,7 +32,7 @@ pub(crate) fn key_of(
     ensures { GivesAnswer result (spec.key_of path.now constraints.now finding.now) }
 {
     let mut key = String::new(alloc);
-    key.push_str(shown_context(path))?;
+    push_word(&mut key, alloc, shown_context(path))?;
     key.push_str(" ")?;
     key.push_str(kind_name(finding))?;
     key.push_str(" ")?;
@@ -47,65 +49,52 @@ fn push_subject(
     ensures { OnOk result (string_bytes key.new ≡ string_bytes key.old ++ spec.subject constraints.now finding.now) }
 {
     match finding {
-        Finding::Opened(pattern, methods, _, _) => push_covered(key, pattern.as_str(), methods),
-        Finding::Uncovered(pattern, methods) => push_covered(key, pattern.as_str(), methods),
+        Finding::Opened(pattern, methods, _, _) => push_covered(key, alloc, pattern.as_str(), methods),
+        Finding::Uncovered(pattern, methods) => push_covered(key, alloc, pattern.as_str(), methods),
         Finding::ReadOtherwise(pattern, methods, other) => {
-            push_read_otherwise(key, pattern.as_str(), methods, other.as_str())
+            push_read_otherwise(key, alloc, pattern.as_str(), methods, other.as_str())
         }
         Finding::HeadDiffers(pattern, get, head) => {
             push_heads(key, alloc, pattern.as_str(), get, head)
         }
         Finding::Dead(number) => push_patterns_of(key, alloc, constraints, *number),
-        Finding::DeadPattern(_, pattern) => push_pattern(key, pattern.as_str()),
+        Finding::DeadPattern(_, pattern) => push_word(key, alloc, pattern.as_str()),
         Finding::Overruled(number) => push_patterns_of(key, alloc, constraints, *number),
-        Finding::Unreached(_, pattern) => push_pattern(key, pattern.as_str()),
-        Finding::Unserved(_, pattern) => push_pattern(key, pattern.as_str()),
-        Finding::Escaped(_, pattern) => push_pattern(key, pattern.as_str()),
-        Finding::LoginNeeds(path) => push_name(key, path.as_str()),
-        Finding::UnknownRole(_, role) => push_name(key, role.as_str()),
-        Finding::UnheldRole(role) => push_name(key, role.as_str()),
-        Finding::UnusedRole(role) => push_name(key, role.as_str()),
+        Finding::Unreached(_, pattern) => push_word(key, alloc, pattern.as_str()),
+        Finding::Unserved(_, pattern) => push_word(key, alloc, pattern.as_str()),
+        Finding::Escaped(_, pattern) => push_word(key, alloc, pattern.as_str()),
+        Finding::LoginNeeds(path) => push_word(key, alloc, path.as_str()),
+        Finding::UnknownRole(_, role) => push_word(key, alloc, role.as_str()),
+        Finding::UnheldRole(role) => push_word(key, alloc, role.as_str()),
+        Finding::UnusedRole(role) => push_word(key, alloc, role.as_str()),
     }
 }
 
-fn push_pattern(key: &mut String, pattern: &str) -> Result<(), NoMemory>
-    ensures { OnOk result (string_bytes key.new ≡ string_bytes key.old ++ spec.pattern_word pattern.now) }
-{
-    Ok(key.push_str(pattern_word(pattern))?)
-}
-
-fn push_name(key: &mut String, name: &str) -> Result<(), NoMemory>
-    ensures { OnOk result (string_bytes key.new ≡ string_bytes key.old ++ name.now) }
-{
-    Ok(key.push_str(name)?)
-}
-
-/// Returns the pattern, or two quotation marks for the empty one.
-fn pattern_word(pattern: &str) -> &str
-    ensures { result.now ≡ spec.pattern_word pattern.now }
-{
-    if pattern.is_empty() { "\"\"" } else { pattern }
-}
-
-fn push_covered(key: &mut String, pattern: &str, methods: &Methods) -> Result<(), NoMemory>
+fn push_covered(
+    key: &mut String,
+    alloc: Global,
+    pattern: &str,
+    methods: &Methods,
+) -> Result<(), NoMemory>
     ensures { OnOk result (string_bytes key.new ≡ string_bytes key.old ++ spec.covered_subject pattern.now methods.now) }
 {
-    push_pattern(key, pattern)?;
+    push_word(key, alloc, pattern)?;
     key.push_str(" ")?;
     push_methods(key, methods)
 }
 
 fn push_read_otherwise(
     key: &mut String,
+    alloc: Global,
     pattern: &str,
     methods: &Methods,
     other: &str,
 ) -> Result<(), NoMemory>
     ensures { OnOk result (string_bytes key.new ≡ string_bytes key.old ++ spec.otherwise_subject pattern.now methods.now other.now) }
 {
-    push_covered(key, pattern, methods)?;
+    push_covered(key, alloc, pattern, methods)?;
     key.push_str(" ")?;
-    push_pattern(key, other)
+    push_word(key, alloc, other)
 }
 
 /// Appends a pattern, and who may use GET and HEAD there.
@@ -118,13 +107,11 @@ fn push_heads(
 ) -> Result<(), NoMemory>
     ensures { OnOk result (string_bytes key.new ≡ string_bytes key.old ++ spec.heads_subject pattern.now get.now head.now) }
 {
-    let get = who_text(alloc, true, get)?;
-    let head = who_text(alloc, true, head)?;
-    push_pattern(key, pattern)?;
+    push_word(key, alloc, pattern)?;
     key.push_str(" GET ")?;
-    key.push_str(get.as_str())?;
+    push_access(key, alloc, get)?;
     key.push_str(" HEAD ")?;
-    push_name(key, head.as_str())
+    push_access(key, alloc, head)
 }
 
 /// Appends the patterns of the constraint with this number, separated by commas.
@@ -166,10 +153,10 @@ fn push_pattern_words(
     alloc: Global,
     patterns: &[Pattern],
 ) -> Result<(), NoMemory>
-    ensures { OnOk result (words.new.items ≡ words.old.items ++ map spec.pattern_word patterns.now) }
+    ensures { OnOk result (words.new.items ≡ words.old.items ++ map word patterns.now) }
 {
     for pattern in patterns {
-        words.push(Text::copy_of(alloc, pattern_word(pattern.text()))?)?;
+        words.push(word(alloc, pattern.text())?)?;
     }
     Ok(())
 }

@@ -11,6 +11,7 @@ mod context_reports;
 mod explained_request;
 mod further_files;
 mod key;
+mod key_words;
 mod kinds;
 mod methods_key;
 mod row_answers;

@@ -1,16 +1,16 @@
 //! Whether others decide requests alike that a constraint covers, too.
 
 ghost use Rattle.std.specs.Prelude.{◌≡◌, IfOk, List, map, not};
-ghost use Rattle.std.specs.List.{list_all, list_any};
-ghost use Rattle.std.specs.Str.{bytes_eq};
+ghost use Rattle.std.specs.List.{list_any};
 ghost use Rattle.sv_constraints.specs.Verdict as verdict;
 ghost use Rattle.sv_constraints.specs.declared.constraint.Constraint.{Constraint};
 ghost use Rattle.sv_policy.specs.Merged.{admits_everyone};
 ghost use Rattle.sv_text.specs.Gives.{GivesAnswer};
 ghost use Rattle.sv_overruled.specs.Overruled as spec;
 
+use crate::meant_roles::all_meant;
 use std::alloc::Global;
-use sv_audit::{all_roles, is_among, push_meant};
+use sv_audit::push_meant;
 use sv_constraints::{Constraint, Rules};
 use sv_policy::names_everyone;
 use sv_text::{NoMemory, Text};
@@ -23,7 +23,7 @@ pub(crate) fn others<'a>(
 ) -> Result<Vec<&'a Constraint>, NoMemory>
     ensures { IfOk result (λ found. map (λ member. member.now) found.items ≡ spec.others number (map (λ member. member.now) members.now)) }
 {
-    let mut found = Vec::new(alloc);
+    let mut found = Vec::with_capacity(alloc, members.len())?;
     for member in members {
         if member.number != number {
             found.push(*member)?;
@@ -133,15 +133,7 @@ fn mean_its_roles(
 ) -> Result<bool, NoMemory>
     ensures { GivesAnswer result (spec.mean_its_roles declared.now constraint.now (map (λ other. other.now) others.now)) }
 {
-    let meant = all_roles(alloc, declared, others)?;
     let mut roles = Vec::new(alloc);
     push_meant(&mut roles, declared, &constraint.auth)?;
-    Ok(are_listed(meant.as_slice(), roles.as_slice()))
-}
-
-/// Returns whether each of the texts is among the names.
-fn are_listed(names: &[&str], texts: &[&str]) -> bool
-    ensures { result ≡ list_all (λ text. list_any (λ name. bytes_eq name.now text.now) names.now) texts.now }
-{
-    texts.iter().all(|text| is_among(names, text))
+    Ok(all_meant(declared, others, roles.as_slice()))
 }

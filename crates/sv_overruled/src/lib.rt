@@ -4,6 +4,7 @@
 
 mod alike;
 mod laws;
+mod meant_roles;
 mod names;
 mod overruled;
 
