@@ -10,6 +10,6 @@ use Rattle.sv_overruled.proofs.meant_roles.means.Goals as goal
 pub returns-in-Roles : goal.returns-in-Roles
 returns-in-Roles c =
     c.any_means.ensures
-    ∙ ap (λ (names : List (List ℕ)). list_any (λ name. lists (roles_named c.args.declared.now name) c.args.role.now) names) c.as_slice-in-Roles.ensures
+    ∙ ap (λ (names : List (List ℕ)). list_any (λ name. lists (roles_named c.args.declared.now name) c.args.role.now) names) c.as_slice.ensures
     ∙ sym (any_of_joined (λ listed. bytes_eq listed c.args.role.now) (roles_named c.args.declared.now) c.in-Roles.names)
     ∙ ap (λ auth. lists (roles_meant c.args.declared.now auth) c.args.role.now) (sym c.in-Roles.is)
