@@ -1,6 +1,7 @@
 -- The line that the arguments of the command `ctl` are.
-use Rattle.std.specs.Prelude.{◌≡◌, ◌==◌, ◌&&◌, ℕ, Bool, true, false, List, [], ◌∷◌, ◌++◌, codes, flat_map, length, map, nat_le, not, string_bytes, Option, Some, None, Result, OnOk}
+use Rattle.std.specs.Prelude.{◌≡◌, ◌==◌, ◌&&◌, ℕ, Bool, true, false, List, [], ◌∷◌, ◌++◌, codes, flat_map, is_none, length, map, nat_le, not, string_bytes, Option, Some, None, Result, OnOk}
 use Rattle.std.specs.List.{list_all, list_any}
+use Rattle.sv_arguments.specs.ControlArguments.{blank_argument, wrong_pattern}
 use Rattle.sv_arguments.specs.ControlWord as word
 use Rattle.sv_arguments.specs.declared.control_request.ControlRequest.{ControlRequest}
 use Rattle.sv_arguments.specs.declared.control_word.ControlWord.{ControlWord}
@@ -20,10 +21,16 @@ abbrev pub takes : Option ControlWord → ℕ → Bool
 takes None count = false
 takes (Some known) count = nat_le (word.least known) count && nat_le count (word.most known)
 
+-- the server reads the arguments as they are
+abbrev pub are_read : Option ControlWord → List (List ℕ) → Bool
+are_read None arguments = false
+are_read (Some known) arguments = is_none (blank_argument known arguments) && is_none (wrong_pattern known arguments)
+
 -- the words of a line
 abbrev pub are_of_line : List (List ℕ) → Bool
 are_of_line [] = false
-are_of_line (name ∷ arguments) = takes (named name) (length arguments) && are_on_one_line (name ∷ arguments)
+are_of_line (name ∷ arguments) =
+    takes (named name) (length arguments) && (are_on_one_line (name ∷ arguments) && are_read (named name) arguments)
 
 -- the arguments are the name of a socket and the words of a line
 abbrev pub IsControl : List (List ℕ) → ControlRequest → Type 0

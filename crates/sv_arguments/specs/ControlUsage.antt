@@ -1,5 +1,7 @@
 -- The second line about the arguments of the command `ctl`.
-use Rattle.std.specs.Prelude.{ℕ, List, [], ◌∷◌, ◌++◌, codes, if◌then◌else◌, length, map, nat_lt, Option, Some, None}
+use Rattle.std.specs.Prelude.{ℕ, List, [], ◌∷◌, ◌++◌, codes, if◌then◌else◌, length, map, nat_lt, not, Option, Some, None}
+use Rattle.sv_arguments.specs.ControlArguments.{blank_argument, blank_rule, pattern_rule, wrong_pattern}
+use Rattle.sv_arguments.specs.ControlRequest.{are_on_one_line}
 use Rattle.sv_arguments.specs.ControlWord.{least, most, word_named, word_names, word_usage}
 use Rattle.sv_arguments.specs.Near.{near}
 use Rattle.sv_arguments.specs.Plain.{lacks_line, wrong_word}
@@ -25,12 +27,30 @@ few_line known word = codes "  " ++ word ++ codes " lacks an argument" ++ usage_
 abbrev pub many_line : ControlWord → List ℕ → List ℕ → List ℕ
 many_line known word argument = codes "  " ++ word ++ codes " does not take " ++ quoted argument ++ usage_after known
 
--- the line about the arguments of a known word: too few, the first beyond the most that it takes, or else line feeds
+-- the line about an argument that is not taken by a rule
+abbrev pub rule_line : List ℕ → List ℕ → List ℕ → List ℕ
+rule_line word argument rule = codes "  " ++ word ++ codes " does not take " ++ quoted argument ++ codes "; " ++ rule
+
+abbrev pub pattern_line : List ℕ → Option (List ℕ) → List ℕ
+pattern_line word None = []
+pattern_line word (Some pattern) = rule_line word pattern (pattern_rule pattern)
+
+abbrev pub blank_line : ControlWord → List ℕ → Option (List ℕ) → Option (List ℕ) → List ℕ
+blank_line known word None pattern = pattern_line word pattern
+blank_line known word (Some argument) pattern = rule_line word argument (blank_rule known)
+
+-- the line about the first argument that the server would not read as it is: one with a blank, or else the pattern
+abbrev pub misread_line : ControlWord → List ℕ → List (List ℕ) → List ℕ
+misread_line known word arguments = blank_line known word (blank_argument known arguments) (wrong_pattern known arguments)
+
+-- the line about the arguments of a known word: too few, the first beyond the most that it takes, a line feed, or else one
+-- that the server would not read as it is
 abbrev pub known_line : ControlWord → List ℕ → List (List ℕ) → List ℕ
 known_line known word arguments =
     if nat_lt (length arguments) (least known) then few_line known word
     else if nat_lt (most known) (length arguments) then many_line known word (wrong_word (most known) arguments)
-    else codes "  ctl takes no word with a line feed"
+    else if not (are_on_one_line arguments) then codes "  ctl takes no word with a line feed"
+    else misread_line known word arguments
 
 abbrev pub word_line : Option ControlWord → List ℕ → List (List ℕ) → List ℕ
 word_line (Some known) word arguments = known_line known word arguments

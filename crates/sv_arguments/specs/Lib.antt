@@ -4,6 +4,7 @@ pub mod AuditWords
 pub mod RunOptions
 pub mod Given
 pub mod ControlWord
+pub mod ControlArguments
 pub mod ControlRequest
 pub mod Command
 pub mod Laws

@@ -5,6 +5,7 @@ ghost use Rattle.sv_arguments.specs.ControlRequest as spec;
 ghost use Rattle.sv_arguments.specs.Values.{Finds};
 ghost use Rattle.sv_text.specs.Gives.{GivesAnswer};
 
+use crate::control_arguments::{blank_argument, wrong_pattern};
 use crate::control_word::ControlWord;
 use std::alloc::Global;
 use sv_text::{NoMemory, Text};
@@ -15,7 +16,7 @@ pub struct ControlRequest<'a> {
     /// The name of the socket file.
     pub socket: &'a str,
     /// The words of the line. The first one is that of a [`ControlWord`], and has as many arguments as it takes. None
-    /// has a line feed.
+    /// has a line feed, and the server reads them as they are.
     pub words: &'a [String],
 }
 
@@ -63,12 +64,29 @@ fn push_arguments(line: &mut String, arguments: &[String]) -> Result<(), NoMemor
     Ok(())
 }
 
-/// Whether these are the words of a line: a known one with as many arguments as it takes, and no line feed.
+/// Whether these are the words of a line: a known one with as many arguments as it takes, no line feed, and arguments
+/// that the server reads as they are.
 fn are_of_line(words: &[String]) -> bool
     ensures { result ≡ spec.are_of_line (map string_bytes words.now) }
 {
     match words.split_first() {
-        Some((word, arguments)) => takes(word.as_str(), arguments.len()) && are_on_one_line(words),
+        Some((word, arguments)) => {
+            takes(word.as_str(), arguments.len())
+                && are_on_one_line(words)
+                && are_read(word.as_str(), arguments)
+        }
+        None => false,
+    }
+}
+
+/// Whether the server reads the arguments of a known word as they are.
+fn are_read(name: &str, arguments: &[String]) -> bool
+    ensures { result ≡ spec.are_read (spec.named name.now) (map string_bytes arguments.now) }
+{
+    match ControlWord::named(name) {
+        Some(word) => {
+            blank_argument(word, arguments).is_none() && wrong_pattern(word, arguments).is_none()
+        }
         None => false,
     }
 }
@@ -84,7 +102,7 @@ fn takes(name: &str, count: usize) -> bool
 }
 
 /// Whether no word has a line feed.
-fn are_on_one_line(words: &[String]) -> bool
+pub(crate) fn are_on_one_line(words: &[String]) -> bool
     ensures { result ≡ spec.are_on_one_line (map string_bytes words.now) }
 {
     for word in words {

@@ -4,6 +4,8 @@ ghost use Rattle.std.specs.Prelude.{map, string_bytes};
 ghost use Rattle.sv_arguments.specs.ControlUsage as spec;
 ghost use Rattle.sv_text.specs.Gives.{GivesAnswer};
 
+use crate::control_arguments::{blank_argument, blank_rule, pattern_rule, wrong_pattern};
+use crate::control_request::are_on_one_line;
 use crate::control_word::{ControlWord, near_word};
 use crate::plain::{lacks_line, wrong_word};
 use crate::topic::Topic;
@@ -16,7 +18,8 @@ use sv_text::{NoMemory, Text};
 const LISTING: &str = "it knows status, constraints, uncovered, explain, append, withdraw, stop";
 
 /// Returns the line about these arguments of `ctl`, if they are wrong: the socket or the word is missing, the word is
-/// not known, it has too few or too many arguments, or else a word has a line feed.
+/// not known, it has too few or too many arguments, an argument has a line feed, or else the server would not read one as
+/// it is.
 ///
 /// # Errors
 /// [`NoMemory`].
@@ -58,9 +61,38 @@ fn known_line(
         few_line(alloc, known, word)
     } else if known.most() < arguments.len() {
         many_line(alloc, known, word, wrong_word(known.most(), arguments))
-    } else {
+    } else if !are_on_one_line(arguments) {
         Text::copy_of(alloc, "  ctl takes no word with a line feed")
+    } else {
+        misread_line(alloc, known, word, arguments)
     }
+}
+
+/// Returns the line about the first argument that the server would not read as it is: one with a blank, or else the
+/// pattern.
+fn misread_line(
+    alloc: Global,
+    known: ControlWord,
+    word: &str,
+    arguments: &[String],
+) -> Result<Text, NoMemory>
+    ensures { GivesAnswer result (spec.misread_line known word.now (map string_bytes arguments.now)) }
+{
+    if let Some(argument) = blank_argument(known, arguments) {
+        return rule_line(alloc, word, argument, blank_rule(known));
+    }
+    match wrong_pattern(known, arguments) {
+        Some(pattern) => rule_line(alloc, word, pattern, pattern_rule(pattern)),
+        None => Ok(Text::from_string(String::new(alloc))),
+    }
+}
+
+/// Returns the line about an argument that is not taken by a rule.
+fn rule_line(alloc: Global, word: &str, argument: &str, rule: &str) -> Result<Text, NoMemory>
+    ensures { GivesAnswer result (spec.rule_line word.now argument.now rule.now) }
+{
+    let argument = quoted(alloc, argument)?;
+    Ok(Text::from_string(format!(in alloc; "  {word} does not take {argument}; {rule}")?))
 }
 
 /// Returns the line about a word with too few arguments.

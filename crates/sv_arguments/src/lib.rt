@@ -4,6 +4,7 @@
 
 mod audit_options;
 mod command;
+mod control_arguments;
 mod control_request;
 mod control_usage;
 mod control_word;

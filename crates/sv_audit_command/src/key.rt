@@ -49,7 +49,12 @@ fn push_subject(
     ensures { OnOk result (string_bytes key.new ≡ string_bytes key.old ++ spec.subject constraints.now finding.now) }
 {
     match finding {
-        Finding::Opened(pattern, methods, _, _) => push_covered(key, alloc, pattern.as_str(), methods),
+        Finding::Opened(pattern, methods, _, _) => push_covered(
+            key,
+            alloc,
+            pattern.as_str(),
+            methods,
+        ),
         Finding::Uncovered(pattern, methods) => push_covered(key, alloc, pattern.as_str(), methods),
         Finding::ReadOtherwise(pattern, methods, other) => {
             push_read_otherwise(key, alloc, pattern.as_str(), methods, other.as_str())
