@@ -48,10 +48,9 @@ pub(crate) fn file_fault(alloc: Global, name: &str, error: io::Error) -> Command
 pub(crate) fn socket_file_fault(alloc: Global, name: &str, error: io::Error) -> CommandFault
     ensures { IsBroken name.now result }
 {
-    let why = if error.kind() == ErrorKind::InvalidInput {
-        Unavailable::LongName
-    } else {
-        Unavailable::of(error.kind())
+    let why = match error.kind() {
+        ErrorKind::InvalidInput => refused_name(name),
+        kind => Unavailable::of(kind),
     };
     unavailable(alloc, name, why)
 }
@@ -70,5 +69,14 @@ fn unavailable(alloc: Global, name: &str, why: Unavailable) -> CommandFault
     match Text::copy_of(alloc, name) {
         Ok(name) => CommandFault::File(name, why),
         Err(NoMemory) => CommandFault::NoMemory,
+    }
+}
+
+/// Returns why no socket can have the name: it is empty, as no file's is, or too long.
+fn refused_name(name: &str) -> Unavailable {
+    if name.is_empty() {
+        Unavailable::Missing
+    } else {
+        Unavailable::LongName
     }
 }
