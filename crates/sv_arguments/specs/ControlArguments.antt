@@ -1,6 +1,6 @@
 -- The arguments of a word at the control socket, as the server reads them: it splits a line at blanks, and leaves the rest of
 -- the line to the last argument that the word may take.
-use Rattle.std.specs.Prelude.{ℕ, ◌-◌, ◌==◌, Bool, List, [], ◌∷◌, codes, if◌then◌else◌, length, nat_eq, nat_lt, slice_get, take, Option, Some, None, option_and_then}
+use Rattle.std.specs.Prelude.{ℕ, ◌-◌, ◌==◌, Bool, List, codes, if◌then◌else◌, length, nat_eq, nat_lt, slice_get, take, Option, Some, None, option_and_then}
 use Rattle.std.specs.List.{find, list_any, starts_with}
 use Rattle.sv_arguments.specs.ControlWord.{most}
 use Rattle.sv_arguments.specs.declared.control_word.ControlWord.{ControlWord}

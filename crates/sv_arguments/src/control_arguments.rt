@@ -1,6 +1,7 @@
 //! The arguments of a word at the control socket, as the server reads them.
 
 ghost use Rattle.std.specs.Prelude.{◌≡◌, ◌-◌, map, option_copied, string_bytes, take};
+ghost use Rattle.std.specs.List.{find};
 ghost use Rattle.sv_arguments.specs.ControlArguments as spec;
 ghost use Rattle.sv_arguments.specs.ControlWord.{most};
 ghost use Rattle.sv_mapping.specs.Pattern as pattern;
@@ -13,9 +14,15 @@ use sv_mapping::MAX_PATTERN_BYTES;
 pub(crate) fn blank_argument(known: ControlWord, arguments: &[String]) -> Option<&str>
     ensures { option_copied result ≡ spec.blank_argument known (map string_bytes arguments.now) }
 {
-    for argument in before_last(known, arguments) {
-        if has_blank(argument.as_str()) {
-            return Some(argument.as_str());
+    first_with_blank(before_last(known, arguments))
+}
+
+fn first_with_blank(words: &[String]) -> Option<&str>
+    ensures { option_copied result ≡ find spec.has_blank (map string_bytes words.now) }
+{
+    for word in words {
+        if has_blank(word.as_str()) {
+            return Some(word.as_str());
         }
     }
     None
@@ -63,7 +70,7 @@ fn is_pattern(text: &str) -> bool
 fn is_extension_pattern(text: &str) -> bool
     ensures { result ≡ pattern.is_extension_pattern text.now }
 {
-    text.starts_with("*.") && !text.contains('/')
+    text.starts_with("*.") && !text.as_bytes().contains(&b'/')
 }
 
 /// Returns what a text lacks that is no URL pattern.
