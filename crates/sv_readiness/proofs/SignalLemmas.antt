@@ -23,7 +23,10 @@ module _ (test : List ℕ → Bool) where
 
   later : (bytes : List ℕ) → 128 ≤ length bytes → IsAmong (drop 128 bytes) → IsAmong bytes
   later bytes long (before, signal, after, count, is, at, whole, passes) = (
-    take 128 bytes ++ before, signal, after, suc count,
+    take 128 bytes ++ before,
+    signal,
+    after,
+    suc count,
     sym (take-append-drop 128 bytes) ∙ joined (take 128 bytes) before signal after (drop 128 bytes) is,
     counted (take 128 bytes) before count (length-take-le 128 bytes long) at,
     whole,

@@ -7,6 +7,7 @@ use crate::limits::SIGNAL_RECORD_BYTES;
 
 // The numbers of the signals that ask for a stop.
 const SIGINT: u32 = 2;
+
 const SIGTERM: u32 = 15;
 
 /// Whether a whole record in these bytes is of a signal that asks for a stop. A part of a record at the end counts for

@@ -115,9 +115,7 @@ impl<'a> Signals<'a> {
     {
         self.is_left = true;
         // It is left even if the system still reports it.
-        let _ = self
-            .registry
-            .deregister(&mut SourceFd(&self.descriptor.0));
+        let _ = self.registry.deregister(&mut SourceFd(&self.descriptor.0));
     }
 }
 
