@@ -8,12 +8,14 @@ mod Cutting
 mod Deciding
 mod Ending
 mod Failing
+mod HandingOver
 mod Hearing
 mod Leading
 mod Listening
 mod Living
 mod Looping
 mod Messages
+mod OnlyEntries
 mod OurContexts
 mod Outcomes
 mod Outliving

@@ -62,29 +62,29 @@ heard_then (made ∷ front) back one two = (one.0, heard_then front back one.1 t
 
 -- ---- operations that call no component
 
-reset_silent : (status : ℕ) → Silent (Resets status None)
+pub reset_silent : (status : ℕ) → Silent (Resets status None)
 reset_silent status =
     then_silent (becomes (on_exchange reset)) (λ _. makes (SetStatus status) >> sets None) (λ x y r result h. h.0)
     (λ _. then_silent (makes (SetStatus status)) (λ _. sets None) (makes_silent (SetStatus status)) (λ _. gives_silent tt))
 
-plain_silent : (status : ℕ) → Silent (Plain status None)
+pub plain_silent : (status : ℕ) → Silent (Plain status None)
 plain_silent status =
     let typed = SetHeader (codes "content-type") (codes "text/plain") in
     let written = Write (plain_text status) in
     then_silent (Resets status None) (λ _. makes typed >> makes written) (reset_silent status)
     (λ _. then_silent (makes typed) (λ _. makes written) (makes_silent typed) (λ _. makes_silent written))
 
-unless_silent : (next : Does (Unit {0})) → Silent next → Silent (unless_committed next)
+pub unless_silent : (next : Does (Unit {0})) → Silent next → Silent (unless_committed next)
 unless_silent next silent x y r result done =
     chosen_then x.exchange.committed breaks next x y r result (λ _ broke. broke.0) (λ _ made. silent x y r result made) done
 
-error_silent : (site : Site) (status : ℕ) → Silent (ShowsError site status None)
+pub error_silent : (site : Site) (status : ℕ) → Silent (ShowsError site status None)
 error_silent site status =
     let kept : KeptError = record { status = status; text = phrase_of status; servlet = None; field = None } in
     then_silent (keeps kept) (λ _. unless_committed (Plain status None)) (λ x y r result h. h.0)
     (λ _. unless_silent (Plain status None) (plain_silent status))
 
-sends_silent : (location : List ℕ) → Silent (SendsTo location)
+pub sends_silent : (location : List ℕ) → Silent (SendsTo location)
 sends_silent location =
     then_silent (makes (SetStatus SEE_OTHER)) (λ _. makes (SetHeader (codes "location") location)) (makes_silent (SetStatus SEE_OTHER))
     (λ _. makes_silent (SetHeader (codes "location") location))

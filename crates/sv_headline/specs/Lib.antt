@@ -6,6 +6,7 @@ pub mod DecidedOnce
 pub mod Ends
 pub mod Events
 pub mod Failing
+pub mod HandedOver
 pub mod Headline
 pub mod Listeners
 pub mod Lives

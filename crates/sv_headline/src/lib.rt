@@ -6,6 +6,7 @@
 #![tactic(auto)]
 
 mod contexts;
+mod handed_over;
 mod laws;
 mod listeners;
 mod lives;
@@ -17,6 +18,9 @@ mod unlawful_runs;
 pub use contexts::{
     callers_come_by_login, contexts_end_expired_sessions, contexts_tell_outcomes,
     edits_alone_change_the_constraints, sessions_of_contexts_stay_in_order,
+};
+pub use handed_over::{
+    entries_are_handed_over, only_entries_are_dispatched, other_dispatches_hand_nothing_over,
 };
 pub use laws::{
     a_script_in_memory_prints_its_run, callers_of_a_started_container_have_logged_in,

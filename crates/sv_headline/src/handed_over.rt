@@ -1,0 +1,32 @@
+//! Requests that are handed over to an application behind a proxy. Each law is the contract of a function that only calls
+//! other laws.
+
+ghost use Rattle.sv_component.specs.Steps.{steps_of};
+ghost use Rattle.sv_headline.specs.HandedOver.{EntriesAreHandedOver, OnlyEntriesAreDispatched, OtherDispatchesHandNothingOver};
+
+use crate::unlawful::entries_call_their_servlet;
+use sv_component::{Filter, Listener, Servlet, runs_move_components};
+
+/// A request that enters and goes to a servlet which takes the steps of the class `Application`, without filters, is
+/// handed over with the canonical path and the query about which the container decided, with the caller of its session,
+/// and with its cookies except that of the session (Jakarta Servlet 6.0, sections 3.5, 9.1 and 13.8).
+pub fn entries_are_handed_over<S: Servlet, F: Filter, L: Listener>()
+    ensures { EntriesAreHandedOver (steps_of S.servlet_step F.filter_step L.listener_step) }
+{
+    runs_move_components::<S, F, L>();
+    entries_call_their_servlet::<S, F, L>();
+}
+
+/// Whatever the message, such a servlet hands nothing over in any other dispatch: not in a forward to a login page, not in
+/// an error page, not in an include (Jakarta Servlet 6.0, sections 9.3, 9.4, 10.9.2 and 13.6.3).
+pub fn other_dispatches_hand_nothing_over<S: Servlet, F: Filter, L: Listener>()
+    ensures { OtherDispatchesHandNothingOver (steps_of S.servlet_step F.filter_step L.listener_step) }
+{
+    runs_move_components::<S, F, L>();
+}
+
+/// A servlet is called with a dispatch of a request only if the message enters: its path is not hidden, it is no login
+/// post, and the constraints allow it (Jakarta Servlet 6.0, sections 10.9.2, 13.6.3 and 13.8).
+pub fn only_entries_are_dispatched<S: Servlet, F: Filter, L: Listener>()
+    ensures { OnlyEntriesAreDispatched (steps_of S.servlet_step F.filter_step L.listener_step) }
+{}
