@@ -1,5 +1,5 @@
 -- Requests that are handed over to an application.
-use Rattle.std.proofs.Common.{◌≡◌, ◌≢◌, ◌<◌, ℕ, Bool, true, false, inl, inr, List, [], ◌∷◌, ◌++◌, length, get_or, map, Option, None, Some, Result, Ok, Err, refl, sym, ap, ◌∙◌, subst, arith}
+use Rattle.std.proofs.Common.{◌≡◌, ◌≢◌, ◌<◌, ℕ, Bool, true, false, inl, inr, List, [], ◌∷◌, ◌++◌, length, get_or, map, Option, None, Some, Result, Ok, Err, refl, ap, ◌∙◌, subst, arith}
 use Rattle.std.proofs.lemmas.Bool.Decides.{eqb_tells}
 use Rattle.std.proofs.lemmas.Bool.{cond-true}
 use Rattle.std.proofs.lemmas.Option.{slice_get-get_or, slice_get_within}
@@ -10,7 +10,7 @@ use Rattle.sv_application.specs.HandingOver.{caller_names, handed_over, handed_r
 use Rattle.sv_application.specs.Serving.{HandsOver, IsError, Serves, Steps}
 use Rattle.sv_application.specs.declared.handing_over.HandedOver.{HandedOver}
 use Rattle.sv_component.specs.Call.{Call, Serviced}
-use Rattle.sv_component.specs.Laws.{ComponentsMoved, RunsMoveComponents}
+use Rattle.sv_component.specs.Laws.{RunsMoveComponents}
 use Rattle.sv_component.specs.Motion.{Moved, calls_at, servlet_calls}
 use Rattle.sv_component.specs.Runs.{IsRun, OfFilter, OfListener, OfServlet, Record}
 use Rattle.sv_component.specs.Steps.{ComponentSteps}
@@ -22,9 +22,9 @@ use Rattle.sv_exchange.specs.Dispatches.{kind_of}
 use Rattle.sv_exchange.specs.State as exchanges
 use Rattle.sv_exchange.specs.declared.exchange_fault.ExchangeFault.{ExchangeFault}
 use Rattle.sv_exchange.specs.declared.session_queries.HeldSession.{HeldSession}
-use Rattle.sv_headline.specs.HandedOver.{EntriesAreHandedOver, IsApplicationAt, IsHandedOver, OtherDispatchesHandNothingOver, StepAsApplications, own_request}
+use Rattle.sv_headline.specs.HandedOver.{EntriesAreHandedOver, OtherDispatchesHandNothingOver, StepAsApplications, own_request}
 use Rattle.sv_headline.specs.Message.{IsLawfulMessage, session_in, settled_for}
-use Rattle.sv_headline.specs.Unlawful.{EntriesCallTheirServlet, GoesToServlet, calls_with, first_exchange, site}
+use Rattle.sv_headline.specs.Unlawful.{EntriesCallTheirServlet, first_exchange, site}
 use Rattle.sv_listeners.specs.Telling.{hearing_order, told}
 use Rattle.sv_login.specs.declared.outcome.Outcome.TheVariants.{Entered}
 use Rattle.sv_mapping.specs.declared.kind.Kind.{Kind}
