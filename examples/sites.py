@@ -127,8 +127,9 @@ def started(name, folder, port):
                 sys.exit(f"{name} ends: {told.read()}")
             yield server
         finally:
-            # nginx has a process of its own for its work.
-            os.killpg(server.pid, signal.SIGKILL)
+            # nginx has a process of its own for its work. A server that did not start has none.
+            with contextlib.suppress(ProcessLookupError):
+                os.killpg(server.pid, signal.SIGKILL)
 
 
 @contextlib.contextmanager

@@ -1,0 +1,96 @@
+"""What is tried of real applications that are guarded: the two next to this module, one that is down, and a Tomcat."""
+from __future__ import annotations
+
+import contextlib
+import http.client
+import os
+import shutil
+import stat
+import sys
+from typing import Iterator
+
+from parts import CONFIGURATION, HERE, SECRET, SITE, accepts, container, guard, program_at, see
+from sites import free_ports
+from trials import see_page
+from visitor import HTML, Visitor
+
+
+def see_application(name: str, port: int) -> None:
+    """Sees what an application of the two examples receives."""
+    stranger, ann = Visitor(port), Visitor(port, "127.0.0.2")
+    see(f"{name}, a stranger", stranger.get("/open").text, "GET /open caller= roles= bytes=0\n")
+    see_page(f"{name}, the page for the login", ann.get("/members/"), 200, "<h1>Log in</h1>")
+    see(f"{name}, the login", ann.log_in("ann").status, 303)
+    text = "GET /members/ caller=ann roles=member bytes=0\n"
+    see(f"{name}, a caller", ann.get("/members;a=b/").text, text)
+    see(f"{name}, another role's page", ann.get("/admin/").status, 403)
+    see(f"{name}, HEAD", ann.ask("HEAD", "/members/").status, 200)
+    content = bytes(3_000_000)
+    for method in ("POST", "PUT"):
+        text = f"{method} /members/é caller=ann roles=member bytes={len(content)}\n"
+        came = ann.ask(method, "/members/%C3%A9", HTML, content).text
+        see(f"{name}, {method}", came.encode("latin-1").decode(), text)
+    print(f"{name}: it receives callers, roles, the decided path, and uploads of 3 MB")
+
+
+def try_python(container_port: int, folder: str) -> None:
+    (port,) = free_ports(1)
+    address = f"127.0.0.1:{port}"
+    words = [sys.executable, str(HERE / "application.py"), str(port), SECRET]
+    with program_at(words, address), guarded(container_port, folder, address) as guard_port:
+        see_application("Python", guard_port)
+        peer = http.client.HTTPConnection("127.0.0.1", port, timeout=20)
+        with contextlib.closing(peer):
+            peer.request("GET", "/members/", headers={"X-Application-Caller": "eve"})
+            answer = peer.getresponse()
+            see(
+                "Python, without the secret",
+                (answer.status, answer.read()),
+                (403, b"not by nginx\n"),
+            )
+
+
+def try_node(container_port: int, folder: str) -> None:
+    if shutil.which("node") is None:
+        print("Node: it is not installed, so it was not tried")
+        return
+    path = f"{folder}/proxy/application.sock"
+    words = ["node", str(HERE / "application.js"), path]
+    with program_at(words, f"unix:{path}"):
+        if os.geteuid() == 0:
+            shutil.chown(path, group="www-data")
+        see("Node, the mode of its socket", stat.S_IMODE(os.stat(path).st_mode), 0o660)
+        with guarded(container_port, folder, f"unix:{path}") as port:
+            see_application("Node", port)
+
+
+def try_down(container_port: int, folder: str) -> None:
+    """An application that is down gives 502, and its sessions go on."""
+    (port,) = free_ports(1)
+    address = f"127.0.0.1:{port}"
+    with guarded(container_port, folder, address) as guard_port:
+        ann = Visitor(guard_port)
+        see("down, the login", ann.log_in("ann").status, 303)
+        see("down, the page", ann.get("/members/").status, 502)
+        see("down, another role's page", ann.get("/admin/").status, 403)
+        words = [sys.executable, str(HERE / "application.py"), str(port), SECRET]
+        with program_at(words, address):
+            text = "GET /members/ caller=ann roles=member bytes=0\n"
+            see("up, the page", ann.get("/members/").text, text)
+    print(
+        "down: without the application its pages are 502; when it is back, its callers still are logged in"
+    )
+
+
+@contextlib.contextmanager
+def guarded(container_port: int, folder: str, address: str) -> Iterator[int]:
+    """nginx by the configuration of this folder in front of an application."""
+    with guard(CONFIGURATION.read_text(), folder, container_port, address) as port:
+        yield port
+
+
+def try_all(program: str, folder: str) -> None:
+    with container(program, str(SITE)) as port:
+        try_python(port, folder)
+        try_node(port, folder)
+        try_down(port, folder)

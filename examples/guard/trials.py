@@ -1,0 +1,410 @@
+"""What is tried of a guarded site: the callers, and what arrives at the application."""
+from __future__ import annotations
+
+import contextlib
+import hashlib
+import socket
+import time
+import urllib.parse
+from pathlib import Path
+from typing import Iterator, NamedTuple
+
+from parts import SECRET, see
+from recorder import CONTENT, ETAG, Arrived, Recorder
+from visitor import COOKIE, HTML, Answer, Visitor, raw, raw_status
+
+LOGIN, FAILED, DENIED = "<h1>Log in</h1>", "<h1>The login failed</h1>", "<h1>Not for you</h1>"
+JSON = {"Accept": "application/json"}
+
+
+class Trial(NamedTuple):
+    """A guarded site that is tried: the port of nginx, the application, and the journal of the container."""
+
+    port: int
+    application: Recorder
+    journal: Path
+
+    def visitor(self, address: str = "127.0.0.1") -> Visitor:
+        """A new client, after whose making nothing has arrived."""
+        self.application.taken()
+        return Visitor(self.port, address)
+
+    def caller(self, name: str, target: str = "/members/") -> Visitor:
+        """A client that has logged in. Each has an address of its own, since logins of an address are limited."""
+        visitor = self.visitor(f"127.0.0.{10 + len(name) + ord(name[0])}")
+        see(f"the login of {name}", visitor.log_in(name, target).status, 303)
+        return visitor
+
+    def arrived(self) -> Arrived:
+        """The only request that has arrived since the last call."""
+        taken = self.application.taken()
+        see("how many requests arrived", len(taken), 1)
+        return taken[0]
+
+    def see_none(self, what: str) -> None:
+        """Sees that no request has arrived since the last call."""
+        see(what, [(it.method, it.target) for it in self.application.taken()], [])
+
+    def decided(self) -> list[str]:
+        """The paths of the requests that entered so far, as the journal of the container has them."""
+        lines = self.journal.read_text().splitlines()
+        entered = [line.split(" ", 4)[3:] for line in lines if line.split(" ")[2] == "entered"]
+        paths = [context.rstrip("/") + path for context, path in entered]
+        # The journal escapes the bytes of a letter that is not ASCII.
+        return [it.encode().decode("unicode_escape").encode("latin-1").decode() for it in paths]
+
+
+def see_page(what: str, answer: Answer, status: int, heading: str) -> None:
+    """Sees that an answer is a page of the site, which no cache keeps."""
+    see(what, (answer.status, heading in answer.text), (status, True))
+    see(f"{what}, its type", answer.field("content-type"), "text/html")
+    see(f"{what}, its field Cache-Control", answer.field("cache-control"), "no-store")
+
+
+def try_strangers(trial: Trial) -> None:
+    """A request of a stranger arrives if it may, and else a page for the login comes with the cookie of a session."""
+    stranger = trial.visitor()
+    see("an open path", stranger.get("/open").status, 200)
+    fields = trial.arrived().fields
+    named = [name for name in fields if name.startswith("x-application-")]
+    see("the fields of a stranger", named, ["x-application-secret"])
+    answer = stranger.get("/members/")
+    see_page("the page for the login", answer, 200, LOGIN)
+    see("whether the cookie comes", f"{COOKIE}=" in answer.field("set-cookie"), True)
+    posted = stranger.ask("POST", "/members/", HTML, b"a=b")
+    see_page("the page in place of a POST", posted, 200, LOGIN)
+    see("the answer to HEAD", stranger.ask("HEAD", "/members/").status, 200)
+    trial.see_none("requests of a stranger")
+
+
+def try_json(trial: Trial) -> None:
+    """A client that names no HTML gets a status in place of a page."""
+    answer = trial.visitor().ask("GET", "/members/", JSON)
+    see("without a caller", (answer.status, answer.text), (401, '{"status": 401}\n'))
+    see("its type", answer.field("content-type"), "application/json")
+    see("its challenge", answer.field("www-authenticate"), "Form")
+    see("its field Cache-Control", answer.field("cache-control"), "no-store")
+    see("whether the cookie comes", f"{COOKIE}=" in answer.field("set-cookie"), True)
+    see("any type", trial.visitor().ask("GET", "/members/", {"Accept": "*/*"}).status, 401)
+    answer = trial.caller("ann").ask("GET", "/admin/", JSON)
+    see("without the role", (answer.status, answer.text), (403, '{"status": 403}\n'))
+    see("its type", answer.field("content-type"), "application/json")
+    see("its field Cache-Control", answer.field("cache-control"), "no-store")
+    answer = trial.visitor().ask("POST", "/j_security_check", JSON, b"j_username=ann&j_password=x")
+    see("a login that fails", (answer.status, answer.text), (401, '{"status": 401}\n'))
+    trial.see_none("requests that did not enter")
+
+
+def try_login(trial: Trial) -> None:
+    """A login leads back, and its caller arrives with the roles, percent-encoded."""
+    visitor = trial.visitor("127.0.0.2")
+    answer = visitor.log_in("ann", "/members/x?y=1")
+    see("the login", (answer.status, answer.field("location")), (303, "/members/x?y=1"))
+    trial.see_none("the password")
+    see("the page", visitor.get("/members/x?y=1").status, 200)
+    it = trial.arrived()
+    see("the target", (it.method, it.target), ("GET", "/members/x?y=1"))
+    names = [it.fields.get(f"x-application-{key}") for key in ("secret", "caller", "roles")]
+    see("the fields", names, [SECRET, "ann", "member"])
+    several = trial.caller("zoé tan")
+    see("the page", several.get("/members/").status, 200)
+    fields = trial.arrived().fields
+    names = [fields.get(f"x-application-{key}") for key in ("caller", "roles")]
+    see("the fields of names that are no tokens", names, ["zo%C3%A9%20tan", "member,a%2Cb"])
+
+
+def try_failed_login(trial: Trial) -> None:
+    """A login with a wrong password is answered with a page of its own, and is not a login."""
+    visitor = trial.visitor("127.0.0.3")
+    see_page("the failed login", visitor.log_in("ann", "/members/", "wrong"), 200, FAILED)
+    see_page("its location, by GET", visitor.get("/members/j_security_check"), 200, LOGIN)
+    see_page("the page after it", visitor.get("/members/"), 200, LOGIN)
+    trial.see_none("requests of a stranger")
+
+
+def try_denied(trial: Trial) -> None:
+    """A caller without the role, and a method that no constraint covers, are denied."""
+    ann = trial.caller("ann")
+    see_page("a page for another role", ann.get("/admin/"), 403, DENIED)
+    see_page("a login's location for another role", ann.get("/admin/j_security_check"), 403, DENIED)
+    ben = trial.caller("ben", "/editors/")
+    see_page("a method that is uncovered", ben.ask("POST", "/editors/", HTML, b"x"), 403, DENIED)
+    see("an unknown method", raw_status(trial.port, "BREW /editors/ HTTP/1.1"), 403)
+    see("TRACE", raw_status(trial.port, "TRACE /open HTTP/1.1"), 405)
+    trial.see_none("requests that are denied")
+    see("a method that is covered", ben.get("/editors/").status, 200)
+    see("its caller", trial.arrived().fields["x-application-caller"], "ben")
+
+
+def try_contexts(trial: Trial) -> None:
+    """A login works in a context below the root, with a path parameter, and with an escape."""
+    for place, name in enumerate(
+        ["j_security_check", "j_security_check;a=b", "%6a_security_check"]
+    ):
+        visitor = trial.visitor(f"127.0.0.{4 + place}")
+        see_page("the page for the login", visitor.get("/two/members/"), 200, LOGIN)
+        form = {**HTML, "Content-Type": "application/x-www-form-urlencoded"}
+        content = b"j_username=ann&j_password=violet"
+        see(name, visitor.ask("POST", f"/two/members/{name}", form, content).status, 303)
+        trial.see_none("the password")
+        see("the page", visitor.get("/two/members/").status, 200)
+        it = trial.arrived()
+        came = (it.target, it.fields.get("x-application-caller"))
+        see("what arrives", came, ("/two/members/", "ann"))
+        see_page("the root's page", visitor.get("/members/"), 200, LOGIN)
+
+
+def try_log_out(trial: Trial) -> None:
+    """A POST ends the session, a GET does not."""
+    ann = trial.caller("ann")
+    see("GET", ann.get("/guard/log-out").status, 403)
+    see("the page after it", ann.get("/members/").status, 200)
+    trial.arrived()
+    see("POST", ann.ask("POST", "/guard/log-out").status, 200)
+    see_page("the page after it", ann.get("/members/"), 200, LOGIN)
+    trial.see_none("requests after the end of the session")
+
+
+def try_cookies(trial: Trial) -> None:
+    """The application receives all cookies but that of the container's session, which has a name of its own."""
+    ann = trial.caller("ann")
+    see("the names of the cookies", [name for name, _ in ann.jar], [COOKIE])
+    ann.get("/members/")
+    see("the field without others", trial.arrived().fields.get("cookie"), None)
+    ann.jar = {("JSESSIONID", "/"): "own", **ann.jar, ("last", "/"): "1"}
+    ann.get("/members/")
+    see("the field with others", trial.arrived().fields.get("cookie"), "JSESSIONID=own; last=1")
+    answer = ann.get("/members/?Set-Cookie=own=2")
+    see("the application's cookie", answer.field("set-cookie"), "own=2")
+
+
+# Fields that an application may trust. Those with an empty text do not arrive.
+REPLACED = {
+    "X-Application-Secret": SECRET,
+    "X-Application-Caller": "ann",
+    "X-Application-Roles": "member",
+    "X-Forwarded-Proto": "http",
+}
+CLEARED = """X-Application-Target X-Application-Cookie X-Caller X-Remote-User Remote-User Authorization Proxy Forwarded X-Forwarded-Port
+    X-Forwarded-Prefix X-Forwarded-Server X-Forwarded-Ssl X-Forwarded-Uri X-Forwarded-User X-Real-IP X-Original-URL X-Rewrite-URL
+    X-HTTP-Method-Override X-HTTP-Method X-Method-Override X-Accel-Redirect X-Accel-Expires X-Accel-Limit-Rate X-Accel-Buffering
+    X-Accel-Charset X-Accel-Mapping X-Sendfile-Type""".split()
+
+
+def try_fields_of_clients(trial: Trial) -> None:
+    """Fields that an application may trust are nginx's own, or do not arrive, whatever the client sends."""
+    forged = {
+        name: "forged" for name in [*REPLACED, *CLEARED, "X-Forwarded-For", "X-Forwarded-Host"]
+    }
+    # A program by WSGI or CGI cannot distinguish these from the fields above.
+    twins = {name.replace("-", "_"): "forged" for name in forged if "-" in name}
+    ann = trial.caller("ann")
+    see("the page", ann.ask("GET", "/members/", {**forged, **twins}).status, 200)
+    fields = trial.arrived().fields
+    for name in forged:
+        wanted = REPLACED.get(name)
+        wanted = ann.address if name == "X-Forwarded-For" else wanted
+        wanted = f"127.0.0.1:{trial.port}" if name == "X-Forwarded-Host" else wanted
+        see(f"the field {name}", fields.get(name.lower()), wanted)
+    see("names with underscores", [it for it in fields if "_" in it], [])
+    see("the field Host", fields["host"], f"127.0.0.1:{trial.port}")
+    see("any other field", fields.get("x-forged"), None)
+    trial.visitor().ask("GET", "/open", forged)
+    fields = trial.arrived().fields
+    came = [fields.get(f"x-application-{key}") for key in ("caller", "roles")]
+    see("the caller of a stranger who sends one", came, [None, None])
+
+
+def try_others_fields(trial: Trial) -> None:
+    """Other fields of a client arrive, and the container's fields are not for clients."""
+    answer = trial.visitor().get("/open", X_CSRF_Token="1", Referer="x", If_Match="y")
+    fields = trial.arrived().fields
+    see(
+        "other fields",
+        [fields.get(it) for it in ("x-csrf-token", "referer", "if-match")],
+        ["1", "x", "y"],
+    )
+    see("the container's fields", [it for it in answer.fields if it.lower().startswith("x-")], [])
+    see("the field Vary", answer.field("vary"), "Cookie")
+    see("connections stay open", (fields.get("connection"), fields["version"]), (None, "HTTP/1.1"))
+
+
+def try_redirect(trial: Trial) -> None:
+    """The application cannot send a request to another location of nginx."""
+    for place in ("@application", "/.guard/401", "/other"):
+        answer = trial.visitor().get(f"/open?X-Accel-Redirect={place}&X-Application-Target=/forged")
+        see(f"the answer with X-Accel-Redirect: {place}", answer.status, 200)
+        see("what arrives", trial.arrived().target.partition("?")[0], "/open")
+
+
+def try_limit_rate(trial: Trial) -> None:
+    """The application cannot slow its answer down by a field of nginx."""
+    begun = time.monotonic()
+    visitor = trial.visitor()
+    visitor.seconds = 3
+    with contextlib.suppress(TimeoutError):
+        visitor.get("/open?X-Accel-Limit-Rate=1")
+    see("whether the answer is whole within 2 seconds", time.monotonic() - begun < 2, True)
+
+
+def try_buffering(trial: Trial) -> None:
+    """The application cannot turn the buffers off by a field of nginx: it has sent its answer before a slow client has read it."""
+    trial.visitor()
+    trial.application.sent.clear()
+    with socket.socket() as peer:
+        peer.setsockopt(socket.SOL_SOCKET, socket.SO_RCVBUF, 4096)
+        peer.connect(("127.0.0.1", trial.port))
+        peer.sendall(b"GET /open?answer=large&X-Accel-Buffering=no HTTP/1.1\r\nHost: x\r\n\r\n")
+        see("whether the application is done", trial.application.sent.wait(5), True)
+
+
+def try_charset(trial: Trial) -> None:
+    """The application cannot set the charset by a field of nginx, which knows this one."""
+    answer = trial.visitor().get("/open?X-Accel-Charset=koi8-r")
+    see("the type", answer.field("content-type"), "text/plain")
+
+
+def see_new(what: str, answers: list[Answer]) -> None:
+    """Sees that no two answers are the same one: each has the time of its making."""
+    see(what, len({it.text for it in answers}), len(answers))
+
+
+def try_expires(trial: Trial) -> None:
+    """The application cannot have its answer kept by a field of nginx, if there is a cache."""
+    target = f"/open?X-Accel-Expires=60&x={time.time_ns()}"
+    see_new("answers with X-Accel-Expires", [trial.visitor().get(target) for _ in range(2)])
+
+
+def try_cache(trial: Trial) -> None:
+    """A cache that is set up for all servers of nginx keeps no answer."""
+    target = f"/members/?Cache-Control=max-age=60&x={time.time_ns()}"
+    callers = [trial.caller("ann"), trial.caller("ben")]
+    see_new("answers to two callers", [it.get(target) for it in callers])
+    see_page("the answer to a stranger", trial.visitor().get(target), 200, LOGIN)
+
+
+def try_methods(trial: Trial) -> None:
+    """HEAD, ranges, 304, chunked answers and uploads pass."""
+    visitor = trial.caller("ann")
+    head = visitor.ask("HEAD", "/members/?answer=part")
+    see(
+        "HEAD", (head.status, head.text, head.field("content-length")), (200, "", str(len(CONTENT)))
+    )
+    see("the method of HEAD", trial.arrived().method, "HEAD")
+    part = visitor.get("/members/?answer=part", Range="bytes=2-4")
+    see(
+        "a range",
+        (part.status, part.text, part.field("content-range")),
+        (206, "234", "bytes 2-4/10"),
+    )
+    known = visitor.get("/members/?answer=part", If_None_Match=ETAG)
+    see("a known entity", (known.status, known.text, known.field("etag")), (304, "", ETAG))
+    see("chunks", visitor.get("/members/?answer=pieces").text, "onetwo")
+    see("DELETE", visitor.ask("DELETE", "/members/").status, 200)
+    see("OPTIONS", visitor.ask("OPTIONS", "/members/").status, 200)
+    names = [it.method for it in trial.application.taken()]
+    see("the methods", names, ["GET", "GET", "GET", "DELETE", "OPTIONS"])
+
+
+def try_statuses(trial: Trial) -> None:
+    """Errors of the application are its own answers, with its own bodies."""
+    for status in (400, 401, 403, 404, 500, 503):
+        answer = trial.visitor().get(f"/open?status={status}&WWW-Authenticate=Own")
+        see(f"the answer {status}", (answer.status, answer.text[:1].isdigit()), (status, True))
+        see("its challenge", answer.field("www-authenticate"), "Own")
+
+
+def try_pages(trial: Trial) -> None:
+    """The pages have no path of their own, and are whole and new in place of any document."""
+    for path in ("/.guard/login.html", "/.guard/401", "/.guard/403", "/.guard/"):
+        see(path, trial.visitor().get(path).status, 404)
+    trial.see_none("requests for pages")
+    page = trial.visitor().get("/members/")
+    see_page("a part", trial.visitor().get("/members/", Range="bytes=0-2"), 200, LOGIN)
+    see("its ETag", page.field("etag"), "")
+    since = {"If_Modified_Since": page.field("last-modified")}
+    see_page("a page that the client has", trial.visitor().get("/members/", **since), 200, LOGIN)
+
+
+def try_web_socket(trial: Trial) -> None:
+    """No connection is upgraded (RFC 9110, section 7.8): the application sees a plain GET."""
+    key = "Sec-WebSocket-Key: dGhlIHNhbXBsZSBub25jZQ=="
+    version = "Sec-WebSocket-Version: 13"
+    head = ["GET /open HTTP/1.1", "Host: x", "Connection: Upgrade", "Upgrade: websocket"]
+    text = "\r\n".join([*head, key, version, "", ""]).encode()
+    see("the status", raw(trial.port, text, 0.5).split(b" ", 2)[1], b"200")
+    it = trial.arrived()
+    fields = (it.fields.get("upgrade"), it.fields.get("connection"))
+    see("what arrives", (it.method, fields), ("GET", (None, None)))
+
+
+@contextlib.contextmanager
+def uploads(trial: Trial, count: int, address: str) -> Iterator[list[int]]:
+    """So many uploads of an address that do not end: the statuses of those that are refused."""
+    head = b"POST /open HTTP/1.1\r\nHost: x\r\nContent-Length: 100\r\n\r\nx"
+    with contextlib.ExitStack() as stack:
+        peers = []
+        for _ in range(count):
+            it = socket.create_connection(("127.0.0.1", trial.port), 5, (address, 0))
+            peers.append(stack.enter_context(it))
+            it.sendall(head)
+        time.sleep(0.2)
+        refused = []
+        for it in peers:
+            it.setblocking(False)
+            with contextlib.suppress(BlockingIOError):
+                refused.append(int(it.recv(4096).split(b" ", 2)[1]))
+        yield refused
+
+
+def try_bodies(trial: Trial) -> None:
+    """Uploads of 3 MB pass. The size of a body is bounded, and so is the number of bodies under way."""
+    visitor = trial.caller("ann")
+    content = bytes(range(250)) * 12_000
+    wanted = (len(content), hashlib.sha256(content).hexdigest())
+    for method, body in (("POST", content), ("PUT", content), ("POST", iter([content]))):
+        see(method, visitor.ask(method, "/members/", HTML, body).status, 200)
+        it = trial.arrived()
+        see("what arrives", (it.method, it.length, it.digest), (method, *wanted))
+    length = f"Content-Length: {8 * 1024 * 1024 + 1}"
+    see("a body beyond 8 MiB", raw_status(trial.port, "POST /open HTTP/1.1", length), 413)
+    trial.see_none("a body that is too large")
+
+
+def try_bodies_of_address(trial: Trial) -> None:
+    """An address may have 32 bodies under way, and can still ask without one."""
+    visitor = trial.visitor("127.0.0.80")
+    with uploads(trial, 33, visitor.address) as refused:
+        see("refused uploads of one address", refused, [429])
+        see("a request without a body", visitor.get("/open").status, 200)
+        see("an empty body", visitor.ask("POST", "/open", HTML, b"").status, 200)
+
+
+def try_bodies_of_all(trial: Trial) -> None:
+    """All addresses may have 256 bodies under way."""
+    with contextlib.ExitStack() as stack:
+        refused = [
+            stack.enter_context(uploads(trial, 30, f"127.0.0.{90 + place}")) for place in range(9)
+        ]
+        see("refused uploads", sum(refused, []), [429] * 14)
+        see("a request without a body", trial.visitor().get("/open").status, 200)
+
+
+def try_guesses(trial: Trial) -> None:
+    """An address may send 20 logins at once, and another one can still log in."""
+    guesser = trial.visitor("127.0.0.70")
+    statuses = [guesser.log_in("ann", "/members/", "wrong").status for _ in range(21)]
+    see("the answers to logins", statuses, [200] * 20 + [429])
+    see("a login from elsewhere", trial.visitor("127.0.0.71").log_in("ann").status, 303)
+
+
+def try_long_targets(trial: Trial) -> None:
+    """The longest target that nginx takes arrives, and so do long cookies."""
+    for piece in ("x", "%C3%A9", "%3B", "^"):
+        target = "/open/" + piece * (8_000 // len(piece))
+        answer = trial.visitor().get(target, Cookie=f"a={'b' * 7_900}")
+        see(f"the answer to a target of {piece}", answer.status, 200)
+        it = trial.arrived()
+        see("what arrives", urllib.parse.unquote(it.target), urllib.parse.unquote(target))
+        see("its cookies", len(it.fields["cookie"]), 7_902)
+    see("the answer to one of 9,000", trial.visitor().get("/" + "x" * 9_000).status, 414)
