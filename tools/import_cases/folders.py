@@ -21,7 +21,11 @@ from unittest import mock
 from library import load_script
 
 SEED = "0" * 64
-WRITTEN = ("web.toml", "web.lines", "server.toml", "users.toml")
+WRITTEN = ("web.toml", "web.lines", "server.toml", "users.toml", "nginx.conf")
+# The configuration that the importer completes.
+EXAMPLE = Path(__file__).resolve().parents[2] / "examples/guard/nginx.conf"
+# The folder of the pages that nginx shows. A case has the expected ones in a folder of this name.
+PAGES = "pages"
 MAX_SECONDS = 10
 # The places in the header of an entry, within an archive's directory, that are made odd (APPNOTE.TXT, section 4.3.12).
 DIRECTORY_HEADER = b"PK\x01\x02"
@@ -48,10 +52,13 @@ def tried_folder(folder: Path, tools: Path) -> tuple[dict[str, str], list[str], 
     for name in WRITTEN:
         text = (room / name).read_text(encoding="utf-8") if (room / name).is_file() else ""
         came[name] = re.sub(r'(?m)^seed = "[0-9a-f]{64}"$', f'seed = "{SEED}"', text)
+    came["nginx.lines"] = lines_of_its_own(came.pop("nginx.conf"))
+    came |= pages_of(room)
+    expected |= pages_of(folder)
     defaults = {"status": "0\n"}
     faults = [
         f"{name} is\n{text}"
-        for name, text in came.items()
+        for name, text in {**dict.fromkeys(pages_of(folder), ""), **came}.items()
         if text != expected.get(name, defaults.get(name, ""))
     ]
     faults += [
@@ -68,9 +75,29 @@ def tried_folder(folder: Path, tools: Path) -> tuple[dict[str, str], list[str], 
     return expected, faults, room
 
 
+def lines_of_its_own(configuration: str) -> str:
+    """The lines of a configuration of nginx that the one in examples/guard lacks, with a secret of zeros."""
+    example = EXAMPLE.read_text(encoding="utf-8")
+    lines = [it.strip() for it in configuration.splitlines()]
+    known = {it.strip() for it in example.splitlines()}
+    own = "".join(f"{it}\n" for it in lines if it not in known and not it.startswith("#"))
+    return re.sub("[0-9a-f]{64}", SEED, own)
+
+
+def pages_of(folder: Path) -> dict[str, str]:
+    """The pages in a folder, by their names."""
+    return {
+        f"{PAGES}/{it.name}": it.read_text(encoding="utf-8")
+        for it in folder.glob(f"{PAGES}/*")
+        if not (folder / PAGES).is_symlink() and not it.name.startswith(".")
+    }
+
+
 def furnish(room: Path, folder: Path, expected: dict[str, str]) -> None:
     """Puts into a room what exists before the run."""
-    shutil.copytree(folder, room, dirs_exist_ok=True, ignore=shutil.ignore_patterns(*WRITTEN))
+    shutil.copytree(
+        folder, room, dirs_exist_ok=True, ignore=shutil.ignore_patterns(*WRITTEN, PAGES)
+    )
     if (folder / "before").exists():
         shutil.copytree(folder / "before", room, dirs_exist_ok=True)
     for line in expected.get("jars", "").splitlines():
@@ -134,7 +161,8 @@ def contents(room: Path) -> dict[str, bytes | str]:
             found[name] = path.read_bytes()
         else:
             found[name] = mode_of(path)
-    return {name: it for name, it in found.items() if name not in WRITTEN}
+    is_page = re.compile(f"{PAGES}(/[^.][^/]*)?").fullmatch
+    return {name: it for name, it in found.items() if name not in WRITTEN and not is_page(name)}
 
 
 def ran(script: Path, arguments: list[str], room: Path, given: dict[str, str]) -> dict[str, str]:

@@ -2,8 +2,9 @@
 from __future__ import annotations
 
 import dataclasses
+from typing import Callable
 
-from . import components, guards, pages, security, toml, tree
+from . import components, guarding, guards, pages, security, toml, tree
 from .elements import shortened, taken, tell_what_is_not_taken
 from .limits import MAX_LIST_ITEMS
 from .toml import Value
@@ -41,11 +42,12 @@ class Part:
 
 @dataclasses.dataclass
 class Descriptor:
-    """The tables of a descriptor, in the order of its format, and whether no other file has to be read."""
+    """The tables of a descriptor, in the order of its format, whether no other file has to be read, and the pages that a proxy shows."""
 
     top: Table
     parts: list[Part]
     is_complete: bool
+    shown: list[guarding.Page] = dataclasses.field(default_factory=list)
 
     def text(self) -> str:
         """The descriptor's TOML."""
@@ -66,14 +68,35 @@ class Descriptor:
 
 def read(text: bytes, told: Told) -> Descriptor:
     """Reads the text of a web.xml, and reports the elements that have no place in a descriptor. A text that is no web.xml is a `Fault`."""
-    document = tree.read(text, told)
-    _check_root(document, told)
-    tell_what_is_not_taken(document.root, told)
-    root = taken(document.root)
-    _check_completeness(root, told)
+    root = _root(text, told, lambda root: root)
     _tell_encoding(root, told)
     top, constraints = _top(root, told), security.constraints(root, told)
-    parts = _parts(root, constraints, told)
+    return _whole(root, top, _parts(root, constraints, told), told)
+
+
+def read_for_application(text: bytes, told: Told) -> Descriptor:
+    """Reads the text of a web.xml for a container that guards its application: what only the application needs is not reported."""
+    root = _root(text, told, guarding.read_part)
+    top, constraints = _top(root, told), security.constraints(root, told)
+    login = security.login_config(root, told)
+    shown = guarding.shown_pages(root, login, told)
+    parts = _guarded_parts(root, shown, constraints, told)
+    descriptor = _whole(root, top, [*parts, *_of_tables({"login-config": login})], told)
+    return dataclasses.replace(descriptor, shown=shown)
+
+
+def _root(text: bytes, told: Told, part: Callable[[Element], Element]) -> Element:
+    """The root of a web.xml, of which only a part is read."""
+    document = tree.read(text, told)
+    _check_root(document, told)
+    root = part(document.root)
+    tell_what_is_not_taken(root, told)
+    root = taken(root)
+    _check_completeness(root, told)
+    return root
+
+
+def _whole(root: Element, top: Table, parts: list[Part], told: Told) -> Descriptor:
     guards.tell_guards(root, told)
     descriptor = Descriptor({**_version(parts), **top}, parts, _is_complete(root))
     _check_lists(descriptor, told)
@@ -173,10 +196,34 @@ def _parts(root: Element, constraints: list[security.Located], told: Told) -> li
         *_of_lists(lists),
         *_of_tables(singles),
         *_of_lists(error_pages),
-        *[Part(_CONSTRAINT, constraint.table, constraint.line) for constraint in constraints],
-        *[Part(_ROLE, role.table, role.line) for role in roles],
+        *_of_located(_CONSTRAINT, constraints),
+        *_of_located(_ROLE, roles),
         *_of_tables(login),
     ]
+
+
+def _guarded_parts(
+    root: Element, shown: list[guarding.Page], constraints: list[security.Located], told: Told
+) -> list[Part]:
+    """The parts of a descriptor in front of an application, without its login."""
+    whole = guarding.for_application(root)
+    names = components.Names("servlet", whole)
+    servlets = components.servlets(whole, names, told)
+    tables = guarding.Tables(servlets, components.servlet_mappings(whole, names, told))
+    guarding.tell_taken(tables.mappings, shown, told)
+    guarding.add_answers(tables, shown)
+    session = guarding.session_config(pages.session_config(root, told))
+    return [
+        *_of_lists({"servlet": tables.servlets, "servlet-mapping": tables.mappings}),
+        *_of_tables({"session-config": session}),
+        *_of_located(_CONSTRAINT, constraints),
+        *[Part(_CONSTRAINT, table) for table in guarding.constraints(shown)],
+        *_of_located(_ROLE, security.roles(root, told)),
+    ]
+
+
+def _of_located(header: str, found: list[security.Located]) -> list[Part]:
+    return [Part(header, it.table, it.line) for it in found]
 
 
 def _of_lists(lists: dict[str, list[Table]]) -> list[Part]:
@@ -213,9 +260,9 @@ def _check_length(key: str, length: int, told: Told) -> None:
         )
 
 
-def server_text(seed: str, context: str, users: str, files: str = "") -> str:
-    """The server file for a descriptor `web.toml`, at a port that is free when it is served."""
-    server: dict[str, Value] = {"port": 0, "seed": seed}
+def server_text(seed: str, context: str, users: str, files: str = "", port: int = 0) -> str:
+    """The server file for a descriptor `web.toml`, unless a port is named at one that is free when it is served."""
+    server: dict[str, Value] = {"port": port, "seed": seed}
     table: dict[str, Value] = {
         "path": context,
         "descriptor": "web.toml",

@@ -56,77 +56,100 @@ def write_files(folder: Path, files: list[NewFile]) -> None:
 
     Each file is on the disk under a temporary name before the first one gets its own. Links are not followed, neither that of a file nor that of a
     folder in the path."""
-    with _opened_folder(folder) as number:
-        for file in files:
-            with _named(folder / file.name):
-                _check_target(number, file)
-        temporaries: list[str] = []
+    write_into([(folder, files)])
+
+
+def write_into(folders: list[tuple[Path, list[NewFile]]]) -> None:
+    """Writes files into several folders, all or none of them, as `write_files` does."""
+    with contextlib.ExitStack() as opened:
+        places: list[_Place] = []
+        for path, files in folders:
+            number = opened.enter_context(_opened_folder(path))
+            places += [_Place(path, number, file) for file in files]
+        for place in places:
+            with _named(place.path):
+                _check_target(place.folder, place.file)
+        temporaries: list[tuple[_Place, str]] = []
         try:
-            for file in files:
-                with _named(folder / file.name):
-                    temporaries.append(_hidden(file.name, "new"))
-                    _write(number, temporaries[-1], file)
-            with _Names(number) as names:
-                for file, temporary in zip(files, temporaries):
-                    with _named(folder / file.name):
-                        names.give(file, temporary)
-                with _named(folder):
-                    _sync(number)
+            for place in places:
+                with _named(place.path):
+                    temporaries.append((place, _hidden(place.file.name, "new")))
+                    _write(place.folder, temporaries[-1][1], place.file)
+            with _Names() as names:
+                for place, temporary in temporaries:
+                    with _named(place.path):
+                        names.give(place, temporary)
+                for place in places:
+                    with _named(place.within):
+                        _sync(place.folder)
         finally:
-            for temporary in temporaries:
+            for place, temporary in temporaries:
                 with contextlib.suppress(FileNotFoundError):
-                    os.unlink(temporary, dir_fd=number)
+                    os.unlink(temporary, dir_fd=place.folder)
+
+
+@dataclasses.dataclass(frozen=True)
+class _Place:
+    """A file that is written, and the folder that it is written into, with its descriptor."""
+
+    within: Path
+    folder: int
+    file: NewFile
+
+    @property
+    def path(self) -> Path:
+        return self.within / self.file.name
 
 
 class _Names:
-    """Gives files of a folder their names. If that ends with a fault, each name has again what had it."""
+    """Gives files their names. If that ends with a fault, each name has again what had it."""
 
-    def __init__(self, folder: int) -> None:
-        self._folder = folder
-        # The names, each with the name of a copy of the file that had it.
-        self._given: list[tuple[str, str | None]] = []
+    def __init__(self) -> None:
+        # The folders and names, each with the name of a copy of the file that had it.
+        self._given: list[tuple[int, str, str | None]] = []
 
     def __enter__(self) -> _Names:
         return self
 
     def __exit__(self, kind: type[BaseException] | None, *_rest: object) -> None:
-        for name, old in reversed(self._given):
+        for folder, name, old in reversed(self._given):
             if kind is None and old is not None:
-                os.unlink(old, dir_fd=self._folder)
+                os.unlink(old, dir_fd=folder)
             elif kind is not None and old is not None:
-                self._rename(old, name)
+                _rename(folder, old, name)
             elif kind is not None:
-                os.unlink(name, dir_fd=self._folder)
-        if self._given:
-            _sync(self._folder)
+                os.unlink(name, dir_fd=folder)
+        for folder in dict.fromkeys(folder for folder, _, _ in self._given):
+            _sync(folder)
 
-    def give(self, file: NewFile, temporary: str) -> None:
+    def give(self, place: _Place, temporary: str) -> None:
         """Gives a file, which has a temporary name, its own."""
-        if not file.may_replace:
+        folder, name = place.folder, place.file.name
+        if not place.file.may_replace:
             # A link, unlike a rename, fails if a file of that name appeared meanwhile.
-            self._link(temporary, file.name)
-            self._given.append((file.name, None))
+            _link(folder, temporary, name)
+            self._given.append((folder, name, None))
             return
-        old: str | None = _hidden(file.name, "old")
+        old: str | None = _hidden(name, "old")
         try:
-            self._link(file.name, old)
+            _link(folder, name, old)
         except FileNotFoundError:
             old = None
         try:
-            self._rename(temporary, file.name)
+            _rename(folder, temporary, name)
         except BaseException:
             if old is not None:
-                os.unlink(old, dir_fd=self._folder)
+                os.unlink(old, dir_fd=folder)
             raise
-        self._given.append((file.name, old))
+        self._given.append((folder, name, old))
 
-    def _link(self, name: str, other: str) -> None:
-        os.link(
-            name, other, src_dir_fd=self._folder, dst_dir_fd=self._folder, follow_symlinks=False
-        )
 
-    def _rename(self, name: str, other: str) -> None:
-        os.replace(name, other, src_dir_fd=self._folder, dst_dir_fd=self._folder)
+def _link(folder: int, name: str, other: str) -> None:
+    os.link(name, other, src_dir_fd=folder, dst_dir_fd=folder, follow_symlinks=False)
+
+
+def _rename(folder: int, name: str, other: str) -> None:
+    os.replace(name, other, src_dir_fd=folder, dst_dir_fd=folder)
 
 
 @contextlib.contextmanager

@@ -14,7 +14,9 @@ MAX_COOKIE_PATH_BYTES = 1024
 MAX_COOKIE_AGE = 2_147_483_647
 ERROR_CODES = range(400, 600)
 
-SERVLET_CLASSES = frozenset("Who Paths Nest Go Fail Err Gone Keep Bye Out Stream".split())
+SERVLET_CLASSES = frozenset(
+    "Who Paths Nest Go Fail Err Gone Keep Bye Out Stream Application".split()
+)
 FILTER_CLASSES = frozenset("Mark Halt Bad".split())
 LISTENER_CLASSES = frozenset(["Log"])
 
