@@ -9,8 +9,9 @@ import stat
 import sys
 from typing import Iterator
 
-from parts import CONFIGURATION, HERE, SECRET, SITE, accepts, container, guard, program_at, see
+from parts import CONFIGURATION, HERE, SECRET, SITE, container, guard, program_at, see
 from sites import free_ports
+from tomcat_trial import try_tomcat
 from trials import see_page
 from visitor import HTML, Visitor
 
@@ -94,3 +95,4 @@ def try_all(program: str, folder: str) -> None:
         try_python(port, folder)
         try_node(port, folder)
         try_down(port, folder)
+    try_tomcat(program, folder)
