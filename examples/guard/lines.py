@@ -21,6 +21,8 @@ ROWS: list[tuple[str, str, Optional[Try]]] = [
     ('map "$request_method', "", trials.try_failed_login),
     ('map "$http_content_length', "default", trials.try_bodies_of_all),
     ('map "$http_content_length', "", trials.try_bodies_of_address),
+    ('map "$scheme', '"~^https', trials.try_tls),
+    ('map "$scheme', "", trials.try_strangers),
     ("map $with_body", "", trials.try_bodies_of_address),
     ("http", "limit_conn_zone $with_body", trials.try_bodies_of_all),
     ("http", "limit_conn", trials.try_bodies_of_address),
@@ -70,6 +72,12 @@ ROWS: list[tuple[str, str, Optional[Try]]] = [
     ("upstream", "", None),
     ("server", "listen", None),
     ("location", 'proxy_set_header Connection "";', None),
+]
+# The lines that README.md adds for TLS.
+TLS = [
+    "ssl_certificate KEYS/certificate.pem;",
+    "ssl_certificate_key KEYS/key.pem;",
+    "proxy_cookie_flags GUARDSESSION secure;",
 ]
 # Lines that are as wrong when they are changed: a line, another one in its place, and the trial that fails then.
 CHANGES: list[tuple[str, str, Try]] = [
@@ -142,11 +150,17 @@ def _with_cache_of_all(text: str) -> str:
     return _with_cache(text, "proxy_cache tried; proxy_cache_valid 200 1m;")
 
 
+def _with_tls(text: str) -> str:
+    listen = "listen 127.0.0.1:GUARD_PORT;"
+    return replaced(text, listen, "\n".join([listen.replace(";", " ssl;"), *TLS]))
+
+
 # What else a configuration has in which the trial sees whether its line is there.
 VARIANTS: dict[Try, Callable[[str], str]] = {
     trials.try_charset: _with_charset,
     trials.try_expires: _with_cache_of_application,
     trials.try_cache: _with_cache_of_all,
+    trials.try_tls: _with_tls,
 }
 
 

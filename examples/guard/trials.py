@@ -283,6 +283,18 @@ def try_cache(trial: Trial) -> None:
     see_page("the answer to a stranger", trial.visitor().get(target), 200, LOGIN)
 
 
+def try_tls(trial: Trial) -> None:
+    """Over TLS each cookie of the session is Secure, and the application sees that."""
+    visitor = trial.visitor()
+    visitor.certificate = str(trial.journal.parent / "certificate.pem")
+    page, login = visitor.get("/members/"), visitor.log_in("ann")
+    see("the login", login.status, 303)
+    for what, it in (("the page", page), ("the login", login)):
+        see(f"{what}, Secure", "secure" in it.field("set-cookie").lower().split("; "), True)
+    visitor.get("/members/")
+    see("the field X-Forwarded-Proto", trial.arrived().fields["x-forwarded-proto"], "https")
+
+
 def try_methods(trial: Trial) -> None:
     """HEAD, ranges, 304, chunked answers and uploads pass."""
     visitor = trial.caller("ann")

@@ -5,6 +5,7 @@ import contextlib
 import http.client
 import http.cookies
 import socket
+import ssl
 import urllib.parse
 from typing import Iterator, NamedTuple, Optional, Union
 
@@ -31,6 +32,7 @@ class Visitor:
 
     def __init__(self, port: int, address: str = "127.0.0.1") -> None:
         self.port, self.address, self.seconds = port, address, SECONDS
+        self.certificate: Optional[str] = None
         self.jar: dict[tuple[str, str], str] = {}
 
     def cookies(self, target: str) -> str:
@@ -41,6 +43,16 @@ class Visitor:
             if f"{target.partition('?')[0]}/".startswith(f"{path.rstrip('/')}/")
         )
 
+    def connection(self) -> http.client.HTTPConnection:
+        """A new connection: over TLS if there is a certificate to trust."""
+        source = (self.address, 0)
+        if self.certificate is None:
+            return http.client.HTTPConnection("127.0.0.1", self.port, self.seconds, source)
+        context = ssl.create_default_context(cafile=self.certificate)
+        return http.client.HTTPSConnection(
+            "localhost", self.port, timeout=self.seconds, source_address=source, context=context
+        )
+
     def ask(
         self,
         method: str,
@@ -49,9 +61,7 @@ class Visitor:
         body: Union[bytes, Iterator[bytes], None] = None,
     ) -> Answer:
         """Sends a request on a connection of its own. A body in pieces is sent as chunks."""
-        peer = http.client.HTTPConnection(
-            "127.0.0.1", self.port, timeout=self.seconds, source_address=(self.address, 0)
-        )
+        peer = self.connection()
         cookies = self.cookies(target)
         sent = {**({"Cookie": cookies} if cookies else {}), **(HTML if fields is None else fields)}
         is_in_pieces = body is not None and not isinstance(body, bytes)
