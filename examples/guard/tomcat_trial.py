@@ -26,6 +26,8 @@ SERVER = """<Server port="-1"><Service name="Catalina"><Connector port="{port}" 
 <Host name="localhost" appBase="none" autoDeploy="false"/></Engine></Service></Server>
 """
 CONTEXT = '<Context docBase="{place}"><Resources allowLinking="true"/></Context>\n'
+# A machine under load is slow to start it.
+SECONDS_TO_START = 300
 JAVA = ["java", "-Xmx256m", "-XX:+UseSerialGC", "-XX:TieredStopAtLevel=1"]
 
 
@@ -51,7 +53,7 @@ def tomcat(base: Path, port: int, secret: str) -> Iterator[None]:
             wait_until(
                 "Tomcat listens",
                 lambda: process.poll() is not None or accepts(f"127.0.0.1:{port}"),
-                60,
+                SECONDS_TO_START,
             )
             yield
         finally:
