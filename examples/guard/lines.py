@@ -155,7 +155,7 @@ def _with_tls(text: str) -> str:
     return replaced(text, listen, "\n".join([listen.replace(";", " ssl;"), *TLS]))
 
 
-# The additions to the configuration by which a trial can see whether its line is there.
+# Additions to the configuration, for trials that otherwise cannot see whether its line is there.
 VARIANTS: dict[Try, Callable[[str], str]] = {
     trials.try_charset: _with_charset,
     trials.try_expires: _with_cache_of_application,

@@ -10,6 +10,7 @@ import sys
 from typing import Iterator
 
 from parts import CONFIGURATION, HERE, SECRET, SITE, container, guard, program_at, see
+from servers import wait_until
 from sites import free_ports
 from tomcat_trial import try_tomcat
 from trials import see_page
@@ -60,7 +61,7 @@ def try_node(container_port: int, folder: str) -> None:
     with program_at(words, f"unix:{path}"):
         if os.geteuid() == 0:
             shutil.chown(path, group="www-data")
-        see("Node, the mode of its socket", stat.S_IMODE(os.stat(path).st_mode), 0o660)
+        wait_until("the mode of the socket", lambda: stat.S_IMODE(os.stat(path).st_mode) == 0o660)
         with guarded(container_port, folder, f"unix:{path}") as port:
             see_application("Node", port)
 
