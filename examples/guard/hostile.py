@@ -201,7 +201,7 @@ def try_smuggling(trial: Trial) -> None:
     for what, text, statuses, paths in MESSAGES:
         trial.visitor()
         before = len(trial.decided())
-        came = raw(trial.port, text.encode("latin-1"), 0.3)
+        came = raw(trial.port, text.encode("latin-1"), len(statuses))
         parts = came.split(b"HTTP/1.1 ")[1:]
         see(f"{what}: the paths", [path_of(it) for it in see_decided(trial, what, before)], paths)
         see(f"{what}: the statuses", [int(it.split(b" ", 1)[0]) for it in parts], statuses)

@@ -30,6 +30,7 @@ ROWS: list[tuple[str, str, Optional[Try]]] = [
     ("server", "client_max_body_size", trials.try_bodies),
     ("server", "limit_conn bodies", trials.try_bodies_of_all),
     ("server", "limit_conn senders", trials.try_bodies_of_address),
+    ("server", "underscores_in_headers", trials.try_underscores),
     ("server", "proxy_http_version", trials.try_others_fields),
     ("server", "proxy_buffer", trials.try_long_targets),
     ("server", "proxy_cache off", trials.try_cache),
@@ -137,6 +138,11 @@ def _with_cache(text: str, lines: str) -> str:
     )
 
 
+def _with_underscores(text: str) -> str:
+    first = "upstream container {"
+    return replaced(text, first, "underscores_in_headers on;\n" + first)
+
+
 def _with_charset(text: str) -> str:
     first = "upstream container {"
     return replaced(text, first, "charset_map koi8-r utf-8 { 80 E282AC; }\n" + first)
@@ -161,6 +167,7 @@ VARIANTS: dict[Try, Callable[[str], str]] = {
     trials.try_expires: _with_cache_of_application,
     trials.try_cache: _with_cache_of_all,
     trials.try_tls: _with_tls,
+    trials.try_underscores: _with_underscores,
 }
 
 

@@ -6,6 +6,7 @@ import http.client
 import os
 import shutil
 import stat
+import subprocess
 import sys
 from typing import Iterator
 
@@ -84,6 +85,29 @@ def try_down(container_port: int, folder: str) -> None:
     )
 
 
+def try_edit(program: str, folder: str) -> None:
+    """An edit of the policy decides the next request."""
+    control = f"{folder}/control"
+    (port,) = free_ports(1)
+    address = f"127.0.0.1:{port}"
+    words = [sys.executable, str(HERE / "application.py"), str(port), SECRET]
+    with container(program, str(SITE), "--control", control) as it, program_at(words, address):
+        with guarded(it, folder, address) as guard_port:
+            stranger = Visitor(guard_port)
+            see("edit, before", stranger.get("/open/page").status, 200)
+            number = controlled(program, control, "append", "/", "/open/*", "*", "nobody")
+            see("edit, closed", stranger.get("/open/page").status, 403)
+            controlled(program, control, "withdraw", "/", number.split()[-1])
+            see("edit, opened again", stranger.get("/open/page").status, 200)
+    print("edit: a constraint that is appended while all run closes a path, and its end opens it")
+
+
+def controlled(program: str, control: str, *words: str) -> str:
+    """The reply of the container to a line at its control socket."""
+    command = [program, "ctl", control, *words]
+    return subprocess.run(command, capture_output=True, text=True, check=True).stdout
+
+
 @contextlib.contextmanager
 def guarded(container_port: int, folder: str, address: str) -> Iterator[int]:
     """nginx by the configuration of this folder in front of an application."""
@@ -96,4 +120,5 @@ def try_all(program: str, folder: str) -> None:
         try_python(port, folder)
         try_node(port, folder)
         try_down(port, folder)
+    try_edit(program, folder)
     try_tomcat(program, folder)

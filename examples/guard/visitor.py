@@ -9,7 +9,10 @@ import ssl
 import urllib.parse
 from typing import Iterator, NamedTuple, Optional, Union
 
-SECONDS = 20
+# A machine under load takes long to answer.
+SECONDS = 90
+# After its last answer, a server has no more to say if it is silent for so long.
+SILENT_SECONDS = 0.3
 HTML = {"Accept": "text/html,application/xhtml+xml,*/*;q=0.8"}
 PASSWORDS = {"ann": "violet", "ben": "harbor", "eve": "lantern", "zoé tan": "linden"}
 COOKIE = "GUARDSESSION"
@@ -94,14 +97,16 @@ class Visitor:
                 self.jar[name, it["path"] or "/"] = it.value
 
 
-def raw(port: int, text: bytes, seconds: float = SECONDS) -> bytes:
-    """What a server sends for these bytes until it closes the connection, or is silent for so many seconds."""
+def raw(port: int, text: bytes, answers: int = 0) -> bytes:
+    """What a server sends for these bytes until it closes the connection. After so many answers, if not 0, it is until the server is silent."""
     came = b""
-    with socket.create_connection(("127.0.0.1", port), timeout=seconds) as peer:
+    with socket.create_connection(("127.0.0.1", port), timeout=SECONDS) as peer:
         peer.sendall(text)
         with contextlib.suppress(TimeoutError, ConnectionResetError):
             while piece := peer.recv(65536):
                 came += piece
+                if answers and came.count(b"HTTP/1.1 ") >= answers:
+                    peer.settimeout(SILENT_SECONDS)
     return came
 
 
