@@ -83,7 +83,8 @@ def room(*programs):
             cwd=folder,
             stdin=subprocess.DEVNULL,
             stderr=subprocess.DEVNULL,
-            timeout=SECONDS,
+            # A machine under load takes long to make a key.
+            timeout=10 * SECONDS,
             check=True,
         )
         shutil.copy(f"{folder}/certificate.pem", f"{folder}/keys")

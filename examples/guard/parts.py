@@ -18,7 +18,6 @@ from sites import configured, free_ports, started  # noqa: E402
 from servers import running, wait_until  # noqa: E402
 
 SECRET = "0123456789abcdef"
-PAGES = {"LOGIN_PAGE": "login.html", "FAILED_PAGE": "failed.html", "DENIED_PAGE": "denied.html"}
 CONFIGURATION = HERE / "nginx.conf"
 SITE = HERE / "site"
 
@@ -58,7 +57,7 @@ def guard(text: str, room: str, container_port: int, application: str) -> Iterat
         GUARD_PORT=port,
         APPLICATION=application,
         SECRET=SECRET,
-        **{"PAGES": pages, **PAGES},
+        PAGES=pages,
     )
     with started("nginx", room, port):
         yield port

@@ -54,9 +54,6 @@ class Guard(NamedTuple):
             "GUARD_PORT": str(GUARD_PORT),
             "APPLICATION": self.address,
             "SECRET": self.secret,
-            "LOGIN_PAGE": PLAIN[0],
-            "FAILED_PAGE": PLAIN[1],
-            "DENIED_PAGE": PLAIN[2],
         }
         text = re.sub(rf"\b({'|'.join(words)})\b", lambda it: words[it[1]], text)
         return _HEAD.format(log_out=LOG_OUT) + text.replace(_DENIED, _DENIED + self._error_pages())
@@ -79,7 +76,7 @@ def page_files(web_xml: Path, shown: list[Page], may_replace: bool, told: Told) 
     texts = {name: read_regular(EXAMPLE / "site/pages" / name).decode() for name in PLAIN}
     root = web_xml.absolute().parent
     for page in shown:
-        text, why = _static(root.parent if root.name == "WEB-INF" else None, page.path)
+        text, why = _static(root.parent if root.name == "WEB-INF" else None, page.pattern)
         if text is not None:
             texts[page.name] = text
             continue

@@ -45,9 +45,19 @@ class Page:
     line: int
 
     @property
-    def path(self) -> str:
-        """The path of the location."""
-        return unquote(self.location.partition("?")[0])
+    def pattern(self) -> str:
+        """The pattern that matches just the canonical path of the location (Jakarta Servlet 6.0, sections 3.5.2 and 12.2)."""
+        names: list[str] = []
+        segments = [unquote(it.partition(";")[0]) for it in self._path().split("/")[1:]]
+        for name in segments[:-1]:
+            names = names[:-1] if name == ".." else names + [name] * (name not in ("", "."))
+        last = segments[-1]
+        names = names[:-1] if last == ".." else names
+        path = "/" + "/".join([*names, "" if last in (".", "..") else last])
+        return "" if path == "/" else path
+
+    def _path(self) -> str:
+        return self.location.partition("?")[0]
 
 
 def read_part(root: Element) -> Element:
@@ -175,11 +185,11 @@ def tell_taken(mappings: list[Table], shown: list[Page], told: Told) -> None:
     """Reports the pages for the login that a servlet of the application makes by a pattern of its own."""
     owners = {str(it): table["servlet-name"] for table in mappings for it in _patterns(table)}
     for page in shown:
-        if page.name in ("login.html", "failed.html") and page.path in owners:
+        if page.name in ("login.html", "failed.html") and page.pattern in owners:
             told.tell(
                 Rank.BEHAVIOR,
                 page.line,
-                f"{page.path} is answered with the page {page.name}, and not by the servlet {shortened(str(owners[page.path]))}",
+                f"{page.location} is answered with the page {page.name}, and not by the servlet {shortened(str(owners[page.pattern]))}",
             )
 
 
@@ -191,7 +201,7 @@ def _patterns(table: Table) -> list[str]:
 
 def add_answers(tables: Tables, shown: list[Page]) -> None:
     """Adds the servlets that answer in place of the application: 401 where a login is needed, and the end of the session."""
-    paths = [it.path for it in shown if it.name in ("login.html", "failed.html")]
+    paths = [it.pattern for it in shown if it.name in ("login.html", "failed.html")]
     if paths:
         tables.answer("guard-login", _servlet(ERROR, code="401"), paths)
         tables.answer("guard-log-out", _servlet(END_OF_SESSION), [LOG_OUT])
