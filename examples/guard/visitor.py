@@ -14,7 +14,13 @@ SECONDS = 90
 # After its last answer, a server has no more to say if it is silent for so long.
 SILENT_SECONDS = 0.3
 HTML = {"Accept": "text/html,application/xhtml+xml,*/*;q=0.8"}
-PASSWORDS = {"ann": "violet", "ben": "harbor", "eve": "lantern", "zoé tan": "linden"}
+PASSWORDS = {
+    "ann": "violet",
+    "ben": "harbor",
+    "eve": "lantern",
+    "zoé tan": "linden",
+    "max": "maple",
+}
 COOKIE = "GUARDSESSION"
 
 
