@@ -439,6 +439,6 @@ def try_long_targets(trial: Trial) -> None:
         see("what arrives", urllib.parse.unquote(it.target), urllib.parse.unquote(target))
         see("its cookies", len(it.fields["cookie"]), 7_902)
     many = trial.caller("max")
-    see("the answer to a caller with 64,000 bytes of roles", many.get("/members/").status, 502)
+    see("the answer to a caller with 128,000 bytes of roles", many.get("/members/").status, 502)
     trial.see_none("a caller whose roles do not fit")
     see("the answer to one of 9,000", trial.visitor().get("/" + "x" * 9_000).status, 414)
