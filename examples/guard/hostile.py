@@ -50,6 +50,7 @@ TARGETS: list[tuple[str, Union[str, int]]] = [
     ("/admin%00", 400),
     ("/%c0%ae%c0%ae/admin/", 400),
     ("/a%zz", 400),
+    ("/a%ff", 400),
     ("/a#b", 400),
     ("/../admin/", 400),
     ("*", 400),
