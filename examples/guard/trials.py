@@ -375,6 +375,7 @@ def uploads(trial: Trial, counts: dict[str, int], wanted: int) -> Iterator[list[
         refused: list[int] = []
         end = time.monotonic() + SECONDS_TO_REFUSE
         while len(refused) < wanted and time.monotonic() < end:
+            time.sleep(0.1)
             refused = [int(came.split(b" ", 2)[1]) for came in map(peeked, peers) if came]
         yield refused
 
