@@ -15,7 +15,7 @@ from visitor import COOKIE, HTML, SECONDS, Answer, Visitor, raw, raw_status
 
 LOGIN, FAILED, DENIED = "<h1>Log in</h1>", "<h1>The login failed</h1>", "<h1>Not for you</h1>"
 # A machine under load takes long for these.
-SECONDS_TO_REFUSE, SECONDS_TO_SEND = 15, 20
+SECONDS_TO_REFUSE, SECONDS_TO_SEND, SECONDS_TO_ANSWER = 15, 20, 15
 JSON = {"Accept": "application/json"}
 
 
@@ -252,11 +252,16 @@ def try_redirect(trial: Trial) -> None:
 
 def try_limit_rate(trial: Trial) -> None:
     """The application cannot slow its answer down by a field of nginx."""
-    visitor = trial.visitor()
-    # At one byte a second the answer would take minutes.
-    visitor.seconds = 15
-    text = visitor.get("/open?X-Accel-Limit-Rate=1").text
-    see("whether the answer is whole", text.strip().isdigit(), True)
+    trial.visitor()
+    head = b"GET /open?X-Accel-Limit-Rate=1 HTTP/1.1\r\nHost: x\r\nConnection: close\r\n\r\n"
+    came, end = [b"-"], time.monotonic() + SECONDS_TO_ANSWER
+    with socket.create_connection(("127.0.0.1", trial.port), SECONDS_TO_ANSWER) as peer:
+        peer.sendall(head)
+        with contextlib.suppress(TimeoutError):
+            while came[-1] and time.monotonic() < end:
+                came.append(peer.recv(4096))
+    # At one byte a second it would take minutes.
+    see("whether the answer has ended", came[-1], b"")
 
 
 def try_buffering(trial: Trial) -> None:
@@ -372,6 +377,7 @@ def uploads(trial: Trial, counts: dict[str, int], wanted: int) -> Iterator[list[
             it = socket.create_connection(("127.0.0.1", trial.port), SECONDS, (address, 0))
             peers.append(stack.enter_context(it))
             it.sendall(head)
+            it.setblocking(False)
         refused: list[int] = []
         end = time.monotonic() + SECONDS_TO_REFUSE
         while len(refused) < wanted and time.monotonic() < end:
@@ -383,7 +389,7 @@ def uploads(trial: Trial, counts: dict[str, int], wanted: int) -> Iterator[list[
 def peeked(peer: socket.socket) -> bytes:
     """What a server has sent so far."""
     try:
-        return peer.recv(4096, socket.MSG_PEEK | socket.MSG_DONTWAIT)
+        return peer.recv(4096, socket.MSG_PEEK)
     except BlockingIOError:
         return b""
 
