@@ -1,19 +1,20 @@
 -- Requests that are handed over to an application behind a proxy, by fields of the response. nginx sends a request on
 -- to the location that `x-accel-redirect` names.
-use Rattle.std.specs.Prelude.{ℕ, Bool, List, [], ◌∷◌, ◌++◌, codes, Option, None, Some, Result, Ok, Err}
+use Rattle.std.specs.Prelude.{◌≡◌, ℕ, List, [], ◌∷◌, ◌++◌, codes, OnErr, OnOk, Option, None, Some, Result, Ok}
 use Rattle.std.specs.Option.{option_map}
 use Rattle.sv_application.specs.Cookies.{cookies_text, other_cookies}
 use Rattle.sv_application.specs.Names.{encoded_name, roles_text}
 use Rattle.sv_application.specs.declared.handing_over.CallerNames.{CallerNames}
 use Rattle.sv_application.specs.declared.handing_over.HandedOver.{HandedOver}
-use Rattle.sv_exchange.specs.Changing.{SetHeader, after_all, answer}
+use Rattle.sv_exchange.specs.Changing.{Change, SetHeader, after_all, answer, left_by}
 use Rattle.sv_exchange.specs.Dispatches.{query_of}
 use Rattle.sv_exchange.specs.Request.{client_uri_of}
 use Rattle.sv_exchange.specs.State.{State}
 use Rattle.sv_exchange.specs.declared.exchange_fault.ExchangeFault.{ExchangeFault}
 use Rattle.sv_exchange.specs.declared.exchange_fault.ExchangeFault.TheVariants as faults
 use Rattle.sv_realm.specs.declared.caller.Caller.{Caller}
-use Rattle.sv_text.specs.Steps.{◌>>=◌, ◌>>◌}
+use Rattle.sv_text.specs.Gives.{Gives}
+use Rattle.sv_text.specs.Steps.{◌>>=◌}
 use Rattle.sv_uri.specs.LocationField.{location}
 
 -- ---- what the application receives of a request
@@ -42,69 +43,50 @@ handed_request exchange = record { target = target exchange; caller = caller_nam
 
 -- ---- the fields that are set, in order
 
-unfoldable pub with_field : List ℕ → List ℕ → State → State
-with_field name value before = after_all (SetHeader name value ∷ []) before
+abbrev pub caller_fields : Option CallerNames → List Change
+caller_fields None = []
+caller_fields (Some names) =
+    SetHeader (codes "x-application-caller") names.name ∷ SetHeader (codes "x-application-roles") names.roles ∷ []
 
-abbrev pub with_names : CallerNames → State → State
-with_names names before =
-    with_field (codes "x-application-roles") names.roles (with_field (codes "x-application-caller") names.name before)
+abbrev pub cookie_fields : Option (List ℕ) → List Change
+cookie_fields None = []
+cookie_fields (Some text) = SetHeader (codes "x-application-cookie") text ∷ []
 
-abbrev pub with_caller : Option CallerNames → State → State
-with_caller None before = before
-with_caller (Some names) before = with_names names before
+abbrev pub request_fields : HandedOver → List Change
+request_fields request =
+    SetHeader (codes "x-application-target") request.target ∷ caller_fields request.caller ++ cookie_fields request.cookies
 
-abbrev pub with_cookies : Option (List ℕ) → State → State
-with_cookies None before = before
-with_cookies (Some text) before = with_field (codes "x-application-cookie") text before
+-- the fields of a request that is handed over to the application at the internal location
+abbrev pub all_fields : HandedOver → List ℕ → List Change
+all_fields request internal = request_fields request ++ SetHeader (codes "x-accel-redirect") internal ∷ []
 
-abbrev pub with_client : HandedOver → State → State
-with_client request before = with_cookies request.cookies (with_caller request.caller before)
+-- ---- the effect of setting them
 
-abbrev pub with_request : HandedOver → State → State
-with_request request before = with_client request (with_field (codes "x-application-target") request.target before)
-
-abbrev pub with_all : HandedOver → List ℕ → State → State
-with_all request internal before = with_field (codes "x-accel-redirect") internal (with_request request before)
-
--- the exchange after its request was handed over to the application at the internal location
-abbrev pub handed_over : List ℕ → State → State
-handed_over internal before = with_all (handed_request before) internal before
-
--- ---- the first fault of setting them
+-- the first refusal of calls that are made in order
+abbrev pub first_answer : List Change → State → Result (Unit {0}) ExchangeFault
+first_answer [] before = Ok tt
+first_answer (change ∷ changes) before =
+    answer change before >>= (λ _. first_answer changes (left_by (answer change before) change before))
 
 -- the fault of a call, unless memory ran out
 abbrev pub call_fault : ExchangeFault → Option ExchangeFault
 call_fault faults.NoMemory = None
 call_fault fault = Some fault
 
-unfoldable pub set_answer : List ℕ → List ℕ → State → Result (Unit {0}) ExchangeFault
-set_answer name value before = answer (SetHeader name value) before >>= (λ _. Ok tt)
+-- only a part of the calls was made, and not the last
+pub record IsCut (changes : List Change) (before after : State) : Type 0 where
+  pub made : List Change
+  pub next : Change
+  pub others : List Change
+  pub are : changes ≡ made ++ next ∷ others
+  pub left : after ≡ after_all made before
 
-abbrev pub names_answer : CallerNames → State → Result (Unit {0}) ExchangeFault
-names_answer names before =
-    set_answer (codes "x-application-caller") names.name before
-    >> set_answer (codes "x-application-roles") names.roles (with_field (codes "x-application-caller") names.name before)
+-- the calls were made in order, up to the first that was refused
+pub record Makes (changes : List Change) (before : State) (done : Result (Unit {0}) ExchangeFault) (after : State) : Type 0 where
+  pub all : OnOk done (after ≡ after_all changes before)
+  pub refusal : Gives call_fault done (first_answer changes before)
+  pub cut : OnErr done (IsCut changes before after)
 
-abbrev pub caller_answer : Option CallerNames → State → Result (Unit {0}) ExchangeFault
-caller_answer None before = Ok tt
-caller_answer (Some names) before = names_answer names before
-
-abbrev pub cookies_answer : Option (List ℕ) → State → Result (Unit {0}) ExchangeFault
-cookies_answer None before = Ok tt
-cookies_answer (Some text) before = set_answer (codes "x-application-cookie") text before
-
-abbrev pub client_answer : HandedOver → State → Result (Unit {0}) ExchangeFault
-client_answer request before =
-    caller_answer request.caller before >> cookies_answer request.cookies (with_caller request.caller before)
-
-abbrev pub request_answer : HandedOver → State → Result (Unit {0}) ExchangeFault
-request_answer request before =
-    set_answer (codes "x-application-target") request.target before
-    >> client_answer request (with_field (codes "x-application-target") request.target before)
-
-abbrev pub all_answer : HandedOver → List ℕ → State → Result (Unit {0}) ExchangeFault
-all_answer request internal before =
-    request_answer request before >> set_answer (codes "x-accel-redirect") internal (with_request request before)
-
-abbrev pub handing_answer : List ℕ → State → Result (Unit {0}) ExchangeFault
-handing_answer internal before = all_answer (handed_request before) internal before
+-- the request of the exchange is handed over to the application at the internal location
+abbrev pub HandsOver : List ℕ → State → Result (Unit {0}) ExchangeFault → State → Type 0
+HandsOver internal before done after = Makes (all_fields (handed_request before) internal) before done after

@@ -1,10 +1,10 @@
 -- The effect of calls on the servlet `Application` and on its exchanges.
-use Rattle.std.specs.Prelude.{◌≡◌, ℕ, Bool, true, false, not, ◌&&◌, ◌||◌, ◌==◌, List, [], ◌∷◌, codes, length, OnOk, Result, Ok, Err}
+use Rattle.std.specs.Prelude.{◌≡◌, ℕ, Bool, true, false, not, ◌&&◌, ◌||◌, ◌==◌, List, [], ◌∷◌, codes, length, Result, Ok, Err}
 use Rattle.std.specs.List.{list_all}
 use Rattle.std.specs.Option.{unwrap_or}
 use Rattle.std.specs.Str.{byte}
-use Rattle.sv_application.specs.HandingOver.{call_fault, handed_over, handing_answer}
-use Rattle.sv_component.specs.Call.{Call, Inited, Serviced, Entered, Left, Heard, Destroyed}
+use Rattle.sv_application.specs.HandingOver.{HandsOver}
+use Rattle.sv_component.specs.Call.{Call, Inited, Serviced, Destroyed}
 use Rattle.sv_component.specs.Config.{param_of}
 use Rattle.sv_component.specs.declared.answers.Init.{Init}
 use Rattle.sv_component.specs.declared.answers.Init.TheVariants as inits
@@ -18,7 +18,6 @@ use Rattle.sv_exchange.specs.declared.exchange_fault.ExchangeFault.{ExchangeFaul
 use Rattle.sv_exchange.specs.declared.exchange_fault.ExchangeFault.TheVariants as faults
 use Rattle.sv_mapping.specs.declared.kind.Kind.{Kind}
 use Rattle.sv_mapping.specs.declared.kind.Kind.TheVariants as kinds
-use Rattle.sv_text.specs.Gives.{Gives}
 use Rattle.sv_uri.specs.LocationField.{is_letter_or_digit}
 
 abbrev pub is_name_byte : ℕ → Bool
@@ -52,15 +51,14 @@ IsStepOf (Ok done) step = step ≡ steps.Done
 IsStepOf (Err faults.NoMemory) step = step ≡ steps.NoMemory
 IsStepOf (Err fault) step = IsError (fault_status fault) step
 
--- the request was handed over to the application at the location, unless that was refused
-abbrev pub HandsOver : List ℕ → State → Step → State → Type 0
-HandsOver location before step after =
-    (done : Result (Unit {0}) ExchangeFault)
-    × IsStepOf done step × OnOk done (after ≡ handed_over location before) × Gives call_fault done (handing_answer location before)
+-- the request of a client is handed over to the application at the location, or that is refused
+abbrev pub ServesRequest : List ℕ → State → Step → State → Type 0
+ServesRequest location before step after =
+    (done : Result (Unit {0}) ExchangeFault) × IsStepOf done step × HandsOver location before done after
 
 -- in any other dispatch nothing is handed over
 abbrev pub Serves : Kind → List ℕ → State → Step → State → Type 0
-Serves kinds.Request location before step after = HandsOver location before step after
+Serves kinds.Request location before step after = ServesRequest location before step after
 Serves kind location before step after = IsError 404 step × (after ≡ before)
 
 -- the effect of a call, with the location before and after it

@@ -87,7 +87,7 @@ fn is_name_byte(b: u8) -> bool
 
 /// Hands a request of a client over.
 fn serve(alloc: Global, exchange: &mut Exchange, location: &str) -> Step
-    ensures handed { spec.HandsOver location.now exchange.old result exchange.new }
+    ensures handed { spec.ServesRequest location.now exchange.old result exchange.new }
     ensures reached { Reaches exchange.old exchange.new }
 {
     step_of(alloc, hand_over(alloc, exchange, location))

@@ -1,9 +1,9 @@
 //! Requests that are handed over to an application.
 
-ghost use Rattle.std.specs.Prelude.{◌≡◌, ◌++◌, IfOk, OnOk, map, string_bytes};
+ghost use Rattle.std.specs.Prelude.{◌≡◌, ◌∷◌, ◌++◌, [], OnOk, Some, map, string_bytes};
 ghost use Rattle.std.specs.Option.{option_copied};
-ghost use Rattle.sv_exchange.specs.Changing.{Reaches};
-ghost use Rattle.sv_text.specs.Gives.{Gives, GivesAnswer};
+ghost use Rattle.sv_exchange.specs.Changing.{Reaches, SetHeader};
+ghost use Rattle.sv_text.specs.Gives.{GivesAnswer};
 ghost use Rattle.sv_application.specs.HandingOver as spec;
 
 use crate::cookies::{cookies_text, other_cookies};
@@ -40,15 +40,14 @@ pub struct CallerNames {
 /// stay unchanged if the response is committed or an include is active (Jakarta Servlet 6.0, sections 5.2 and 9.3).
 ///
 /// # Errors
-/// `BadHeader` if a value is not valid for a field, and `NoMemory`. Fields before this one may have been set, but not
+/// `BadHeader` if a value is not valid for a field, and `NoMemory`. The fields before it have been set, but not
 /// `x-accel-redirect`.
 pub fn hand_over(
     alloc: Global,
     exchange: &mut Exchange,
     internal: &str,
 ) -> Result<(), ExchangeFault>
-    ensures handed { OnOk result (exchange.new ≡ spec.handed_over internal.now exchange.old) }
-    ensures answered { Gives spec.call_fault result (spec.handing_answer internal.now exchange.old) }
+    ensures handed { spec.HandsOver internal.now exchange.old result exchange.new }
     ensures reached { Reaches exchange.old exchange.new }
 {
     let request = handed_request(alloc, exchange)?;
@@ -61,8 +60,7 @@ fn set_all(
     request: &HandedOver,
     internal: &str,
 ) -> Result<(), ExchangeFault>
-    ensures set { OnOk result (exchange.new ≡ spec.with_all request.now internal.now exchange.old) }
-    ensures answered { Gives spec.call_fault result (spec.all_answer request.now internal.now exchange.old) }
+    ensures set { spec.Makes (spec.all_fields request.now internal.now) exchange.old result exchange.new }
     ensures reached { Reaches exchange.old exchange.new }
 {
     set_request(exchange, request)?;
@@ -71,8 +69,7 @@ fn set_all(
 
 /// Sets the fields about the request.
 fn set_request(exchange: &mut Exchange, request: &HandedOver) -> Result<(), ExchangeFault>
-    ensures set { OnOk result (exchange.new ≡ spec.with_request request.now exchange.old) }
-    ensures answered { Gives spec.call_fault result (spec.request_answer request.now exchange.old) }
+    ensures set { spec.Makes (spec.request_fields request.now) exchange.old result exchange.new }
     ensures reached { Reaches exchange.old exchange.new }
 {
     set_text(exchange, "x-application-target", &request.target)?;
@@ -81,8 +78,7 @@ fn set_request(exchange: &mut Exchange, request: &HandedOver) -> Result<(), Exch
 
 /// Sets the fields about the client: its caller and its cookies.
 fn set_client(exchange: &mut Exchange, request: &HandedOver) -> Result<(), ExchangeFault>
-    ensures set { OnOk result (exchange.new ≡ spec.with_client request.now exchange.old) }
-    ensures answered { Gives spec.call_fault result (spec.client_answer request.now exchange.old) }
+    ensures set { spec.Makes (spec.caller_fields request.now.caller ++ spec.cookie_fields request.now.cookies) exchange.old result exchange.new }
     ensures reached { Reaches exchange.old exchange.new }
 {
     set_caller(exchange, &request.caller)?;
@@ -90,8 +86,7 @@ fn set_client(exchange: &mut Exchange, request: &HandedOver) -> Result<(), Excha
 }
 
 fn set_caller(exchange: &mut Exchange, caller: &Option<CallerNames>) -> Result<(), ExchangeFault>
-    ensures set { OnOk result (exchange.new ≡ spec.with_caller caller.now exchange.old) }
-    ensures answered { Gives spec.call_fault result (spec.caller_answer caller.now exchange.old) }
+    ensures set { spec.Makes (spec.caller_fields caller.now) exchange.old result exchange.new }
     ensures reached { Reaches exchange.old exchange.new }
 {
     match caller {
@@ -102,8 +97,7 @@ fn set_caller(exchange: &mut Exchange, caller: &Option<CallerNames>) -> Result<(
 
 /// Sets the fields about a caller.
 fn set_names(exchange: &mut Exchange, names: &CallerNames) -> Result<(), ExchangeFault>
-    ensures set { OnOk result (exchange.new ≡ spec.with_names names.now exchange.old) }
-    ensures answered { Gives spec.call_fault result (spec.names_answer names.now exchange.old) }
+    ensures set { spec.Makes (spec.caller_fields (Some names.now)) exchange.old result exchange.new }
     ensures reached { Reaches exchange.old exchange.new }
 {
     set_text(exchange, "x-application-caller", &names.name)?;
@@ -111,8 +105,7 @@ fn set_names(exchange: &mut Exchange, names: &CallerNames) -> Result<(), Exchang
 }
 
 fn set_cookies(exchange: &mut Exchange, cookies: &Option<Text>) -> Result<(), ExchangeFault>
-    ensures set { OnOk result (exchange.new ≡ spec.with_cookies cookies.now exchange.old) }
-    ensures answered { Gives spec.call_fault result (spec.cookies_answer cookies.now exchange.old) }
+    ensures set { spec.Makes (spec.cookie_fields cookies.now) exchange.old result exchange.new }
     ensures reached { Reaches exchange.old exchange.new }
 {
     match cookies {
@@ -122,8 +115,7 @@ fn set_cookies(exchange: &mut Exchange, cookies: &Option<Text>) -> Result<(), Ex
 }
 
 fn set_text(exchange: &mut Exchange, name: &str, value: &Text) -> Result<(), ExchangeFault>
-    ensures set { OnOk result (exchange.new ≡ spec.with_field name.now value.now exchange.old) }
-    ensures answered { Gives spec.call_fault result (spec.set_answer name.now value.now exchange.old) }
+    ensures set { spec.Makes (SetHeader name.now value.now ∷ []) exchange.old result exchange.new }
     ensures reached { Reaches exchange.old exchange.new }
 {
     set(exchange, name, value.as_str())
@@ -131,8 +123,7 @@ fn set_text(exchange: &mut Exchange, name: &str, value: &Text) -> Result<(), Exc
 
 /// Sets a field.
 fn set(exchange: &mut Exchange, name: &str, value: &str) -> Result<(), ExchangeFault>
-    ensures set { OnOk result (exchange.new ≡ spec.with_field name.now value.now exchange.old) }
-    ensures answered { Gives spec.call_fault result (spec.set_answer name.now value.now exchange.old) }
+    ensures set { spec.Makes (SetHeader name.now value.now ∷ []) exchange.old result exchange.new }
     ensures reached { Reaches exchange.old exchange.new }
 {
     exchange.set_header(name, value)?;

@@ -1,6 +1,6 @@
 -- The servlets that an answer's calls put out of service permanently.
 use Rattle.std.specs.Prelude.{codes}
-use Rattle.std.proofs.Common.{◌≡◌, ℕ, zero, suc, Bool, true, false, eqb, List, [], ◌∷◌, ◌++◌, Option, None, Some, refl, sym, ap, ◌∙◌, subst, append-nil, slice_index_or, slice_set, if◌then◌else◌}
+use Rattle.std.proofs.Common.{◌≡◌, inl, inr, ℕ, zero, suc, Bool, true, false, eqb, List, [], ◌∷◌, ◌++◌, Option, None, Some, refl, sym, ap, ◌∙◌, subst, append-nil, slice_index_or, slice_set, if◌then◌else◌}
 use Rattle.std.specs.List.{list_any}
 use Rattle.std.proofs.lemmas.Bool.{eqb-true, eqb-false}
 use Rattle.sv_admission.specs.declared.answer.Answer.{Answer}
@@ -26,7 +26,7 @@ use Rattle.sv_listeners.specs.Telling.{told}
 use Rattle.sv_mapping.specs.declared.kind.Kind.{Kind}
 use Rattle.sv_mapping.specs.declared.kind.Kind.TheVariants as kinds
 use Rattle.sv_session.specs.declared.ended_sessions.EndedSession.{EndedSession}
-use Rattle.sv_tree.proofs.Bounding.{error_keeps, served_keeps}
+use Rattle.sv_tree.proofs.Bounding.{AnyField, ErrorSteps, error_keeps, served_keeps}
 use Rattle.sv_tree.proofs.Hearing.{all_keep, all_keep_alone}
 use Rattle.sv_tree.proofs.Keeping.{FilterSteps, Keeps, Opens, Steps, away_by, called, gives_keeps, makes_keeps, then_keeps, told_by, tree_keeps, within_keeps}
 use Rattle.sv_tree.specs.Does.{Does, ◌>>◌, makes}
@@ -184,7 +184,7 @@ module _ (site : Site) where
   law = record {
     stays = λ room x b. same x;
     joins = λ room x y z r s b one two. retires_join x.standings y.standings z.standings r s one two;
-    keeps = λ room x kept. same x;
+    keeps = λ room x kept own. same x;
     makes = λ room x change own. same x;
     empties = λ room x. same x;
     breaks = λ room x place turn step e left serving changes.
@@ -213,6 +213,9 @@ module _ (site : Site) where
   trees : (kind : Kind) (canon : Canon) → Keeps site Ends MAX_NESTING (Tree site MAX_NESTING kind canon)
   trees kind canon = tree_keeps site Ends law (within_keeps site Ends law filters) MAX_NESTING kind (opens kind) canon
 
+  errors : ErrorSteps site Ends MAX_NESTING AnyField
+  errors = record { resets = same; breaks = same; none = tt; sets = λ x field own. same x; owns = λ x y r b kept. kept tt }
+
   -- ---- Answers
 
   hears_end : (event : Event) → Keeps site Ends MAX_NESTING (hears site.listeners event)
@@ -230,16 +233,16 @@ module _ (site : Site) where
       (λ _. then_keeps site Ends law MAX_NESTING its (λ _. hears site.listeners RequestDestroyed) ends (λ _. hears_end RequestDestroyed))
 
   serving_ends : (kind : Kind) (canon : Canon) → Keeps site Ends MAX_NESTING (Served site kind canon)
-  serving_ends = served_keeps site Ends law MAX_NESTING same same trees
+  serving_ends kind canon = served_keeps site Ends law MAX_NESTING AnyField errors (trees kinds.Error) kind canon (trees kind canon)
 
   error_ends : (status : ℕ) (page : Option Canon) → Keeps site Ends MAX_NESTING (ShowsError site status page)
-  error_ends = error_keeps site Ends law MAX_NESTING same same trees
+  error_ends = error_keeps site Ends law MAX_NESTING AnyField errors (trees kinds.Error)
 
   sends_end : (location : List ℕ) → Keeps site Ends MAX_NESTING (SendsTo location)
   sends_end location =
       then_keeps site Ends law MAX_NESTING (makes (SetStatus SEE_OTHER)) (λ _. makes (SetHeader (codes "location") location))
       (makes_keeps site Ends law MAX_NESTING (SetStatus SEE_OTHER) tt)
-      (λ _. makes_keeps site Ends law MAX_NESTING (SetHeader (codes "location") location) tt)
+      (λ _. makes_keeps site Ends law MAX_NESTING (SetHeader (codes "location") location) (inr (inl refl)))
 
   answers_end : (canon : Canon) (answer : Answer) → Keeps site Ends MAX_NESTING (Answers site canon answer)
   answers_end canon answers.Entered = requested_end (Served site kinds.Request canon) (serving_ends kinds.Request canon)

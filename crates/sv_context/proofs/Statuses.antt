@@ -118,7 +118,7 @@ module _ (site : Site) where
   law = record {
     stays = λ room x b code. code;
     joins = λ room x y z r s b one two code. two (one code);
-    keeps = λ room x kept code. code;
+    keeps = λ room x kept own code. code;
     makes = λ room x change own code. made_code change x.exchange code;
     empties = λ room x code. emptied_code x.exchange.committed x.exchange code;
     breaks = λ room x place turn step e left serving changes code. changes_code (counted x).exchange e changes code;
@@ -194,7 +194,7 @@ module _ (site : Site) where
   error_code status page =
       let kept : KeptError = record { status = status; text = phrase_of status; servlet = None; field = None } in
       let paged = Pages site status None page in
-      then_code (keeps kept) (λ _. unless_committed paged) (keeps_keeps site Coded law 0 kept) (λ _. unless_code paged (pages_code status None page))
+      then_code (keeps kept) (λ _. unless_committed paged) (keeps_keeps site Coded law 0 kept tt) (λ _. unless_code paged (pages_code status None page))
 
   settled_code : (ended : Finished) → KeepsCode (Settled site ended)
   settled_code finished.Done = gives_keeps site Coded law 0 tt

@@ -126,7 +126,7 @@ module _ (site : Site) where
       λ came. two.0 came ∙ one.0 refl,
       λ other. other_then r s (one.1 other) (two.1 (λ same. other (ap (λ dispatches. innermost_kind (reverse dispatches)) (sym (one.0 refl)) ∙ same))),
     );
-    keeps = λ room x kept. (λ came. refl, λ other. tt);
+    keeps = λ room x kept own. (λ came. refl, λ other. tt);
     makes = λ room x change own. (λ came. (made_unchanged change x.exchange).0.dispatches, λ other. tt);
     empties = λ room x. (λ came. (emptied_unchanged x.exchange).0.dispatches, λ other. tt);
     breaks = λ room x place turn step e left serving changes.

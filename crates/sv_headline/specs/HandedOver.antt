@@ -1,26 +1,36 @@
 -- Requests that are handed over to an application behind a proxy: what they are handed over with is what the container
 -- decided about (Jakarta Servlet 6.0, sections 3.5, 9.1 and 13.8).
-use Rattle.std.specs.Prelude.{◌≡◌, ◌≢◌, ℕ, List, ◌∷◌, ◌++◌, Option, Some, Result, OnOk, slice_get}
+use Rattle.std.specs.Prelude.{◌≡◌, ◌≢◌, ◌⊎◌, ℕ, List, ◌∷◌, ◌++◌, codes, Option, Some, Result, slice_get}
+use Rattle.std.specs.List.{AllByRecursion}
+use Rattle.std.specs.Option.{option_map}
 use Rattle.sv_admission.specs.Held.{caller_held}
 use Rattle.sv_application.specs.Cookies.{other_cookies}
-use Rattle.sv_application.specs.HandingOver.{caller_names, joined_cookies, query_text, with_all}
-use Rattle.sv_application.specs.Serving.{IsError, IsStepOf, Steps}
+use Rattle.sv_application.specs.HandingOver.{Makes, all_fields, caller_names, joined_cookies, query_text}
+use Rattle.sv_application.specs.Serving.{IsError, IsStepOf, ServesRequest, Steps}
 use Rattle.sv_application.specs.declared.handing_over.HandedOver.{HandedOver}
+use Rattle.sv_component.specs.Call as calls
 use Rattle.sv_component.specs.Call.{Call, Serviced}
-use Rattle.sv_component.specs.Runs.{OfServlet, Record}
+use Rattle.sv_component.specs.Runs.{OfFilter, OfServlet, Record}
 use Rattle.sv_component.specs.Steps.{ComponentSteps}
 use Rattle.sv_component.specs.declared.answers.Step.{Step}
 use Rattle.sv_component.specs.declared.components.Named.{Named}
 use Rattle.sv_context.specs.Conduct.{asked_of}
 use Rattle.sv_context.specs.State.{ContextState}
 use Rattle.sv_exchange.specs.Dispatches.{kind_of}
+use Rattle.sv_exchange.specs.Fields.{first_value}
 use Rattle.sv_exchange.specs.State as exchanges
 use Rattle.sv_exchange.specs.declared.exchange_fault.ExchangeFault.{ExchangeFault}
 use Rattle.sv_headline.specs.Message.{IsLawfulMessage, MayEnter, path_in, session_in, settled_for}
+use Rattle.sv_headline.specs.Record.{IsLawfulRun}
+use Rattle.sv_headline.specs.Transitions.{ContextAnswer, Transition}
 use Rattle.sv_headline.specs.Unlawful.{GoesToServlet, calls_with, first_exchange}
 use Rattle.sv_login.specs.declared.outcome.Outcome.TheVariants.{Entered}
 use Rattle.sv_mapping.specs.declared.kind.Kind.TheVariants as kinds
+use Rattle.sv_message.specs.declared.field.Field.{Field}
 use Rattle.sv_run.specs.Contexts.{Handling}
+use Rattle.sv_run.specs.Events.{Happening}
+use Rattle.sv_run.specs.Runs.{Answer}
+use Rattle.sv_run.specs.State.{State}
 use Rattle.sv_uri.specs.LocationField.{location}
 
 module _ {S F L : Type 0} (moving : ComponentSteps S F L) (location_of : S → Option (List ℕ)) where
@@ -56,7 +66,72 @@ module _ {S F L : Type 0} (moving : ComponentSteps S F L) (handling : Handling (
     pub calls : made ≡ calls_with moving handling made place (first_exchange moving handling made) step left behind
     pub done : Result (Unit {0}) ExchangeFault
     pub is_step : IsStepOf done step
-    pub handed : OnOk done (left ≡ with_all own_request internal (first_exchange moving handling made))
+    pub makes : Makes (all_fields own_request internal) (first_exchange moving handling made) done left
+
+-- ---- the response
+
+-- the fields that a proxy reads in a response
+pub record ProxyFields : Type 0 where
+  pub internal : Option (List ℕ)
+  pub target : Option (List ℕ)
+  pub caller : Option (List ℕ)
+  pub roles : Option (List ℕ)
+  pub cookies : Option (List ℕ)
+
+abbrev pub proxy_fields : List Field → ProxyFields
+proxy_fields fields = record {
+  internal = first_value (codes "x-accel-redirect") fields;
+  target = first_value (codes "x-application-target") fields;
+  caller = first_value (codes "x-application-caller") fields;
+  roles = first_value (codes "x-application-roles") fields;
+  cookies = first_value (codes "x-application-cookie") fields;
+}
+
+module _ {S F L : Type 0} (moving : ComponentSteps S F L) (location_of : S → Option (List ℕ)) (context : ContextState S F L) where
+  abbrev pub IsOfApplication : ℕ → Type 0
+  IsOfApplication place = (internal : List ℕ) × IsApplicationAt moving location_of context place internal
+
+  -- this holds of the exchange before and after the call, if it is one of a filter, or of a servlet that is no such servlet
+  abbrev pub HoldsOfOther : (exchanges.State → exchanges.State → Type 0) → Record → Type 0
+  HoldsOfOther Holds (OfServlet place (Serviced before turn step after)) = IsOfApplication place ⊎ Holds before after
+  HoldsOfOther Holds (OfFilter place (calls.Entered before gate after)) = Holds before after
+  HoldsOfOther Holds (OfFilter place (calls.Left before done after)) = Holds before after
+  HoldsOfOther Holds made = Unit {0}
+
+  -- the other components leave these fields as they are
+  abbrev pub OthersLeaveFields : List Record → Type 0
+  OthersLeaveFields made = AllByRecursion (HoldsOfOther (λ before after. proxy_fields after.fields ≡ proxy_fields before.fields)) made
+
+  -- the other components undo no login
+  abbrev pub OthersLeaveCaller : List Record → Type 0
+  OthersLeaveCaller made = AllByRecursion (HoldsOfOther (λ before after. after.caller ≡ before.caller)) made
+
+module _ {S F L : Type 0} (moving : ComponentSteps S F L) (location_of : S → Option (List ℕ)) (handling : Handling (ContextState S F L))
+    (made : List Record) where
+  -- such a servlet is called with the dispatch of the request, and hands it over to this location
+  pub record IsHandingCall (internal : List ℕ) : Type 0 where
+    pub place : ℕ
+    pub its : IsOfApplication moving location_of handling.context place
+    pub exchange : exchanges.State
+    pub turn : ℕ
+    pub step : Step
+    pub left : exchanges.State
+    pub earlier : List Record
+    pub later : List Record
+    pub call : made ≡ earlier ++ OfServlet place (Serviced exchange turn step left) ∷ later
+    pub kind : kind_of exchange ≡ kinds.Request
+    pub serves : ServesRequest internal exchange step left
+
+  -- the request enters, and the response hands it over with its own target, caller and cookies
+  pub record IsRedirectOfEntry (internal : List ℕ) : Type 0 where
+    pub may : MayEnter handling.context handling.request
+    pub called : IsHandingCall internal
+    pub target : (proxy_fields handling.response.fields).target ≡ Some (own_request moving handling made).target
+    pub cookies : (proxy_fields handling.response.fields).cookies ≡ (own_request moving handling made).cookies
+    pub caller : OthersLeaveCaller moving location_of handling.context made
+        → (proxy_fields handling.response.fields).caller ≡ option_map (λ names. names.name) (own_request moving handling made).caller
+    pub roles : OthersLeaveCaller moving location_of handling.context made
+        → (proxy_fields handling.response.fields).roles ≡ option_map (λ names. names.roles) (own_request moving handling made).caller
 
 module _ {S F L : Type 0} (moving : ComponentSteps S F L) where
   -- a request that enters and goes to such a servlet, without filters, is handed over as the container decided about it
@@ -84,3 +159,25 @@ module _ {S F L : Type 0} (moving : ComponentSteps S F L) where
       (handling : Handling (ContextState S F L)) (front behind : List Record) (place : ℕ) (exchange : exchanges.State) (turn : ℕ) (step : Step) (left : exchanges.State)
       → IsLawfulMessage moving handling (front ++ OfServlet place (Serviced exchange turn step left) ∷ behind)
       → kind_of exchange ≡ kinds.Request → MayEnter handling.context handling.request
+
+  -- whatever the message, a response names an internal location only if its request enters and is handed over; unless other
+  -- components set these fields, they are the request's own, and unless others undo the login, its caller is that of its session
+  abbrev pub RedirectsAreOfEntries : Type 0
+  RedirectsAreOfEntries =
+      (location_of : S → Option (List ℕ)) (handling : Handling (ContextState S F L)) (made : List Record) (internal : List ℕ)
+      → StepAsApplications moving location_of → IsLawfulMessage moving handling made
+      → OthersLeaveFields moving location_of handling.context made
+      → first_value (codes "x-accel-redirect") handling.response.fields ≡ Some internal
+      → IsRedirectOfEntry moving location_of handling made internal
+
+  -- the same of each message of a lawful run
+  abbrev pub RedirectsInRunsAreOfEntries : Type 0
+  RedirectsInRunsAreOfEntries =
+      {Words : Type 0} (draws : Words → ℕ × ℕ → Words → Type 0) (before after : State (ContextState S F L) Words) (happenings : List Happening)
+      (answers : List (Answer (ContextState S F L))) (lawful : IsLawfulRun moving draws before happenings answers after)
+      (earlier later : List (Transition S F L)) (place : ℕ) (text : List ℕ)
+      (location_of : S → Option (List ℕ)) (handling : Handling (ContextState S F L)) (made : List Record) (internal : List ℕ)
+      → lawful.transitions ≡ earlier ++ ContextAnswer place handling made text ∷ later
+      → StepAsApplications moving location_of → OthersLeaveFields moving location_of handling.context made
+      → first_value (codes "x-accel-redirect") handling.response.fields ≡ Some internal
+      → IsRedirectOfEntry moving location_of handling made internal

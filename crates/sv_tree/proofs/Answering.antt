@@ -5,7 +5,7 @@ use Rattle.std.proofs.lemmas.List.{append-nil}
 use Rattle.sv_component.specs.Runs.{Record}
 use Rattle.sv_exchange.specs.Changing.{SetHeader, SetStatus, Write}
 use Rattle.sv_mapping.specs.declared.kind.Kind.TheVariants as kinds
-use Rattle.sv_tree.specs.Does.{◌>>=◌, ◌>>◌, becomes, gives, makes, wants_memory}
+use Rattle.sv_tree.specs.Does.{◌>>=◌, ◌>>◌, becomes, makes, wants_memory}
 use Rattle.sv_tree.specs.Laws.{AnswersOnce, PageCalls}
 use Rattle.sv_tree.specs.Served as served
 use Rattle.sv_tree.specs.Served.{kept_field, plain_text, reset}

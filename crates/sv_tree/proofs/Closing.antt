@@ -71,7 +71,7 @@ module _ (site : Site) where
   law = record {
     stays = λ room x b came owed. refl;
     joins = λ room x y z r s b one two came owed. owes-append r s owed owed owed (one refl owed) (two came owed);
-    keeps = λ room x kept came owed. refl;
+    keeps = λ room x kept own came owed. refl;
     makes = λ room x change own came owed. refl;
     empties = λ room x came owed. refl;
     breaks = λ room x place turn step e left serving changes b. not_true b;

@@ -36,7 +36,7 @@ one_more site x e calls left more =
     let heard : count_all (told_by site e) ≡ 0 = count-told site.listeners e.events in
     (omega (arith, one, heard), λ _. omega (arith, one, below))
 
-none_more : (calls before : ℕ) → calls ≡ before → (calls ≡ 0 + before) × (before ≤ MAX_CALLS → calls ≤ MAX_CALLS)
+pub none_more : (calls before : ℕ) → calls ≡ before → (calls ≡ 0 + before) × (before ≤ MAX_CALLS → calls ≤ MAX_CALLS)
 none_more calls before same = (same ∙ sym (zero-add before), λ h. subst (λ n. n ≤ MAX_CALLS) (sym same) h)
 
 -- A call that does not count, with its notifications.
@@ -77,7 +77,7 @@ module _ (site : Site) where
         let first : y.exchange.calls ≡ count_all r + x.exchange.calls = one.0 in
         let second : z.exchange.calls ≡ count_all s + y.exchange.calls = two.0 in
         (omega (arith, e, first, second), λ h. two.1 (one.1 h));
-    keeps = λ room x kept. none_more x.exchange.calls x.exchange.calls refl;
+    keeps = λ room x kept own. none_more x.exchange.calls x.exchange.calls refl;
     makes = λ room x change own. none_more _ x.exchange.calls (made_account change x.exchange).0;
     empties = λ room x. none_more _ x.exchange.calls (emptied_account x.exchange).0;
     breaks = λ room x place turn step e left serving changes. one_more site x e e.calls left (changes_account (counted x).exchange e changes).0;

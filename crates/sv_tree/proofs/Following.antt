@@ -81,7 +81,7 @@ module _ (site : Site) where
   law = record {
     stays = λ room x b h. h;
     joins = λ room x y z r s b one two h. two (one h);
-    keeps = λ room x kept h. h;
+    keeps = λ room x kept own h. h;
     makes = λ room x change own h. own_events change (answer change x.exchange) x.exchange own ∙ h;
     empties = λ room x h. unless_events x.exchange.committed x.exchange ∙ h;
     breaks = λ room x place turn step e left serving changes h. refl;
@@ -108,7 +108,7 @@ module _ (site : Site) where
   follow_law = record {
     stays = λ room x b. refl;
     joins = λ room x y z r s b one two. follows_then site r s one two;
-    keeps = λ room x kept. refl;
+    keeps = λ room x kept own. refl;
     makes = λ room x change own. refl;
     empties = λ room x. refl;
     breaks = λ room x place turn step e left serving changes.

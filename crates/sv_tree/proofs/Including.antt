@@ -53,7 +53,7 @@ module _ (site : Site) where
       λ came. two.0 came ∙ one.0 refl,
       λ within. head_then x.exchange y.exchange z.exchange (one.1 within) (two.1 (still_within x.exchange y.exchange (one.0 refl) within)),
     );
-    keeps = λ room x kept. (λ _. refl, λ _. (refl, refl));
+    keeps = λ room x kept own. (λ _. refl, λ _. (refl, refl));
     makes = λ room x change own. let same = made_unchanged change x.exchange in (λ _. same.0.dispatches, same.1);
     empties = λ room x. let same = emptied_unchanged x.exchange in (λ _. same.0.dispatches, same.1);
     breaks = λ room x place turn step e left serving changes. let same = called_unchanged x.exchange e changes in (λ _. same.0.dispatches, same.1);

@@ -1,7 +1,7 @@
 -- A property that each step keeps holds for every dispatch.
 use Rattle.std.specs.Prelude.{codes, decimal, length}
 use Rattle.std.proofs.lemmas.List.{append-nil}
-use Rattle.std.proofs.Common.{◌≡◌, inl, inr, ℕ, zero, suc, ◌-◌, Bool, true, false, List, [], ◌∷◌, ◌++◌, Option, None, Some, Result, Ok, Err, refl, sym, ap, ◌∙◌, subst}
+use Rattle.std.proofs.Common.{◌≡◌, ◌⊎◌, inl, inr, ℕ, zero, suc, ◌-◌, Bool, true, false, List, [], ◌∷◌, ◌++◌, Option, None, Some, Result, Ok, Err, refl, sym, ap, ◌∙◌, subst}
 use Rattle.sv_component.specs.Call.{Destroyed}
 use Rattle.sv_component.specs.Runs.{OfServlet, Record}
 use Rattle.sv_component.specs.declared.answers.Gate.{Gate}
@@ -64,10 +64,19 @@ called exchange state = with_exchange (without_events exchange) state
 abbrev pub told_by : Site → Exchange → List Record
 told_by site exchange = all_told site.listeners exchange.events
 
--- The changing calls that the container makes.
+-- The names of the fields that the container sets within a dispatch, and of those for the errors that it raises.
+abbrev pub IsOwnName : List ℕ → Type 0
+IsOwnName name =
+    (name ≡ codes "content-type") ⊎ ((name ≡ codes "location") ⊎ ((name ≡ codes "allow") ⊎ (name ≡ codes "retry-after")))
+
+abbrev pub IsOwnField : Option KeptField → Type 0
+IsOwnField None = Unit {0}
+IsOwnField (Some field) = IsOwnName field.name
+
+-- The changing calls that the container makes within a dispatch.
 abbrev pub IsOwn : Change → Type 0
 IsOwn (SetStatus status) = Unit {0}
-IsOwn (SetHeader name value) = Unit {0}
+IsOwn (SetHeader name value) = IsOwnName name
 IsOwn (AddHeader name value) = ⊥
 IsOwn (Write bytes) = Unit {0}
 IsOwn (SetAttribute name value) = ⊥
@@ -105,7 +114,7 @@ module _ (site : Site) (Q : ℕ → State → List Record → State → Bool →
   pub record Steps : Type 0 where
     pub stays : (room : ℕ) (x : State) (b : Bool) → Q room x [] x b
     pub joins : (room : ℕ) (x y z : State) (r s : List Record) (b : Bool) → Q room x r y true → Q room y s z b → Q room x (r ++ s) z b
-    pub keeps : (room : ℕ) (x : State) (kept : KeptError) → Q room x [] (with_kept kept x) true
+    pub keeps : (room : ℕ) (x : State) (kept : KeptError) → IsOwnField kept.field → Q room x [] (with_kept kept x) true
     pub makes : (room : ℕ) (x : State) (change : Change) → IsOwn change → Q room x [] (on_exchange (λ e. left_by (answer change e) change e) x) true
     pub empties : (room : ℕ) (x : State) → Q room x [] (on_exchange files.emptied x) true
     pub breaks : (room : ℕ) (x : State) (place turn : ℕ) (step : Step) (e : Exchange) → is_full x ≡ false → stands place x ≡ Serving → Reaches (counted x).exchange e
@@ -162,31 +171,32 @@ module _ (site : Site) (Q : ℕ → State → List Record → State → Bool →
     pub makes_keeps : (change : Change) → IsOwn change → Keeps room (makes change)
     makes_keeps change own = tries_keeps (on_exchange (λ e. left_by (answer change e) change e)) (λ x. law.makes room x change own)
 
-    pub keeps_keeps : (kept : KeptError) → Keeps room (endings.keeps kept)
-    keeps_keeps kept = tries_keeps (with_kept kept) (λ x. law.keeps room x kept)
+    pub keeps_keeps : (kept : KeptError) → IsOwnField kept.field → Keeps room (endings.keeps kept)
+    keeps_keeps kept own = tries_keeps (with_kept kept) (λ x. law.keeps room x kept own)
 
     pub fails_keeps : (resource : Resource) (kind text : List ℕ) → Keeps room (endings.fails site resource kind text)
     fails_keeps resource kind text =
         let kept : KeptError = record { status = INTERNAL_SERVER_ERROR; text = text; servlet = Some (name_of site resource); field = None } in
-        then_keeps (endings.keeps kept) (λ _. gives (Failed kind text)) (keeps_keeps kept) (λ _. gives_keeps (Failed kind text))
+        then_keeps (endings.keeps kept) (λ _. gives (Failed kind text)) (keeps_keeps kept tt) (λ _. gives_keeps (Failed kind text))
 
     pub faults_keeps : (resource : Resource) (fault : DispatchFault) → Keeps room (endings.faults site resource fault)
     faults_keeps resource fault = fails_keeps resource (fault_name fault) (fault_name fault)
 
-    pub errs_keeps : (resource : Resource) (status : ℕ) (text : List ℕ) (field : Option KeptField) → Keeps room (endings.errs site resource status text field)
-    errs_keeps resource status text field x y r result h =
+    pub errs_keeps : (resource : Resource) (status : ℕ) (text : List ℕ) (field : Option KeptField) → IsOwnField field
+        → Keeps room (endings.errs site resource status text field)
+    errs_keeps resource status text field own x y r result h =
         let kept : KeptError = record { status = status; text = text; servlet = Some (name_of site resource); field = field } in
         let shown = (endings.keeps kept >> gives (Error status text)) in
         chosen_then (is_within_include x.exchange) (gives Done) shown x y r result
         (λ _ done. gives_keeps Done x y r result done)
-        (λ _ done. then_keeps (endings.keeps kept) (λ _. gives (Error status text)) (keeps_keeps kept) (λ _. gives_keeps (Error status text)) x y r result done)
+        (λ _ done. then_keeps (endings.keeps kept) (λ _. gives (Error status text)) (keeps_keeps kept own) (λ _. gives_keeps (Error status text)) x y r result done)
         h
 
     pub missing_keeps : (resource : Resource) → Keeps room (endings.is_missing site resource)
-    missing_keeps resource = errs_keeps resource NOT_FOUND (phrase_of NOT_FOUND) None
+    missing_keeps resource = errs_keeps resource NOT_FOUND (phrase_of NOT_FOUND) None tt
 
     pub away_keeps : (resource : Resource) (seconds : ℕ) → Keeps room (endings.is_away_for site resource seconds)
-    away_keeps resource seconds = errs_keeps resource SERVICE_UNAVAILABLE (phrase_of SERVICE_UNAVAILABLE) (Some record { name = codes "retry-after"; value = decimal seconds })
+    away_keeps resource seconds = errs_keeps resource SERVICE_UNAVAILABLE (phrase_of SERVICE_UNAVAILABLE) (Some record { name = codes "retry-after"; value = decimal seconds }) (inr (inr (inr refl)))
 
     pub behind_keeps : (passed : List ℕ) (ending : Does Finished) → Keeps room ending → Keeps room (filters.ends_behind passed ending)
     behind_keeps passed ending h =
@@ -202,7 +212,7 @@ module _ (site : Site) (Q : ℕ → State → List Record → State → Bool →
     sends_keeps content_type bytes =
         let typed = SetHeader (codes "content-type") content_type in
         then_keeps (makes typed) (λ _ state. choose (has_room (length bytes) state.exchange) (makes (Write bytes) >> gives Done) (endings.faults site Files TooLarge) state)
-        (makes_keeps typed tt)
+        (makes_keeps typed (inl refl))
         (λ _ x y r result h. chosen_then (has_room (length bytes) x.exchange) (makes (Write bytes) >> gives Done) (endings.faults site Files TooLarge) x y r result
         (λ _ done. then_keeps (makes (Write bytes)) (λ _. gives Done) (makes_keeps (Write bytes) tt) (λ _. gives_keeps Done) x y r result done)
         (λ _ done. faults_keeps Files TooLarge x y r result done) h)
@@ -214,7 +224,7 @@ module _ (site : Site) (Q : ℕ → State → List Record → State → Bool →
         then_keeps (becomes (on_exchange files.emptied)) (λ _. makes found >> (makes located >> gives Done))
         (becomes_keeps (on_exchange files.emptied) (λ x. law.empties room x))
         (λ _. then_keeps (makes found) (λ _. makes located >> gives Done) (makes_keeps found tt)
-        (λ _. then_keeps (makes located) (λ _. gives Done) (makes_keeps located tt) (λ _. gives_keeps Done)))
+        (λ _. then_keeps (makes located) (λ _. gives Done) (makes_keeps located (inr (inl refl))) (λ _. gives_keeps Done)))
 
     misses_keeps : (kind : Kind) → Keeps room (files.Misses site kind)
     misses_keeps kinds.Include = faults_keeps Files MissingInclude
@@ -226,7 +236,7 @@ module _ (site : Site) (Q : ℕ → State → List Record → State → Bool →
     filed_keeps kind (File content_type bytes) = sends_keeps content_type bytes
     filed_keeps kind (Redirect location) = sends_to_keeps location
     filed_keeps kind Missing = misses_keeps kind
-    filed_keeps kind NotAllowed = errs_keeps Files METHOD_NOT_ALLOWED (phrase_of METHOD_NOT_ALLOWED) (Some record { name = codes "allow"; value = codes "GET, HEAD" })
+    filed_keeps kind NotAllowed = errs_keeps Files METHOD_NOT_ALLOWED (phrase_of METHOD_NOT_ALLOWED) (Some record { name = codes "allow"; value = codes "GET, HEAD" }) (inr (inr (inl refl)))
 
     module _ (inner : Kind → Canon → Does Finished)
         (forwards : (canon : Canon) → Keeps room (inner kinds.Forward canon)) (includes : (canon : Canon) → Keeps room (inner kinds.Include canon)) where
@@ -301,7 +311,7 @@ module _ (site : Site) (Q : ℕ → State → List Record → State → Bool →
           (then_keeps include tree.GoesOn (dispatches_keeps place kinds.Include text includes) goes_on_keeps) left serving changes y r result done
       stepped_keeps place turn x e left serving changes (steps.Error code text) y r result done =
           let ending = endings.errs site (Servlet place) (error_status code) text None in
-          behind_call place turn x e (steps.Error code text) (last ending) (last_keeps ending (errs_keeps (Servlet place) (error_status code) text None)) left serving changes y r result done
+          behind_call place turn x e (steps.Error code text) (last ending) (last_keeps ending (errs_keeps (Servlet place) (error_status code) text None tt)) left serving changes y r result done
       stepped_keeps place turn x e left serving changes (steps.Failed kind text) y r result done =
           let ending = endings.fails site (Servlet place) kind text in
           behind_call place turn x e (steps.Failed kind text) (last ending) (last_keeps ending (fails_keeps (Servlet place) kind text)) left serving changes y r result done

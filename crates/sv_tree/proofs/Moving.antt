@@ -1,9 +1,8 @@
 -- Answering a request moves the sessions only as components may.
 use Rattle.std.proofs.Common.{◌≡◌, inl, inr, ℕ, suc, Bool, true, false, List, [], ◌∷◌, Some, refl, sym, ap, ◌∙◌, subst, if◌then◌else◌}
 use Rattle.sv_component.specs.Runs.{Record}
-use Rattle.sv_exchange.specs.Changing.{Change, Reaches, answer, left_by}
+use Rattle.sv_exchange.specs.Changing.{Change, Reaches, SetHeader, answer, left_by}
 use Rattle.sv_exchange.specs.Dispatches.{Leaves}
-use Rattle.sv_exchange.specs.Keeping.{broken_off}
 use Rattle.sv_exchange.specs.Laws.{ChangesAreCalls, ChangesMoveTheSessions}
 use Rattle.sv_session.specs.declared.event.Event.{Event}
 use Rattle.sv_mapping.specs.declared.kind.Kind.{Kind}
@@ -17,13 +16,12 @@ use Rattle.sv_tree.specs.Does.{gives, makes}
 use Rattle.sv_tree.specs.Files.{emptied}
 use Rattle.sv_tree.specs.Laws.{AnswersMoveSessions}
 use Rattle.sv_tree.specs.Moving.{IsMoved, MovesSessions}
-use Rattle.sv_tree.specs.Served.{reset}
 use Rattle.sv_tree.specs.Site.{Site, begun}
-use Rattle.sv_tree.specs.State.{Exchange, State, on_exchange}
+use Rattle.sv_tree.specs.State.{Exchange, State}
 use Rattle.sv_tree.specs.Telling.{hears}
 use Rattle.sv_tree.specs.Tree.{Tree}
 use Rattle.sv_tree.specs.declared.limits.TheConstants.{MAX_NESTING}
-use Rattle.sv_tree.proofs.Bounding.{error_keeps, served_keeps}
+use Rattle.sv_tree.proofs.Bounding.{AnyField, ErrorSteps, error_keeps, served_keeps}
 use Rattle.sv_tree.proofs.Changing.{called_unchanged, made_unchanged, unchanged}
 use Rattle.sv_tree.proofs.Keeping.{FilterSteps, Keeps, Opens, Steps, away_same, called, tree_keeps, within_keeps}
 use Rattle.sv_uri.specs.declared.path.Canon.{Canon}
@@ -104,7 +102,7 @@ module _ (calls : ChangesAreCalls) (moves : ChangesMoveTheSessions) (joins : Mov
     law = record {
       stays = λ room x b. stays_moved x.exchange x.exchange (refl, refl);
       joins = λ room x y z r s b one two. moved_joins joins x.exchange y.exchange z.exchange one two;
-      keeps = λ room x kept. record { moment = refl; sessions = ([], tt, refl) };
+      keeps = λ room x kept own. record { moment = refl; sessions = ([], tt, refl) };
       makes = λ room x change own. made_moved change x.exchange;
       empties = λ room x. stays_moved x.exchange (emptied x.exchange) (emptied_stays x.exchange.committed x.exchange);
       breaks = λ room x place turn step e left serving changes. called_moved x.exchange e changes;
@@ -124,17 +122,20 @@ module _ (calls : ChangesAreCalls) (moves : ChangesMoveTheSessions) (joins : Mov
     trees : (room : ℕ) (kind : Kind) (canon : Canon) → Keeps site Moves room (Tree site room kind canon)
     trees room kind canon = tree_keeps site Moves law (within_keeps site Moves law filters) room kind (opens kind) canon
 
-    resets : (x : State) → Moves 0 x [] (on_exchange reset x) true
-    resets x = record { moment = refl; sessions = ([], tt, refl) }
-
-    breaks : (x : State) → Moves 0 x [] (on_exchange broken_off x) true
-    breaks x = record { moment = refl; sessions = ([], tt, refl) }
+    errors : ErrorSteps site Moves MAX_NESTING AnyField
+    errors = record {
+      resets = λ x. record { moment = refl; sessions = ([], tt, refl) };
+      breaks = λ x. record { moment = refl; sessions = ([], tt, refl) };
+      none = tt;
+      sets = λ x field own. made_moved (SetHeader field.name field.value) x.exchange;
+      owns = λ x y r b kept. kept tt;
+    }
 
     pub answers_move : AnswersMoveSessions site
     answers_move = (
       trees,
-      served_keeps site Moves law MAX_NESTING resets breaks (trees MAX_NESTING),
-      error_keeps site Moves law MAX_NESTING resets breaks (trees MAX_NESTING),
+      λ kind canon. served_keeps site Moves law MAX_NESTING AnyField errors (trees MAX_NESTING kinds.Error) kind canon (trees MAX_NESTING kind canon),
+      error_keeps site Moves law MAX_NESTING AnyField errors (trees MAX_NESTING kinds.Error),
     )
 
 pub moved_find_none : HoldersAreFound → MovesLeaveOrder → MovesGiveNoCaller → (x y : Exchange) → IsMoved x y → IsOrderly x.store

@@ -66,7 +66,7 @@ module _ (site : Site) where
   shows = record {
     stays = λ room x b came. same_request x.exchange x.exchange refl;
     joins = λ room x y z r s b one two came. request_then x.exchange y.exchange z.exchange (one refl) (two came);
-    keeps = λ room x kept came.
+    keeps = λ room x kept own came.
         record { method = refl; context_path = refl; cookie_settings = refl; request_fields = refl; body = refl; moment = refl; reads_chunks = refl; client = refl; dispatches = refl };
     makes = λ room x change own came. (made_unchanged change x.exchange).0;
     empties = λ room x came. (emptied_unchanged x.exchange).0;
@@ -150,7 +150,7 @@ module _ (site : Site) where
       λ came. two.0 came ∙ one.0 refl,
       within-append (length x.exchange.dispatches + room) r s one.1 (subst (λ dispatches. AreWithin (length dispatches + room) s) (one.0 refl) two.1),
     );
-    keeps = λ room x kept. (λ came. refl, tt);
+    keeps = λ room x kept own. (λ came. refl, tt);
     makes = λ room x change own. (λ came. (made_unchanged change x.exchange).0.dispatches, tt);
     empties = λ room x. (λ came. (emptied_unchanged x.exchange).0.dispatches, tt);
     breaks = λ room x place turn step e left serving changes. let one = nest_called room x.exchange e changes in

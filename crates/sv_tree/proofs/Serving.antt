@@ -104,7 +104,7 @@ module _ (site : Site) where
   law = record {
     stays = λ room x b. (tt, λ _. refl, refl);
     joins = serve_joins;
-    keeps = λ room x kept. (tt, λ _. refl, refl);
+    keeps = λ room x kept own. (tt, λ _. refl, refl);
     makes = λ room x change own. (tt, λ _. refl, (made_unchanged change x.exchange).0.moment);
     empties = λ room x. (tt, λ _. refl, (emptied_unchanged x.exchange).0.moment);
     breaks = λ room x place turn step e left serving changes.
