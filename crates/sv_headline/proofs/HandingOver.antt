@@ -6,8 +6,8 @@ use Rattle.std.proofs.lemmas.Option.{slice_get-get_or, slice_get_within}
 use Rattle.std.specs.Prelude.{◌==◌, OnOk, if◌then◌else◌, option_and_then, slice_get}
 use Rattle.std.specs.Option.{option_map}
 use Rattle.sv_admission.specs.Held.{caller_held}
-use Rattle.sv_application.specs.HandingOver.{caller_names, handed_over, handed_request, with_all}
-use Rattle.sv_application.specs.Serving.{HandsOver, IsError, Serves, Steps}
+use Rattle.sv_application.specs.HandingOver.{Makes, all_fields, caller_names, handed_request}
+use Rattle.sv_application.specs.Serving.{IsError, Serves, ServesRequest, Steps}
 use Rattle.sv_application.specs.declared.handing_over.HandedOver.{HandedOver}
 use Rattle.sv_component.specs.Call.{Call, Serviced}
 use Rattle.sv_component.specs.Laws.{RunsMoveComponents}
@@ -22,7 +22,7 @@ use Rattle.sv_exchange.specs.Dispatches.{kind_of}
 use Rattle.sv_exchange.specs.State as exchanges
 use Rattle.sv_exchange.specs.declared.exchange_fault.ExchangeFault.{ExchangeFault}
 use Rattle.sv_exchange.specs.declared.session_queries.HeldSession.{HeldSession}
-use Rattle.sv_headline.specs.HandedOver.{EntriesAreHandedOver, OtherDispatchesHandNothingOver, StepAsApplications, own_request}
+use Rattle.sv_headline.specs.HandedOver.{EntriesAreHandedOver, IsApplicationAt, OtherDispatchesHandNothingOver, StepAsApplications, own_request}
 use Rattle.sv_headline.specs.Message.{IsLawfulMessage, session_in, settled_for}
 use Rattle.sv_headline.specs.Unlawful.{EntriesCallTheirServlet, first_exchange, site}
 use Rattle.sv_listeners.specs.Telling.{hearing_order, told}
@@ -103,16 +103,12 @@ other_kind kinds.Error internal exchange left step apart serves = serves
 
 -- ---- the request that is handed over
 
-its_caller : (users : List User) (renewed : Bool) (session : Option ℕ) (store : Store)
+pub its_caller : (users : List User) (renewed : Bool) (session : Option ℕ) (store : Store)
     → option_and_then (λ (held : HeldSession). held.caller)
     (option_map (λ number. record { number = number; is_renewed = renewed; caller = caller_held users (Some number) store }) session)
     ≡ caller_held users session store
 its_caller users renewed None store = refl
 its_caller users renewed (Some number) store = refl
-
-left_so : (done : Result (Unit {0}) ExchangeFault) (left one other : exchanges.State) → one ≡ other → OnOk done (left ≡ one) → OnOk done (left ≡ other)
-left_so (Ok unit) left one other same is = is ∙ same
-left_so (Err fault) left one other same is = tt
 
 module _ {S F L : Type 0} (moving : ComponentSteps S F L) where
   ran : (handling : Handling (ContextState S F L)) (made : List Record) → IsLawfulMessage moving handling made
@@ -131,6 +127,16 @@ module _ {S F L : Type 0} (moving : ComponentSteps S F L) where
       let there : slice_get handling.after.servlets place ≡ Some later =
       slice_get-get_or handling.after.servlets place servlet (omega (arith, within, moved.counts.servlets)) in
       (later, (moved.servlets place servlet later is there).0)
+
+  -- the servlet at a place takes the step of each of its calls
+  pub its_step : RunsMoveComponents moving → (location_of : S → Option (List ℕ)) → StepAsApplications moving location_of
+      → (handling : Handling (ContextState S F L)) (place : ℕ) (internal : List ℕ) (front behind : List Record) (call : Call)
+      → IsApplicationAt moving location_of handling.context place internal → IsLawfulMessage moving handling (front ++ OfServlet place call ∷ behind)
+      → (its : List ℕ) × (later : List ℕ) × Steps its call later
+  its_step runs_move location_of steps handling place internal front behind call at lawful =
+      let moved = moved_at runs_move handling (front ++ OfServlet place call ∷ behind) place at.0 lawful at.1 in
+      some_step moving location_of steps at.0.component moved.0.component internal (calls_at place (servlet_calls front)) call (calls_at place (servlet_calls behind)) at.2
+      (subst (λ its. Moved moving.servlet at.0.component its moved.0.component) (its_calls place call front behind) moved.1)
 
   own : (handling : Handling (ContextState S F L)) (made : List Record) → handed_request (first_exchange moving handling made) ≡ own_request moving handling made
   own handling made =
@@ -151,7 +157,7 @@ module _ {S F L : Type 0} (moving : ComponentSteps S F L) where
       ∙ ap (λ before. calls_at place before ++ call ∷ calls_at place (servlet_calls called.behind)) (told_no_servlet RequestInitialized count) in
       let stepped = first_step moving location_of steps at.0.component moved.0.component internal call (calls_at place (servlet_calls called.behind)) at.2
       (subst (λ its. Moved moving.servlet at.0.component its moved.0.component) calls moved.1) in
-      let hands : HandsOver internal first called.step called.left = stepped.1.1 in
+      let hands : ServesRequest internal first called.step called.left = stepped.1.1 in
       record {
         step = called.step;
         left = called.left;
@@ -159,14 +165,10 @@ module _ {S F L : Type 0} (moving : ComponentSteps S F L) where
         calls = called.calls;
         done = hands.0;
         is_step = hands.1;
-        handed = left_so hands.0 called.left (handed_over internal first) (with_all (own_request moving handling made) internal first)
-            (ap (λ (request : HandedOver). with_all request internal first) (own handling made)) hands.2;
+        makes = subst (λ (request : HandedOver). Makes (all_fields request internal) first hands.0 called.left) (own handling made) hands.2;
       }
 
   pub other_dispatches_hand_nothing_over : RunsMoveComponents moving → OtherDispatchesHandNothingOver moving
   other_dispatches_hand_nothing_over runs_move location_of handling place internal front behind exchange left turn step steps at lawful apart =
-      let call = Serviced exchange turn step left in
-      let moved = moved_at runs_move handling (front ++ OfServlet place call ∷ behind) place at.0 lawful at.1 in
-      let stepped = some_step moving location_of steps at.0.component moved.0.component internal (calls_at place (servlet_calls front)) call (calls_at place (servlet_calls behind)) at.2
-      (subst (λ its. Moved moving.servlet at.0.component its moved.0.component) (its_calls place call front behind) moved.1) in
+      let stepped = its_step runs_move location_of steps handling place internal front behind (Serviced exchange turn step left) at lawful in
       other_kind (kind_of exchange) stepped.0 exchange left step apart stepped.2.1

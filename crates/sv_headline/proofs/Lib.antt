@@ -19,8 +19,12 @@ mod OnlyEntries
 mod OurContexts
 mod Outcomes
 mod Outliving
+mod OwnFields
 mod Printing
+mod ProxyFields
 mod Recording
+mod Redirecting
+mod RedirectsOfEntries
 mod Refusing
 mod Refuting
 mod RefutingEvents

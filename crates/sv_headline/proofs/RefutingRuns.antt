@@ -102,7 +102,7 @@ module _ {S F L : Type 0} (moving : ComponentSteps S F L) where
 
     -- ---- messages of a run
 
-    message_of : (before after : Whole) (happenings : List Happening) (answers : Answers) (lawful : IsLawfulRun moving draws before happenings answers after)
+    pub message_of : (before after : Whole) (happenings : List Happening) (answers : Answers) (lawful : IsLawfulRun moving draws before happenings answers after)
         (earlier later : List (Transition S F L)) (place : ℕ) (handling : Handling (ContextState S F L)) (made : List Record) (text : List ℕ)
         → lawful.transitions ≡ earlier ++ ContextAnswer place handling made text ∷ later
         → (at : Contexts) × LeadsThrough moving before.world.contexts earlier at × (slice_get at place ≡ Some handling.context) × IsLawfulMessage moving handling made

@@ -1,6 +1,6 @@
 -- Requests that are handed over to an application behind a proxy: what they are handed over with is what the container
 -- decided about (Jakarta Servlet 6.0, sections 3.5, 9.1 and 13.8).
-use Rattle.std.specs.Prelude.{◌≡◌, ◌≢◌, ◌⊎◌, ℕ, List, ◌∷◌, ◌++◌, codes, Option, Some, Result, slice_get}
+use Rattle.std.specs.Prelude.{◌≡◌, ◌≢◌, ℕ, List, ◌∷◌, ◌++◌, codes, Option, Some, Result, slice_get}
 use Rattle.std.specs.List.{AllByRecursion}
 use Rattle.std.specs.Option.{option_map}
 use Rattle.sv_admission.specs.Held.{caller_held}
@@ -93,7 +93,7 @@ module _ {S F L : Type 0} (moving : ComponentSteps S F L) (location_of : S → O
 
   -- this holds of the exchange before and after the call, if it is one of a filter, or of a servlet that is no such servlet
   abbrev pub HoldsOfOther : (exchanges.State → exchanges.State → Type 0) → Record → Type 0
-  HoldsOfOther Holds (OfServlet place (Serviced before turn step after)) = IsOfApplication place ⊎ Holds before after
+  HoldsOfOther Holds (OfServlet place (Serviced before turn step after)) = ¬ (IsOfApplication place) → Holds before after
   HoldsOfOther Holds (OfFilter place (calls.Entered before gate after)) = Holds before after
   HoldsOfOther Holds (OfFilter place (calls.Left before done after)) = Holds before after
   HoldsOfOther Holds made = Unit {0}

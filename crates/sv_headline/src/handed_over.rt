@@ -2,7 +2,7 @@
 //! other laws.
 
 ghost use Rattle.sv_component.specs.Steps.{steps_of};
-ghost use Rattle.sv_headline.specs.HandedOver.{EntriesAreHandedOver, OnlyEntriesAreDispatched, OtherDispatchesHandNothingOver};
+ghost use Rattle.sv_headline.specs.HandedOver.{EntriesAreHandedOver, OnlyEntriesAreDispatched, OtherDispatchesHandNothingOver, RedirectsAreOfEntries, RedirectsInRunsAreOfEntries};
 
 use crate::unlawful::entries_call_their_servlet;
 use sv_component::{Filter, Listener, Servlet, runs_move_components};
@@ -30,3 +30,22 @@ pub fn other_dispatches_hand_nothing_over<S: Servlet, F: Filter, L: Listener>()
 pub fn only_entries_are_dispatched<S: Servlet, F: Filter, L: Listener>()
     ensures { OnlyEntriesAreDispatched (steps_of S.servlet_step F.filter_step L.listener_step) }
 {}
+
+/// A response names an internal location of the proxy only if its request enters, and a servlet which takes the steps of
+/// the class `Application` was called with the dispatch of the request. The target and the cookies in the response are
+/// those about which the container decided, unless another component sets these fields. Its caller and roles are those of
+/// the session, unless another component also undoes the login (Jakarta Servlet 6.0, sections 3.5, 9.1, 9.4, 10.9.2,
+/// 13.6.3 and 13.8).
+pub fn redirects_are_of_entries<S: Servlet, F: Filter, L: Listener>()
+    ensures { RedirectsAreOfEntries (steps_of S.servlet_step F.filter_step L.listener_step) }
+{
+    runs_move_components::<S, F, L>();
+    only_entries_are_dispatched::<S, F, L>();
+}
+
+/// The same of each message that a context handles in a lawful run.
+pub fn redirects_in_runs_are_of_entries<S: Servlet, F: Filter, L: Listener>()
+    ensures { RedirectsInRunsAreOfEntries (steps_of S.servlet_step F.filter_step L.listener_step) }
+{
+    redirects_are_of_entries::<S, F, L>();
+}
