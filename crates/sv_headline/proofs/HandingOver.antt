@@ -1,9 +1,9 @@
 -- Requests that are handed over to an application.
-use Rattle.std.proofs.Common.{◌≡◌, ◌≢◌, ◌<◌, ℕ, Bool, true, false, inl, inr, List, [], ◌∷◌, ◌++◌, length, get_or, map, Option, None, Some, Result, Ok, Err, refl, ap, ◌∙◌, subst, arith}
+use Rattle.std.proofs.Common.{◌≡◌, ◌≢◌, ◌<◌, ℕ, Bool, true, false, inl, inr, List, [], ◌∷◌, ◌++◌, length, get_or, map, Option, None, Some, refl, ap, ◌∙◌, subst, arith}
 use Rattle.std.proofs.lemmas.Bool.Decides.{eqb_tells}
 use Rattle.std.proofs.lemmas.Bool.{cond-true}
 use Rattle.std.proofs.lemmas.Option.{slice_get-get_or, slice_get_within}
-use Rattle.std.specs.Prelude.{◌==◌, OnOk, if◌then◌else◌, option_and_then, slice_get}
+use Rattle.std.specs.Prelude.{◌==◌, if◌then◌else◌, option_and_then, slice_get}
 use Rattle.std.specs.Option.{option_map}
 use Rattle.sv_admission.specs.Held.{caller_held}
 use Rattle.sv_application.specs.HandingOver.{Makes, all_fields, caller_names, handed_request}
@@ -20,7 +20,6 @@ use Rattle.sv_context.specs.Conduct.{unnoted}
 use Rattle.sv_context.specs.State.{ContextState, world_of}
 use Rattle.sv_exchange.specs.Dispatches.{kind_of}
 use Rattle.sv_exchange.specs.State as exchanges
-use Rattle.sv_exchange.specs.declared.exchange_fault.ExchangeFault.{ExchangeFault}
 use Rattle.sv_exchange.specs.declared.session_queries.HeldSession.{HeldSession}
 use Rattle.sv_headline.specs.HandedOver.{EntriesAreHandedOver, IsApplicationAt, OtherDispatchesHandNothingOver, StepAsApplications, own_request}
 use Rattle.sv_headline.specs.Message.{IsLawfulMessage, session_in, settled_for}

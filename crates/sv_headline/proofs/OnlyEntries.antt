@@ -1,34 +1,29 @@
 -- Messages that stay out call no servlet with a dispatch of a request.
-use Rattle.std.proofs.Common.{◌≡◌, ◌≢◌, ℕ, Bool, true, false, inl, inr, List, [], ◌∷◌, ◌++◌, map, reverse, Option, None, Some, refl, sym, ap, ◌∙◌, subst}
+use Rattle.std.proofs.Common.{◌≡◌, ◌≢◌, ℕ, Bool, true, inl, inr, List, [], ◌∷◌, ◌++◌, map, reverse, Option, None, Some, refl, sym, ap, ◌∙◌, subst}
 use Rattle.std.proofs.lemmas.List.{reverse-append}
 use Rattle.sv_admission.specs.Answer.{answer_to}
 use Rattle.sv_admission.specs.declared.answer.Answer.{Answer}
 use Rattle.sv_admission.specs.declared.answer.Answer.TheVariants as answers
-use Rattle.sv_component.specs.Call.{Call, Serviced}
-use Rattle.sv_component.specs.Runs.{OfFilter, OfListener, OfServlet, Record}
+use Rattle.sv_component.specs.Call.{Serviced}
+use Rattle.sv_component.specs.Runs.{OfListener, OfServlet, Record}
 use Rattle.sv_component.specs.Steps.{ComponentSteps}
-use Rattle.sv_component.specs.declared.answers.Step.{Step}
 use Rattle.sv_context.specs.Answered.{Answered, Answers, Requested, SendsTo, Tells}
-use Rattle.sv_context.specs.State.{ContextState}
 use Rattle.sv_exchange.specs.Dispatches.{error_in, innermost_kind, kind_of}
-use Rattle.sv_exchange.specs.State as exchanges
 use Rattle.sv_headline.proofs.Undispatched.{error_silent, plain_silent, reset_silent, sends_silent, unless_silent}
 use Rattle.sv_headline.specs.HandedOver.{OnlyEntriesAreDispatched}
-use Rattle.sv_headline.specs.Message.{IsLawfulMessage, MayEnter}
 use Rattle.sv_listeners.specs.Telling.{hearing_order, told}
 use Rattle.sv_login.specs.declared.outcome.Outcome.{Outcome}
 use Rattle.sv_login.specs.declared.outcome.Outcome.TheVariants as outcomes
 use Rattle.sv_mapping.specs.declared.kind.Kind.{Kind}
 use Rattle.sv_mapping.specs.declared.kind.Kind.TheVariants as kinds
 use Rattle.sv_message.specs.Phrases.{phrase_of}
-use Rattle.sv_run.specs.Contexts.{Handling}
 use Rattle.sv_session.specs.declared.event.Event.{Event}
 use Rattle.sv_session.specs.declared.event.Event.TheVariants.{RequestDestroyed, RequestInitialized}
 use Rattle.sv_tree.proofs.Answering.{answers_have_one_page}
 use Rattle.sv_tree.proofs.Changing.{begun_dispatches, called_unchanged, emptied_unchanged, made_unchanged, same_dispatches, unchanged}
 use Rattle.sv_tree.proofs.Doing.{chosen_then, not_true}
 use Rattle.sv_tree.proofs.Hearing.{all_keep_alone}
-use Rattle.sv_tree.proofs.Keeping.{FilterSteps, Opens, Steps, away_unchanged, came, tree_gives, within_keeps}
+use Rattle.sv_tree.proofs.Keeping.{FilterSteps, Opens, Steps, away_unchanged, tree_gives, within_keeps}
 use Rattle.sv_tree.proofs.Silence.{Silent, gives_silent}
 use Rattle.sv_tree.specs.Does.{Does, ◌>>=◌, ◌>>◌, gives}
 use Rattle.sv_tree.specs.Endings.{keeps}

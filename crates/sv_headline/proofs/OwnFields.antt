@@ -111,7 +111,7 @@ open_one name value later x free open_is passed =
         ap (λ said. left_by said (SetHeader name value) x) is in (
           set,
           sym (ap (first_answer later) set)
-          ∙ passed_then (answer (SetHeader name value) x) (first_answer later (left_by (answer (SetHeader name value) x) (SetHeader name value) x)) is passed,
+              ∙ passed_then (answer (SetHeader name value) x) (first_answer later (left_by (answer (SetHeader name value) x) (SetHeader name value) x)) is passed,
         )
     by false is =
         refused_then (answer (SetHeader name value) x) (first_answer later (left_by (answer (SetHeader name value) x) (SetHeader name value) x)) is passed
@@ -202,7 +202,7 @@ own_caller request = option_map (λ names. names.name) request.caller
 abbrev pub own_roles : HandedOver → Option (List ℕ)
 own_roles request = option_map (λ names. names.roles) request.caller
 
--- `Known` says of which internal locations there is a call that hands the request over; `Stays` that nothing undoes the login
+-- `Known internal`: a call hands the request over to the internal location. `Stays`: no call undoes the login.
 module _ (own : HandedOver) (Stays : Type 0) (Known : List ℕ → Type 0) where
   pub record AreAll (shown : ProxyFields) (internal : List ℕ) : Type 0 where
     pub known : Known internal
@@ -221,7 +221,7 @@ module _ (own : HandedOver) (Stays : Type 0) (Known : List ℕ → Type 0) where
   pub none_are_own : AreOwn (proxy_fields [])
   none_are_own = record { target = inl refl; cookies = inl refl; caller = λ stays. inl refl; roles = λ stays. inl refl; redirect = inl refl }
 
-  -- what is handed over is the request's own, but for the caller if something undid the login
+  -- the request's own target and cookies, and its own caller unless a call undoes the login
   pub record IsOwnRequest (request : HandedOver) : Type 0 where
     pub target : request.target ≡ own.target
     pub cookies : request.cookies ≡ own.cookies
@@ -304,10 +304,10 @@ module _ (own : HandedOver) (Stays : Type 0) (Known : List ℕ → Type 0) where
     caller_keeps None same = tt
     caller_keeps (Some names) same = (
       keeps_by (codes "x-application-caller") names.name
-      (λ fields are. subst AreOwn (sym (caller_set names.name fields)) (caller_own names same (proxy_fields fields) are)),
+          (λ fields are. subst AreOwn (sym (caller_set names.name fields)) (caller_own names same (proxy_fields fields) are)),
       (
         keeps_by (codes "x-application-roles") names.roles
-        (λ fields are. subst AreOwn (sym (roles_set names.roles fields)) (roles_own names same (proxy_fields fields) are)),
+            (λ fields are. subst AreOwn (sym (roles_set names.roles fields)) (roles_own names same (proxy_fields fields) are)),
         tt,
       ),
     )
@@ -316,7 +316,7 @@ module _ (own : HandedOver) (Stays : Type 0) (Known : List ℕ → Type 0) where
     cookies_keep None same = tt
     cookies_keep (Some text) same = (
       keeps_by (codes "x-application-cookie") text
-      (λ fields are. subst AreOwn (sym (cookies_set text fields)) (cookies_own text same (proxy_fields fields) are)),
+          (λ fields are. subst AreOwn (sym (cookies_set text fields)) (cookies_own text same (proxy_fields fields) are)),
       tt,
     )
 
@@ -327,7 +327,7 @@ module _ (own : HandedOver) (Stays : Type 0) (Known : List ℕ → Type 0) where
     request_keeps : AllByRecursion Keeps (request_fields request)
     request_keeps = (
       keeps_by (codes "x-application-target") request.target
-      (λ fields are. subst AreOwn (sym (target_set request.target fields)) (target_own (proxy_fields fields) are)),
+          (λ fields are. subst AreOwn (sym (target_set request.target fields)) (target_own (proxy_fields fields) are)),
       both_keep (caller_fields request.caller) (cookie_fields request.cookies) (caller_keeps request.caller refl) (cookies_keep request.cookies refl),
     )
 
@@ -401,12 +401,12 @@ module _ (own : HandedOver) (Stays : Type 0) (Known : List ℕ → Type 0) where
         (subst (IsUnsetOr own.cookies) (sym (beside_caller request.caller targeted).1) are.cookies)) ∙ its.cookies in
         let caller : Stays → (with_cookies request.cookies called).caller ≡ own_caller own =
         λ stays. beside.1.0 ∙ caller_all request.caller targeted
-            (subst (λ its_caller. IsUnsetOr (option_map (λ (names : CallerNames). names.name) its_caller) shown.caller) (sym (its.caller stays)) (are.caller stays))
-            ∙ ap (option_map (λ (names : CallerNames). names.name)) (its.caller stays) in
+        (subst (λ its_caller. IsUnsetOr (option_map (λ (names : CallerNames). names.name) its_caller) shown.caller) (sym (its.caller stays)) (are.caller stays))
+        ∙ ap (option_map (λ (names : CallerNames). names.name)) (its.caller stays) in
         let roles : Stays → (with_cookies request.cookies called).roles ≡ own_roles own =
         λ stays. beside.1.1 ∙ roles_all request.caller targeted
-            (subst (λ its_caller. IsUnsetOr (option_map (λ (names : CallerNames). names.roles) its_caller) shown.roles) (sym (its.caller stays)) (are.roles stays))
-            ∙ ap (option_map (λ (names : CallerNames). names.roles)) (its.caller stays) in
+        (subst (λ its_caller. IsUnsetOr (option_map (λ (names : CallerNames). names.roles) its_caller) shown.roles) (sym (its.caller stays)) (are.roles stays))
+        ∙ ap (option_map (λ (names : CallerNames). names.roles)) (its.caller stays) in
         record {
           target = inr target;
           cookies = inr cookies;
@@ -428,7 +428,7 @@ module _ (own : HandedOver) (Stays : Type 0) (Known : List ℕ → Type 0) where
             let put : y ≡ record x { fields = put_all (all_fields request internal) x.fields } =
             same ∙ all_open (all_fields request internal) x (all_sets request internal) opened passed in (
               subst (λ (z : State). AreOwn (proxy_fields z.fields)) (sym put)
-              (subst AreOwn (sym (all_put request internal x.fields)) (all_own internal known (proxy_fields x.fields) are)),
+                  (subst AreOwn (sym (all_put request internal x.fields)) (all_own internal known (proxy_fields x.fields) are)),
               ap (λ (z : State). z.caller) put,
             )
 

@@ -1,6 +1,5 @@
 -- Only for a request that enters does a response name an internal location.
-use Rattle.std.proofs.Common.{◌≡◌, ◌⊎◌, inl, inr, ℕ, List, [], ◌∷◌, ◌++◌, map, Option, None, Some, refl, sym, ap, ◌∙◌, subst, append_assoc, slice_get}
-use Rattle.std.proofs.lemmas.List.{append-nil}
+use Rattle.std.proofs.Common.{◌≡◌, ◌⊎◌, inl, inr, ℕ, List, [], ◌∷◌, ◌++◌, Option, None, Some, refl, sym, ap, ◌∙◌, subst, append_assoc, slice_get}
 use Rattle.std.specs.List.{AllByRecursion}
 use Rattle.std.specs.Option.{option_map}
 use Rattle.std.specs.Prelude.{codes}
@@ -9,7 +8,7 @@ use Rattle.sv_admission.specs.declared.answer.Answer.{Answer}
 use Rattle.sv_admission.specs.declared.answer.Answer.TheVariants as answers
 use Rattle.sv_admission.specs.declared.answer.TheConstants.{SEE_OTHER}
 use Rattle.sv_application.specs.HandingOver.{caller_names, handed_request}
-use Rattle.sv_application.specs.Serving.{Serves, ServesRequest}
+use Rattle.sv_application.specs.Serving.{Serves}
 use Rattle.sv_application.specs.declared.handing_over.HandedOver.{HandedOver}
 use Rattle.sv_component.specs.Call as calls
 use Rattle.sv_component.specs.Call.{Serviced}
@@ -29,9 +28,8 @@ use Rattle.sv_headline.proofs.HandingOver.{its_caller, its_step}
 use Rattle.sv_headline.proofs.OwnFields.{AreAll, AreOwn, none_are_own}
 use Rattle.sv_headline.proofs.Redirecting.{IsFair, IsOfRequest, Stay, error_stays, page_stays, request_stays, steps}
 use Rattle.sv_headline.proofs.RefutingRuns.{message_of}
-use Rattle.sv_headline.specs.HandedOver.{IsApplicationAt, IsHandingCall, IsOfApplication, IsRedirectOfEntry, HoldsOfOther, OnlyEntriesAreDispatched, OthersLeaveCaller, OthersLeaveFields, ProxyFields, RedirectsAreOfEntries, RedirectsInRunsAreOfEntries, StepAsApplications, own_request, proxy_fields}
+use Rattle.sv_headline.specs.HandedOver.{IsApplicationAt, IsHandingCall, IsOfApplication, IsRedirectOfEntry, HoldsOfOther, OnlyEntriesAreDispatched, OthersLeaveCaller, OthersLeaveFields, RedirectsAreOfEntries, RedirectsInRunsAreOfEntries, StepAsApplications, own_request, proxy_fields}
 use Rattle.sv_headline.specs.Message.{IsDoneBy, IsLawfulMessage, MayEnter, exchange_for, session_in, settled_for}
-use Rattle.sv_listeners.specs.Telling.{told}
 use Rattle.sv_login.specs.declared.outcome.Outcome.{Outcome}
 use Rattle.sv_login.specs.declared.outcome.Outcome.TheVariants as outcomes
 use Rattle.sv_mapping.specs.declared.kind.Kind.{Kind}
@@ -101,12 +99,13 @@ module _ {S F L : Type 0} (moving : ComponentSteps S F L) (location_of : S → O
     where
       located : (servlet : Named S) → slice_get context.servlets place ≡ Some servlet → (found : Option (List ℕ)) → location_of servlet.component ≡ found
           → IsOfApplication moving location_of context place ⊎ (¬ (IsOfApplication moving location_of context place))
-      located servlet there (Some internal) is = inl (internal, servlet, there, is)
+      located servlet there (Some internal) is = inl (internal, (servlet, there, is))
       located servlet there None is =
-          inr (λ its. absurd_result its.0 (sym is ∙ ap (λ (servlet : Named S). location_of servlet.component) (same_result _ _ (sym there ∙ its.2)) ∙ its.3))
+          inr (λ its. absurd_result its.0 (sym is ∙ ap (λ (servlet : Named S). location_of servlet.component) (same_result _ _ (sym there ∙ its.1.1)) ∙ its.1.2))
+
       by : (found : Option (Named S)) → slice_get context.servlets place ≡ found
           → IsOfApplication moving location_of context place ⊎ (¬ (IsOfApplication moving location_of context place))
-      by None none = inr (λ its. absurd_result its.1 (sym none ∙ its.2))
+      by None none = inr (λ its. absurd_result its.1.0 (sym none ∙ its.1.1))
       by (Some servlet) there = located servlet there (location_of servlet.component) refl
 
   module _ (handling : Handling (ContextState S F L)) (made : List Record) (runs_move : RunsMoveComponents moving) (steps_as : StepAsApplications moving location_of)
@@ -149,7 +148,7 @@ module _ {S F L : Type 0} (moving : ComponentSteps S F L) (location_of : S → O
         → IsOfApplication moving location_of handling.context place ⊎ (¬ (IsOfApplication moving location_of handling.context place))
         → IsFair start fresh Stays Known (OfServlet place (Serviced before turn step after))
     fair_service place before after turn step front behind is fields caller (inl its) =
-        let at : IsApplicationAt moving location_of handling.context place its.0 = (its.1, its.2, its.3) in
+        let at : IsApplicationAt moving location_of handling.context place its.0 = its.1 in
         let stepped = its_step moving runs_move location_of steps_as handling place its.0 front behind (Serviced before turn step after) at (subst (IsLawfulMessage moving handling) is lawful) in
         let serves : Serves (kind_of before) stepped.0 before step after = stepped.2.1 in
         inl (stepped.0, λ request. known_by place before after turn step front behind stepped.0 is its (kind_of before) refl request serves, serves)
@@ -218,7 +217,7 @@ module _ {S F L : Type 0} (moving : ComponentSteps S F L) where
     at_last : (outcome : Outcome) (done : IsDoneBy moving handling made outcome) → IsOfRequest (begin_of outcome) refl StaysIn KnownIn done.exchange
     at_last outcome done =
         answered_stay (begin_of outcome) refl StaysIn KnownIn (site_of handling.context.content) (asked_of handling.context handling.request).canon refl
-        (settled_for handling.context handling.request outcome).event (answer_to handling.context.content outcome) _ made _ (Some tt) done.answers
+        (settled_for handling.context handling.request outcome).event (answer_to handling.context.content outcome) _ _ made (Some tt) done.answers
         (fair_calls moving location_of handling made runs_move steps_as lawful (begin_of outcome) refl [] made refl fields (λ stays. stays))
         (at_first outcome) refl
 
@@ -271,7 +270,8 @@ module _ {S F L : Type 0} (moving : ComponentSteps S F L) where
   redirects_are_of_entries runs_move only location_of handling made internal steps_as lawful fields redirect =
       redirect_by only runs_move location_of handling made internal steps_as lawful lawful fields redirect
 
-  pub redirects_in_runs_are_of_entries : RedirectsAreOfEntries moving → RedirectsInRunsAreOfEntries moving
-  redirects_in_runs_are_of_entries in_messages draws before after happenings answers lawful earlier later place text location_of handling made internal is steps_as fields redirect =
+  pub redirects_in_runs_are_of_entries : {Words : Type 0} (draws : Words → ℕ × ℕ → Words → Type 0) → RedirectsAreOfEntries moving
+      → RedirectsInRunsAreOfEntries moving draws
+  redirects_in_runs_are_of_entries draws in_messages before after happenings answers lawful earlier later place text location_of handling made internal is steps_as fields redirect =
       in_messages location_of handling made internal steps_as
       (message_of moving draws before after happenings answers lawful earlier later place handling made text is).3 fields redirect

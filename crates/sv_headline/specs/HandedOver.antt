@@ -171,13 +171,13 @@ module _ {S F L : Type 0} (moving : ComponentSteps S F L) where
       → IsRedirectOfEntry moving location_of handling made internal
 
   -- the same of each message of a lawful run
-  abbrev pub RedirectsInRunsAreOfEntries : Type 0
-  RedirectsInRunsAreOfEntries =
-      {Words : Type 0} (draws : Words → ℕ × ℕ → Words → Type 0) (before after : State (ContextState S F L) Words) (happenings : List Happening)
-      (answers : List (Answer (ContextState S F L))) (lawful : IsLawfulRun moving draws before happenings answers after)
-      (earlier later : List (Transition S F L)) (place : ℕ) (text : List ℕ)
-      (location_of : S → Option (List ℕ)) (handling : Handling (ContextState S F L)) (made : List Record) (internal : List ℕ)
-      → lawful.transitions ≡ earlier ++ ContextAnswer place handling made text ∷ later
-      → StepAsApplications moving location_of → OthersLeaveFields moving location_of handling.context made
-      → first_value (codes "x-accel-redirect") handling.response.fields ≡ Some internal
-      → IsRedirectOfEntry moving location_of handling made internal
+  module _ {Words : Type 0} (draws : Words → ℕ × ℕ → Words → Type 0) where
+    abbrev pub RedirectsInRunsAreOfEntries : Type 0
+    RedirectsInRunsAreOfEntries =
+        (before after : State (ContextState S F L) Words) (happenings : List Happening) (answers : List (Answer (ContextState S F L)))
+        (lawful : IsLawfulRun moving draws before happenings answers after) (earlier later : List (Transition S F L)) (place : ℕ) (text : List ℕ)
+        (location_of : S → Option (List ℕ)) (handling : Handling (ContextState S F L)) (made : List Record) (internal : List ℕ)
+        → lawful.transitions ≡ earlier ++ ContextAnswer place handling made text ∷ later
+        → StepAsApplications moving location_of → OthersLeaveFields moving location_of handling.context made
+        → first_value (codes "x-accel-redirect") handling.response.fields ≡ Some internal
+        → IsRedirectOfEntry moving location_of handling made internal

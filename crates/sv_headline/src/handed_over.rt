@@ -6,6 +6,7 @@ ghost use Rattle.sv_headline.specs.HandedOver.{EntriesAreHandedOver, OnlyEntries
 
 use crate::unlawful::entries_call_their_servlet;
 use sv_component::{Filter, Listener, Servlet, runs_move_components};
+use sv_run::Words;
 
 /// A request that enters and goes to a servlet which takes the steps of the class `Application`, without filters, is
 /// handed over with the canonical path and the query about which the container decided, with the caller of its session,
@@ -44,8 +45,8 @@ pub fn redirects_are_of_entries<S: Servlet, F: Filter, L: Listener>()
 }
 
 /// The same of each message that a context handles in a lawful run.
-pub fn redirects_in_runs_are_of_entries<S: Servlet, F: Filter, L: Listener>()
-    ensures { RedirectsInRunsAreOfEntries (steps_of S.servlet_step F.filter_step L.listener_step) }
+pub fn redirects_in_runs_are_of_entries<S: Servlet, F: Filter, L: Listener, W: Words>()
+    ensures { RedirectsInRunsAreOfEntries (steps_of S.servlet_step F.filter_step L.listener_step) W.draws }
 {
     redirects_are_of_entries::<S, F, L>();
 }

@@ -4,5 +4,5 @@ use Rattle.sv_headline.proofs.handed_over.redirects_in_runs_are_of_entries.Goals
 
 pub returns : goal.returns
 returns g c =
-    redirects_in_runs_are_of_entries (steps_of g.S.Servlet.servlet_step g.F.Filter.filter_step g.L.Listener.listener_step)
+    redirects_in_runs_are_of_entries (steps_of g.S.Servlet.servlet_step g.F.Filter.filter_step g.L.Listener.listener_step) g.W.Words.draws
     c.redirects_are_of_entries.ensures
