@@ -8,6 +8,7 @@ import shutil
 import stat
 import subprocess
 import sys
+from pathlib import Path
 from typing import Iterator
 
 from parts import CONFIGURATION, HERE, SECRET, SITE, container, guard, program_at, see
@@ -18,29 +19,42 @@ from trials import see_page
 from visitor import HTML, Visitor
 
 
+# What the two examples answer: the request, and the fields X-Application-* that they see. The secret is none of them.
+STRANGER = "{} caller= roles= bytes=0 fields=\n"
+ANN = "{} caller=ann roles=member bytes={} fields=caller+roles\n"
+
+
 def see_application(name: str, port: int) -> None:
     """Sees what an application of the two examples receives."""
     stranger, ann = Visitor(port), Visitor(port, "127.0.0.2")
-    see(f"{name}, a stranger", stranger.get("/open").text, "GET /open caller= roles= bytes=0\n")
+    see(f"{name}, a stranger", stranger.get("/open").text, STRANGER.format("GET /open"))
     see_page(f"{name}, the page for the login", ann.get("/members/"), 200, "<h1>Log in</h1>")
     see(f"{name}, the login", ann.log_in("ann").status, 303)
-    text = "GET /members/ caller=ann roles=member bytes=0\n"
-    see(f"{name}, a caller", ann.get("/members;a=b/").text, text)
+    see(f"{name}, a caller", ann.get("/members;a=b/").text, ANN.format("GET /members/", 0))
     see(f"{name}, another role's page", ann.get("/admin/").status, 403)
     see(f"{name}, HEAD", ann.ask("HEAD", "/members/").status, 200)
     content = bytes(3_000_000)
     for method in ("POST", "PUT"):
-        text = f"{method} /members/é caller=ann roles=member bytes={len(content)}\n"
+        text = ANN.format(f"{method} /members/é", len(content))
         came = ann.ask(method, "/members/%C3%A9", HTML, content).text
         see(f"{name}, {method}", came.encode("latin-1").decode(), text)
     print(f"{name}: it receives callers, roles, the decided path, and uploads of 3 MB")
 
 
+def python(port: int, folder: str) -> list[str]:
+    """The command that starts the application in Python, which reads its secret in a file: others can see a command line."""
+    path = Path(folder, "secret")
+    path.touch(0o600)
+    path.write_text(f"{SECRET}\n")
+    return [sys.executable, str(HERE / "application.py"), str(port), str(path)]
+
+
 def try_python(container_port: int, folder: str) -> None:
     (port,) = free_ports(1)
     address = f"127.0.0.1:{port}"
-    words = [sys.executable, str(HERE / "application.py"), str(port), SECRET]
+    words = python(port, folder)
     with program_at(words, address), guarded(container_port, folder, address) as guard_port:
+        see("Python, its command line", SECRET in " ".join(words), False)
         see_application("Python", guard_port)
         peer = http.client.HTTPConnection("127.0.0.1", port, timeout=20)
         with contextlib.closing(peer):
@@ -76,10 +90,8 @@ def try_down(container_port: int, folder: str) -> None:
         see("down, the login", ann.log_in("ann").status, 303)
         see("down, the page", ann.get("/members/").status, 502)
         see("down, another role's page", ann.get("/admin/").status, 403)
-        words = [sys.executable, str(HERE / "application.py"), str(port), SECRET]
-        with program_at(words, address):
-            text = "GET /members/ caller=ann roles=member bytes=0\n"
-            see("up, the page", ann.get("/members/").text, text)
+        with program_at(python(port, folder), address):
+            see("up, the page", ann.get("/members/").text, ANN.format("GET /members/", 0))
     print(
         "down: without the application its pages are 502; when it is back, its callers still are logged in"
     )
@@ -90,7 +102,7 @@ def try_edit(program: str, folder: str) -> None:
     control = f"{folder}/control"
     (port,) = free_ports(1)
     address = f"127.0.0.1:{port}"
-    words = [sys.executable, str(HERE / "application.py"), str(port), SECRET]
+    words = python(port, folder)
     with container(program, str(SITE), "--control", control) as it, program_at(words, address):
         with guarded(it, folder, address) as guard_port:
             stranger = Visitor(guard_port)
