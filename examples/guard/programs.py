@@ -12,7 +12,7 @@ from pathlib import Path
 from typing import Iterator
 
 from parts import CONFIGURATION, HERE, SECRET, SITE, container, guard, program_at, see
-from servers import wait_until
+from servers import TOP, wait_until
 from sites import free_ports
 from tomcat_trial import try_tomcat
 from trials import see_page
@@ -114,6 +114,25 @@ def try_edit(program: str, folder: str) -> None:
     print("edit: a constraint that is appended while all run closes a path, and its end opens it")
 
 
+def try_imported(folder: str) -> None:
+    """nginx accepts what the importer writes for an error page of each number of 3 digits, and for contexts with odd names."""
+    codes = [
+        f"<error-code>{it:03}</error-code><location>/{it}.html</location>" for it in range(1000)
+    ]
+    pages = "".join(f"<error-page>{it}</error-page>" for it in codes)
+    file = Path(folder, "web.xml")
+    file.write_text(f'<web-app metadata-complete="true">{pages}</web-app>')
+    for number, context in enumerate(["/", "/a b", '/a"b', "/$a{b}", "/é'é", "/a/b.c"]):
+        place = f"{folder}/imported-{number}"
+        words = [f"{TOP}/tools/import-web-xml", str(file), "-o", place, "--context", context]
+        guarding = ["--guard", "http://127.0.0.1:8080"]
+        subprocess.run([*words, *guarding], stderr=subprocess.DEVNULL, check=True)
+        tried = ["nginx", "-t", "-q", "-p", place, "-c", "nginx.conf", "-e", "nginx.log"]
+        told = subprocess.run(tried, capture_output=True, text=True).stderr
+        see(f"nginx, the context {context}", told, "")
+    print("imported: nginx accepts the error pages and the context of any descriptor")
+
+
 def controlled(program: str, control: str, *words: str) -> str:
     """The reply of the container to a line at its control socket."""
     command = [program, "ctl", control, *words]
@@ -133,4 +152,5 @@ def try_all(program: str, folder: str) -> None:
         try_node(port, folder)
         try_down(port, folder)
     try_edit(program, folder)
+    try_imported(folder)
     try_tomcat(program, folder)
