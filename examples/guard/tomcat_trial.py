@@ -46,9 +46,8 @@ SECONDS_TO_START = 300
 JAVA = ["java", "-Xmx256m", "-XX:+UseSerialGC", "-XX:TieredStopAtLevel=1"]
 
 
-@contextlib.contextmanager
-def tomcat(base: Path, port: int, secret: str) -> Iterator[None]:
-    """A Tomcat with its examples and the valve."""
+def make_tomcat(base: Path, port: int, secret: str) -> None:
+    """Makes the folder of a Tomcat with its examples and the valve."""
     for name in ("conf/Catalina/localhost", "lib", "logs", "temp", "work"):
         (base / name).mkdir(parents=True)
     subprocess.run([HERE / "tomcat/build", base / "lib"], check=True)
@@ -57,6 +56,11 @@ def tomcat(base: Path, port: int, secret: str) -> Iterator[None]:
     (base / "conf/server.xml").write_text(SERVER.format(port=port, secret=secret))
     context = base / "conf/Catalina/localhost/examples.xml"
     context.write_text(CONTEXT.format(place=APPLICATION, here=HERE))
+
+
+@contextlib.contextmanager
+def tomcat(base: Path, port: int) -> Iterator[None]:
+    """The Tomcat of a folder, once it listens at its port."""
     places = [f"-Dcatalina.home={TOMCAT}", f"-Dcatalina.base={base}"]
     libraries = f"{TOMCAT}/bin/bootstrap.jar:{TOMCAT}/bin/tomcat-juli.jar"
     start = ["-cp", libraries, "org.apache.catalina.startup.Bootstrap", "start"]
@@ -254,7 +258,9 @@ def try_tomcat(program: str, room: str) -> None:
     with open(folder / "web.toml", "a") as file:
         file.write(CONFIDENTIAL)
     secret = direct.fields["X-Application-Secret"]
-    with tomcat(Path(room, "tomcat"), port, secret), container(program, str(folder)) as it:
+    base = Path(room, "tomcat")
+    make_tomcat(base, port, secret)
+    with tomcat(base, port), container(program, str(folder)) as it:
         with nginx(folder, it) as guard_port:
             see_open(guard_port, port)
             see_callers(guard_port)
