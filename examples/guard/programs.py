@@ -11,6 +11,7 @@ import sys
 from pathlib import Path
 from typing import Iterator
 
+from others import try_others
 from parts import CONFIGURATION, HERE, SECRET, SITE, container, guard, program_at, see
 from servers import TOP, wait_until
 from sites import free_ports
@@ -153,4 +154,5 @@ def try_all(program: str, folder: str) -> None:
         try_down(port, folder)
     try_edit(program, folder)
     try_imported(folder)
+    try_others(folder)
     try_tomcat(program, folder)

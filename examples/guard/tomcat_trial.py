@@ -7,7 +7,6 @@ import os
 import re
 import shutil
 import subprocess
-
 from pathlib import Path
 from typing import Iterator
 
@@ -15,9 +14,9 @@ from importing.users import with_password
 from lines import TLS
 from parts import HERE, accepts, container, see
 from servers import TOP, wait_until
-from sites import SECONDS, free_ports
+from sites import free_ports
 from trials import see_page
-from visitor import PASSWORDS, Visitor, raw_status
+from visitor import PASSWORDS, SECONDS, Visitor, raw_status
 
 TOMCAT = Path("/usr/share/tomcat10")
 APPLICATION = Path("/usr/share/tomcat10-examples/examples")
