@@ -305,9 +305,9 @@ def try_buffering(trial: Trial) -> None:
 def temporary_bytes(folder: Path) -> int:
     """The bytes on the disk that nginx keeps in its folder `temporary`, whose files it removes at once and holds open."""
     master = (folder / "proxy/nginx.pid").read_text().strip()
-    worker = Path(f"/proc/{master}/task/{master}/children").read_text().split()[0]
+    workers = Path(f"/proc/{master}/task/{master}/children").read_text().split()
     held = 0
-    for it in Path(f"/proc/{worker}/fd").iterdir():
+    for it in (it for worker in workers for it in Path(f"/proc/{worker}/fd").iterdir()):
         with contextlib.suppress(OSError):
             held += it.stat().st_size if "/temporary/" in os.readlink(it) else 0
     return held
