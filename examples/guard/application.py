@@ -1,26 +1,39 @@
 #!/usr/bin/env python3
-"""examples/guard/application.py PORT SECRET   serves a WSGI application that refuses every request without the secret"""
+"""examples/guard/application.py PORT FILE   serves a WSGI application that refuses every request without the secret, which is the text of FILE"""
 import hmac
 import sys
+from pathlib import Path
 from urllib.parse import unquote
 from wsgiref.simple_server import make_server
 
-SECRET = sys.argv[2]
+PLAIN = ("Content-Type", "text/plain; charset=utf-8")
+OURS = "HTTP_X_APPLICATION_"
+
+
+def guarded(application, secret):
+    """An application for requests that bring the secret, which it does not see: a page may show all fields."""
+
+    def checked(environ, start_response):
+        given = environ.pop(f"{OURS}SECRET", "")
+        if secret and hmac.compare_digest(given.encode(), secret.encode()):
+            return application(environ, start_response)
+        start_response("403 Forbidden", [PLAIN])
+        return [b"not by nginx\n"]
+
+    return checked
 
 
 def application(environ, start_response):
-    given = environ.get("HTTP_X_APPLICATION_SECRET", "")
-    plain = [("Content-Type", "text/plain; charset=utf-8")]
-    if not hmac.compare_digest(given.encode(), SECRET.encode()):
-        start_response("403 Forbidden", plain)
-        return [b"not by nginx\n"]
-    caller = unquote(environ.get("HTTP_X_APPLICATION_CALLER", ""))
-    roles = [unquote(it) for it in environ.get("HTTP_X_APPLICATION_ROLES", "").split(",") if it]
+    caller = unquote(environ.get(f"{OURS}CALLER", ""))
+    roles = [unquote(it) for it in environ.get(f"{OURS}ROLES", "").split(",") if it]
+    fields = [it.removeprefix(OURS).lower() for it in environ if it.startswith(OURS)]
     length = len(environ["wsgi.input"].read(int(environ.get("CONTENT_LENGTH") or 0)))
-    start_response("200 OK", plain)
+    start_response("200 OK", [PLAIN])
     method, path = environ["REQUEST_METHOD"], environ["PATH_INFO"].encode("latin-1").decode()
-    return [f"{method} {path} caller={caller} roles={'+'.join(roles)} bytes={length}\n".encode()]
+    text = f"{method} {path} caller={caller} roles={'+'.join(roles)} bytes={length}"
+    return [f"{text} fields={'+'.join(sorted(fields))}\n".encode()]
 
 
 if __name__ == "__main__":
-    make_server("127.0.0.1", int(sys.argv[1]), application).serve_forever()
+    text = Path(sys.argv[2]).read_text().strip()
+    make_server("127.0.0.1", int(sys.argv[1]), guarded(application, text)).serve_forever()

@@ -26,6 +26,7 @@ TARGETS: list[tuple[str, Union[str, int]]] = [
     ("/a?b;c=%2e%2e%2f", "/a?b;c=%2e%2e%2f"),
     ("http://localhost/a/b?c", "/a/b?c"),
     ("/ADMIN/", "/ADMIN/"),
+    ("/admin.json", "/admin.json"),
     ("/admin/", LOGIN),
     ("/admin", LOGIN),
     ("/%61dmin/", LOGIN),

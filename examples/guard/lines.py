@@ -6,6 +6,7 @@ from typing import Callable, Iterator, NamedTuple, Optional
 import hostile
 import trials
 from parts import replaced
+from recorder import SEND_BUFFER
 from trials import Trial
 
 Try = Callable[[Trial], None]
@@ -13,8 +14,10 @@ Try = Callable[[Trial], None]
 # What the block of a line and the line begin with, and the trial that fails without the line. The first row that fits decides.
 # A line without a trial names a place, or is only of use for speed.
 ROWS: list[tuple[str, str, Optional[Try]]] = [
-    ("map $http_accept $login", "default", trials.try_json),
-    ("map $http_accept $login", "~*text", trials.try_strangers),
+    ("map $http_if_none_match", "", trials.try_pages),
+    ('map "$none_match', "", trials.try_strangers),
+    ("map $accepted $login", "default", trials.try_json),
+    ("map $accepted $login", "~*text", trials.try_strangers),
     ("map $http_accept $denied", "default", trials.try_json),
     ("map $http_accept $denied", "~*text", trials.try_denied),
     ('map "$request_method', "default", trials.try_json),
@@ -32,6 +35,7 @@ ROWS: list[tuple[str, str, Optional[Try]]] = [
     ("server", "limit_conn senders", trials.try_bodies_of_address),
     ("server", "underscores_in_headers", trials.try_underscores),
     ("server", "proxy_http_version", trials.try_others_fields),
+    ("server", "proxy_max_temp_file_size", trials.try_disk),
     ("server", "proxy_buffer", trials.try_long_targets),
     ("server", "proxy_cache off", trials.try_cache),
     ("location / ", "proxy_pass ", trials.try_strangers),
@@ -74,6 +78,7 @@ ROWS: list[tuple[str, str, Optional[Try]]] = [
     ("server", "listen", None),
     ("location", 'proxy_set_header Connection "";', None),
 ]
+LISTEN = "listen 127.0.0.1:GUARD_PORT;"
 # The lines that README.md adds for TLS.
 TLS = [
     "ssl_certificate KEYS/certificate.pem;",
@@ -94,6 +99,8 @@ CHANGES: list[tuple[str, str, Try]] = [
     ),
     ("set $target $upstream_http_x_application_target;", "set $target $uri;", hostile.try_targets),
     ("proxy_intercept_errors on;", "", trials.try_strangers),
+    ("$none_match$http_if_match$", "$none_match$", trials.try_pages),
+    ("$http_if_match$http_if_unmodified_since", "$http_if_match", trials.try_pages),
 ]
 
 
@@ -157,12 +164,17 @@ def _with_cache_of_all(text: str) -> str:
 
 
 def _with_tls(text: str) -> str:
-    listen = "listen 127.0.0.1:GUARD_PORT;"
-    return replaced(text, listen, "\n".join([listen.replace(";", " ssl;"), *TLS]))
+    return replaced(text, LISTEN, "\n".join([LISTEN.replace(";", " ssl;"), *TLS]))
+
+
+def _with_small_buffers(text: str) -> str:
+    """The system keeps few bytes of an answer that a client does not read."""
+    return replaced(text, LISTEN, LISTEN.replace(";", f" sndbuf={SEND_BUFFER};"))
 
 
 # Additions to the configuration, for trials that otherwise cannot see whether its line is there.
 VARIANTS: dict[Try, Callable[[str], str]] = {
+    trials.try_buffering: _with_small_buffers,
     trials.try_charset: _with_charset,
     trials.try_expires: _with_cache_of_application,
     trials.try_cache: _with_cache_of_all,

@@ -8,39 +8,54 @@ import shutil
 import stat
 import subprocess
 import sys
+from pathlib import Path
 from typing import Iterator
 
+from others import try_others
 from parts import CONFIGURATION, HERE, SECRET, SITE, container, guard, program_at, see
-from servers import wait_until
+from servers import TOP, wait_until
 from sites import free_ports
 from tomcat_trial import try_tomcat
 from trials import see_page
 from visitor import HTML, Visitor
 
 
+# What the two examples answer: the request, and the fields X-Application-* that they see. The secret is none of them.
+STRANGER = "{} caller= roles= bytes=0 fields=\n"
+ANN = "{} caller=ann roles=member bytes={} fields=caller+roles\n"
+
+
 def see_application(name: str, port: int) -> None:
     """Sees what an application of the two examples receives."""
     stranger, ann = Visitor(port), Visitor(port, "127.0.0.2")
-    see(f"{name}, a stranger", stranger.get("/open").text, "GET /open caller= roles= bytes=0\n")
+    see(f"{name}, a stranger", stranger.get("/open").text, STRANGER.format("GET /open"))
     see_page(f"{name}, the page for the login", ann.get("/members/"), 200, "<h1>Log in</h1>")
     see(f"{name}, the login", ann.log_in("ann").status, 303)
-    text = "GET /members/ caller=ann roles=member bytes=0\n"
-    see(f"{name}, a caller", ann.get("/members;a=b/").text, text)
+    see(f"{name}, a caller", ann.get("/members;a=b/").text, ANN.format("GET /members/", 0))
     see(f"{name}, another role's page", ann.get("/admin/").status, 403)
     see(f"{name}, HEAD", ann.ask("HEAD", "/members/").status, 200)
     content = bytes(3_000_000)
     for method in ("POST", "PUT"):
-        text = f"{method} /members/é caller=ann roles=member bytes={len(content)}\n"
+        text = ANN.format(f"{method} /members/é", len(content))
         came = ann.ask(method, "/members/%C3%A9", HTML, content).text
         see(f"{name}, {method}", came.encode("latin-1").decode(), text)
     print(f"{name}: it receives callers, roles, the decided path, and uploads of 3 MB")
 
 
+def python(port: int, folder: str) -> list[str]:
+    """The command that starts the application in Python, which reads its secret in a file: others can see a command line."""
+    path = Path(folder, "secret")
+    path.touch(0o600)
+    path.write_text(f"{SECRET}\n")
+    return [sys.executable, str(HERE / "application.py"), str(port), str(path)]
+
+
 def try_python(container_port: int, folder: str) -> None:
     (port,) = free_ports(1)
     address = f"127.0.0.1:{port}"
-    words = [sys.executable, str(HERE / "application.py"), str(port), SECRET]
+    words = python(port, folder)
     with program_at(words, address), guarded(container_port, folder, address) as guard_port:
+        see("Python, its command line", SECRET in " ".join(words), False)
         see_application("Python", guard_port)
         peer = http.client.HTTPConnection("127.0.0.1", port, timeout=20)
         with contextlib.closing(peer):
@@ -76,10 +91,8 @@ def try_down(container_port: int, folder: str) -> None:
         see("down, the login", ann.log_in("ann").status, 303)
         see("down, the page", ann.get("/members/").status, 502)
         see("down, another role's page", ann.get("/admin/").status, 403)
-        words = [sys.executable, str(HERE / "application.py"), str(port), SECRET]
-        with program_at(words, address):
-            text = "GET /members/ caller=ann roles=member bytes=0\n"
-            see("up, the page", ann.get("/members/").text, text)
+        with program_at(python(port, folder), address):
+            see("up, the page", ann.get("/members/").text, ANN.format("GET /members/", 0))
     print(
         "down: without the application its pages are 502; when it is back, its callers still are logged in"
     )
@@ -90,7 +103,7 @@ def try_edit(program: str, folder: str) -> None:
     control = f"{folder}/control"
     (port,) = free_ports(1)
     address = f"127.0.0.1:{port}"
-    words = [sys.executable, str(HERE / "application.py"), str(port), SECRET]
+    words = python(port, folder)
     with container(program, str(SITE), "--control", control) as it, program_at(words, address):
         with guarded(it, folder, address) as guard_port:
             stranger = Visitor(guard_port)
@@ -100,6 +113,25 @@ def try_edit(program: str, folder: str) -> None:
             controlled(program, control, "withdraw", "/", number.split()[-1])
             see("edit, opened again", stranger.get("/open/page").status, 200)
     print("edit: a constraint that is appended while all run closes a path, and its end opens it")
+
+
+def try_imported(folder: str) -> None:
+    """nginx accepts what the importer writes for an error page of each number of 3 digits, and for contexts with odd names."""
+    codes = [
+        f"<error-code>{it:03}</error-code><location>/{it}.html</location>" for it in range(1000)
+    ]
+    pages = "".join(f"<error-page>{it}</error-page>" for it in codes)
+    file = Path(folder, "web.xml")
+    file.write_text(f'<web-app metadata-complete="true">{pages}</web-app>')
+    for number, context in enumerate(["/", "/a b", '/a"b', "/$a{b}", "/é'é", "/a/b.c"]):
+        place = f"{folder}/imported-{number}"
+        words = [f"{TOP}/tools/import-web-xml", str(file), "-o", place, "--context", context]
+        guarding = ["--guard", "http://127.0.0.1:8080"]
+        subprocess.run([*words, *guarding], stderr=subprocess.DEVNULL, check=True)
+        tried = ["nginx", "-t", "-q", "-p", place, "-c", "nginx.conf", "-e", "nginx.log"]
+        told = subprocess.run(tried, capture_output=True, text=True).stderr
+        see(f"nginx, the context {context}", told, "")
+    print("imported: nginx accepts the error pages and the context of any descriptor")
 
 
 def controlled(program: str, control: str, *words: str) -> str:
@@ -121,4 +153,6 @@ def try_all(program: str, folder: str) -> None:
         try_node(port, folder)
         try_down(port, folder)
     try_edit(program, folder)
+    try_imported(folder)
+    try_others(folder)
     try_tomcat(program, folder)

@@ -4,12 +4,15 @@ from __future__ import annotations
 import contextlib
 import hashlib
 import http.server
+import socket
 import threading
 import time
 import urllib.parse
 from typing import Iterator, NamedTuple
 
 LARGE = 32 * 1024 * 1024
+# The system keeps few bytes of an answer that nginx does not take.
+SEND_BUFFER = 16 * 1024
 ETAG = '"one"'
 CONTENT = b"0123456789"
 
@@ -40,6 +43,11 @@ class Recorder(http.server.ThreadingHTTPServer):
     @property
     def port(self) -> int:
         return self.server_address[1]
+
+    def get_request(self) -> tuple[socket.socket, tuple[str, int]]:
+        peer, address = super().get_request()
+        peer.setsockopt(socket.SOL_SOCKET, socket.SO_SNDBUF, SEND_BUFFER)
+        return peer, address
 
     def handle_error(self, *_where: object) -> None:
         """Takes the end of a connection for no fault: clients of the tests go away early."""
@@ -89,8 +97,9 @@ class _Handler(http.server.BaseHTTPRequestHandler):
             self.wfile.write(b"3\r\ntwo\r\n0\r\n\r\n")
 
     def _answer_large(self, query: dict[str, str]) -> None:
-        """Answers with more bytes than the buffers of two connections hold."""
-        self._send(200, query, bytes(LARGE))
+        """Answers with so many bytes, by default more than the buffers of two connections hold."""
+        length = int(query.pop("length", LARGE))
+        self._send(200, query, bytes(length))
         self.server.sent.set()
 
     def _answer_part(self, _query: dict[str, str]) -> None:

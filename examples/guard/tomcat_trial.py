@@ -2,20 +2,21 @@
 from __future__ import annotations
 
 import contextlib
+import http.client
 import os
 import re
 import shutil
 import subprocess
-
 from pathlib import Path
 from typing import Iterator
 
 from importing.users import with_password
+from lines import TLS
 from parts import HERE, accepts, container, see
 from servers import TOP, wait_until
-from sites import SECONDS, free_ports
+from sites import free_ports
 from trials import see_page
-from visitor import PASSWORDS, Visitor, raw_status
+from visitor import PASSWORDS, SECONDS, Visitor, raw_status
 
 TOMCAT = Path("/usr/share/tomcat10")
 APPLICATION = Path("/usr/share/tomcat10-examples/examples")
@@ -23,17 +24,29 @@ PROTECTED = "/examples/jsp/security/protected/index.jsp"
 ROLES = {"ann": ["tomcat"], "ben": ["tomcat", "role1"], "eve": ["other"]}
 SERVER = """<Server port="-1"><Service name="Catalina"><Connector port="{port}" address="127.0.0.1"/>
 <Engine name="Catalina" defaultHost="localhost"><Valve className="GuardValve" secret="{secret}"/>
+<Valve className="org.apache.catalina.valves.RemoteIpValve"/>
 <Host name="localhost" appBase="none" autoDeploy="false"/></Engine></Service></Server>
 """
-CONTEXT = '<Context docBase="{place}"><Resources allowLinking="true"/></Context>\n'
+# The pages of the folder `tomcat/trial` are in the application, at `/trial`.
+CONTEXT = """<Context docBase="{place}"><Resources allowLinking="true">
+<PostResources className="org.apache.catalina.webresources.DirResourceSet" base="{here}/tomcat/trial" webAppMount="/trial"/>
+</Resources></Context>
+"""
+TRIAL = "/examples/trial"
+SHOWN = "user={} owner={} scheme={} address={}\n"
+# A page of the trial that needs TLS, by the words of its descriptor.
+CONFIDENTIAL = """
+[[security-constraint]]
+web-resource-collection = [{ url-pattern = ["/trial/shown.jsp"], http-method = ["PUT"] }]
+user-data-constraint = { transport-guarantee = "CONFIDENTIAL" }
+"""
 # A machine under load is slow to start it.
 SECONDS_TO_START = 300
 JAVA = ["java", "-Xmx256m", "-XX:+UseSerialGC", "-XX:TieredStopAtLevel=1"]
 
 
-@contextlib.contextmanager
-def tomcat(base: Path, port: int, secret: str) -> Iterator[None]:
-    """A Tomcat with its examples and the valve."""
+def make_tomcat(base: Path, port: int, secret: str) -> None:
+    """Makes the folder of a Tomcat with its examples and the valve."""
     for name in ("conf/Catalina/localhost", "lib", "logs", "temp", "work"):
         (base / name).mkdir(parents=True)
     subprocess.run([HERE / "tomcat/build", base / "lib"], check=True)
@@ -41,7 +54,12 @@ def tomcat(base: Path, port: int, secret: str) -> Iterator[None]:
     shutil.copy(TOMCAT / "etc/web.xml", base / "conf")
     (base / "conf/server.xml").write_text(SERVER.format(port=port, secret=secret))
     context = base / "conf/Catalina/localhost/examples.xml"
-    context.write_text(CONTEXT.format(place=APPLICATION))
+    context.write_text(CONTEXT.format(place=APPLICATION, here=HERE))
+
+
+@contextlib.contextmanager
+def tomcat(base: Path, port: int) -> Iterator[None]:
+    """The Tomcat of a folder, once it listens at its port."""
     places = [f"-Dcatalina.home={TOMCAT}", f"-Dcatalina.base={base}"]
     libraries = f"{TOMCAT}/bin/bootstrap.jar:{TOMCAT}/bin/tomcat-juli.jar"
     start = ["-cp", libraries, "org.apache.catalina.startup.Bootstrap", "start"]
@@ -71,22 +89,32 @@ def imported(folder: Path, port: int) -> str:
     )
     users = [with_password(it, ROLES[it], b"salt", PASSWORDS[it].encode()) for it in ROLES]
     (folder / "users.toml").write_text("\n".join(it.text() for it in users))
+    return found_in(folder, "X-Application-Secret ([0-9a-f]+);")
+
+
+def found_in(folder: Path, pattern: str) -> str:
+    """What the configuration of nginx has at a place."""
     text = (folder / "nginx.conf").read_text()
-    found = re.search("X-Application-Secret ([0-9a-f]+);", text)
+    found = re.search(pattern, text)
     assert found is not None, text
     return found[1]
 
 
 @contextlib.contextmanager
-def nginx(folder: Path, container_port: int) -> Iterator[int]:
-    """nginx by the configuration of a site, with ports that are free: its port."""
+def nginx(folder: Path, container_port: int, *more: str) -> Iterator[int]:
+    """nginx by the configuration of a site, with ports that are free, and more lines for its port: the port."""
     (port,) = free_ports(1)
     text = (folder / "nginx.conf").read_text()
-    for old, new in (("listen 127.0.0.1:8000;", port), ("server 127.0.0.1:8001;", container_port)):
+    listen = "\n".join([f"listen 127.0.0.1:{port}{' ssl' if more else ''};", *more])
+    changes = {
+        "listen 127.0.0.1:8000;": listen,
+        "server 127.0.0.1:8001;": f"server 127.0.0.1:{container_port};",
+    }
+    for old, new in changes.items():
         assert old in text, old
-        text = text.replace(old, f"{old.rpartition(':')[0]}:{new};")
-    (folder / "nginx.conf").write_text(text)
-    words = ["nginx", "-p", str(folder), "-c", "nginx.conf", "-e", "nginx.log"]
+        text = text.replace(old, new)
+    (folder / "trial.conf").write_text(text)
+    words = ["nginx", "-p", str(folder), "-c", "trial.conf", "-e", "nginx.log"]
     with subprocess.Popen(words, stdin=subprocess.DEVNULL) as process:
         try:
             wait_until("nginx listens", lambda: accepts(f"127.0.0.1:{port}"))
@@ -94,6 +122,22 @@ def nginx(folder: Path, container_port: int) -> Iterator[int]:
         finally:
             process.terminate()
             process.wait(SECONDS)
+
+
+class Direct:
+    """Requests to Tomcat by one who knows the secret, as nginx does."""
+
+    def __init__(self, port: int, secret: str) -> None:
+        self.port, self.fields = port, {"X-Application-Secret": secret}
+
+    @contextlib.contextmanager
+    def asked(self, method: str, target: str, **fields: str) -> Iterator[http.client.HTTPResponse]:
+        """The answer to a request, once its head is there. Names have `_` in place of `-`."""
+        peer = http.client.HTTPConnection("127.0.0.1", self.port, timeout=SECONDS)
+        named = {name.replace("_", "-"): value for name, value in fields.items()}
+        with contextlib.closing(peer):
+            peer.request(method, target, headers={**self.fields, **named})
+            yield peer.getresponse()
 
 
 def session_of(text: str) -> str:
@@ -134,12 +178,68 @@ def see_sessions(port: int) -> None:
     see("Tomcat, another session", session_of(page) not in ("", first), True)
 
 
+def see_threads(port: int) -> None:
+    """Sees that a session that a thread of its own opens has no second caller, and that an asynchronous dispatch is answered."""
+    browser = Visitor(port, "127.0.0.4")
+    browser.log_in("ann", PROTECTED)
+    see("Tomcat, a thread", browser.get(f"{TRIAL}/async.jsp").status, 200)
+    see("Tomcat, its session", [it for it, _ in browser.jar if it == "JSESSIONID"], ["JSESSIONID"])
+    browser.ask("POST", "/examples/guard/log-out")
+    browser.log_in("ben", PROTECTED)
+    page = browser.get(f"{TRIAL}/shown.jsp").text
+    see("Tomcat, another caller", page, SHOWN.format("ben", "null", "http", browser.address))
+    page = browser.get("/examples/async/async1").text
+    see("Tomcat, an asynchronous dispatch", "Type is ASYNC" in page, True)
+
+
+def see_early(direct: Direct) -> None:
+    """Sees that a session goes on that its client uses before the request that opens it has ended."""
+    ann = {"X_Application_Caller": "ann", "X_Forwarded_For": "127.0.0.5"}
+    with direct.asked("GET", f"{TRIAL}/early.jsp", **ann) as first:
+        cookie = first.headers["Set-Cookie"].partition(";")[0]
+        with direct.asked("GET", f"{TRIAL}/shown.jsp", Cookie=cookie, **ann) as second:
+            text = second.read().decode()
+        see("Tomcat, meanwhile", text, SHOWN.format("ann", "ann", "http", "127.0.0.5"))
+        see("Tomcat, at its end", first.read(), b"owner=ann\n")
+
+
+def see_root(port: int, direct: Direct) -> None:
+    """Sees that the path of the context without a slash is answered as by Tomcat."""
+    for method in ("GET", "POST"):
+        for target in ("/examples", "/examples?a=b&c"):
+            with direct.asked(method, target) as answer:
+                wanted = (answer.status, answer.headers["Location"])
+            came = Visitor(port).ask(method, target)
+            see(f"Tomcat, {method} {target}", (came.status, came.field("location")), wanted)
+
+
+def see_log_out(folder: Path, port: int) -> None:
+    """Sees that a session ends at the path that nginx.conf names."""
+    ann = Visitor(port, "127.0.0.6")
+    ann.log_in("ann", PROTECTED)
+    path = found_in(folder, r"\n# A POST to (\S+) ends the session")
+    see("Tomcat, the end of the session", ann.ask("POST", path).status, 200)
+    see_page("Tomcat, after it", ann.get(PROTECTED), 200, "<h1>Log in</h1>")
+
+
+def see_tls(port: int, certificate: str) -> None:
+    """Sees that the application knows of TLS, and that a constraint that requires it denies even so."""
+    stranger = Visitor(port, "127.0.0.7")
+    stranger.certificate = certificate
+    page = stranger.get(f"{TRIAL}/shown.jsp").text
+    see("Tomcat, over TLS", page, SHOWN.format("null", "null", "https", stranger.address))
+    see("Tomcat, CONFIDENTIAL", stranger.ask("PUT", f"{TRIAL}/shown.jsp").status, 403)
+
+
 def see_open(port: int, tomcat_port: int) -> None:
     """Sees that open pages are for everyone, and that nobody but nginx is answered by Tomcat."""
     stranger = Visitor(port)
     see("Tomcat, a file", "Apache Tomcat Examples" in stranger.get("/examples/").text, True)
     hello = "/examples/servlets/servlet/HelloWorldExample"
     see("Tomcat, a servlet", "<h1>Hello World!</h1>" in stranger.get(f"{hello};a=b").text, True)
+    page = stranger.get("/examples/servlets/servlet/RequestHeaderExample").text
+    shown = [name in page for name in ("x-forwarded-proto", "x-application-secret")]
+    see("Tomcat, the fields that a page shows", shown, [True, False])
     see("Tomcat, elsewhere", stranger.get("/manager/html").status, 404)
     forged = ("X-Application-Caller: ann", "X-Application-Roles: tomcat")
     for more in ((), ("X-Application-Secret: x",), ("X-Application-Secret:",)):
@@ -152,13 +252,25 @@ def try_tomcat(program: str, room: str) -> None:
         print("Tomcat: it is not installed with its examples and a compiler, so it was not tried")
         return
     folder, (port,) = Path(room, "tomcat-site"), free_ports(1)
-    secret = imported(folder, port)
+    direct = Direct(port, imported(folder, port))
     os.chmod(folder, 0o755)
-    with tomcat(Path(room, "tomcat"), port, secret), container(program, str(folder)) as it:
+    with open(folder / "web.toml", "a") as file:
+        file.write(CONFIDENTIAL)
+    secret = direct.fields["X-Application-Secret"]
+    base = Path(room, "tomcat")
+    make_tomcat(base, port, secret)
+    with tomcat(base, port), container(program, str(folder)) as it:
         with nginx(folder, it) as guard_port:
             see_open(guard_port, port)
             see_callers(guard_port)
             see_sessions(guard_port)
+            see_threads(guard_port)
+            see_early(direct)
+            see_root(guard_port, direct)
+            see_log_out(folder, guard_port)
+        keys = f"{room}/keys"
+        with nginx(folder, it, *[line.replace("KEYS", keys) for line in TLS]) as guard_port:
+            see_tls(guard_port, f"{room}/certificate.pem")
     print(
         "Tomcat: its examples know the callers and roles of the guard, and a session is for one caller"
     )

@@ -3,6 +3,7 @@ from __future__ import annotations
 
 import contextlib
 import hashlib
+import os
 import socket
 import time
 import urllib.parse
@@ -17,6 +18,12 @@ LOGIN, FAILED, DENIED = "<h1>Log in</h1>", "<h1>The login failed</h1>", "<h1>Not
 # A machine under load takes long for these.
 SECONDS_TO_REFUSE, SECONDS_TO_SEND, SECONDS_TO_ANSWER = 15, 20, 15
 JSON = {"Accept": "application/json"}
+# What an answer may take on the disk: 1 MiB, and what nginx writes at once.
+MOST_ON_DISK = 5 * 256 * 1024
+# A length of an answer that fits into the buffers of nginx and its file, and not into those of the system.
+OF_BUFFERS = 1024 * 1024
+# A count of bytes that is the same so many times grows no more.
+SAME_COUNTS = 20
 
 
 class Trial(NamedTuple):
@@ -189,6 +196,13 @@ def try_cookies(trial: Trial) -> None:
     see("the application's cookie", answer.field("set-cookie"), "own=2")
 
 
+# Conditions by which nginx answers 304 or 412 in place of a page of its own.
+CONDITIONS = [
+    ("If-None-Match", "*"),
+    ("If-Match", '"one"'),
+    ("If-Match", "*"),
+    ("If-Unmodified-Since", "Thu, 01 Jan 1970 00:00:00 GMT"),
+]
 # Fields that an application may trust. Those with an empty text do not arrive.
 REPLACED = {
     "X-Application-Secret": SECRET,
@@ -196,10 +210,15 @@ REPLACED = {
     "X-Application-Roles": "member",
     "X-Forwarded-Proto": "http",
 }
-CLEARED = """X-Application-Target X-Application-Cookie X-Caller X-Remote-User Remote-User Authorization Proxy Forwarded X-Forwarded-Port
-    X-Forwarded-Prefix X-Forwarded-Server X-Forwarded-Ssl X-Forwarded-Uri X-Forwarded-User X-Real-IP X-Original-URL X-Rewrite-URL
-    X-HTTP-Method-Override X-HTTP-Method X-Method-Override X-Accel-Redirect X-Accel-Expires X-Accel-Limit-Rate X-Accel-Buffering
-    X-Accel-Charset X-Accel-Mapping X-Sendfile-Type""".split()
+CLEARED = """Authorization Proxy-Authorization Remote-User Remote-Groups Remote-Name Remote-Email X-Remote-User X-Remote-Group X-Remote-Groups X-User
+    X-Caller X-WEBAUTH-USER X-Auth-Request-User X-Auth-Request-Groups X-Auth-Request-Email X-Auth-Request-Preferred-Username
+    X-Auth-Request-Access-Token X-Forwarded-User X-Forwarded-Groups X-Forwarded-Email X-Forwarded-Preferred-Username X-Forwarded-Access-Token
+    X-Forwarded-Client-Cert X-Client-Cert X-SSL-Client-Cert X-Application-Target X-Application-Cookie X-Application-Context Proxy Forwarded
+    X-Forwarded-Port X-Forwarded-Server X-Forwarded-Ssl X-Forwarded-Scheme X-Forwarded-Protocol X-Forwarded-By X-Real-IP X-Client-IP
+    X-Cluster-Client-IP True-Client-IP X-Original-Host X-Host Front-End-Https X-Url-Scheme X-Scheme X-Forwarded-Prefix X-Forwarded-Path
+    X-Forwarded-Uri X-Forwarded-Method X-Original-URL X-Original-URI X-Original-Method X-Rewrite-URL X-Script-Name X-Ms-Original-Url
+    X-Waws-Unencoded-Url X-HTTP-Method-Override X-HTTP-Method X-Method-Override X-Accel-Redirect X-Accel-Expires X-Accel-Limit-Rate
+    X-Accel-Buffering X-Accel-Charset X-Accel-Mapping X-Sendfile-Type""".split()
 
 
 def try_fields_of_clients(trial: Trial) -> None:
@@ -264,15 +283,45 @@ def try_limit_rate(trial: Trial) -> None:
     see("whether the answer has ended", came[-1], b"")
 
 
-def try_buffering(trial: Trial) -> None:
-    """The application cannot turn the buffers off by a field of nginx: it has sent its answer before a slow client has read it."""
+@contextlib.contextmanager
+def reader_that_stops(trial: Trial, target: str) -> Iterator[None]:
+    """A client that asks for a target and does not read the answer."""
     trial.visitor()
     trial.application.sent.clear()
     with socket.socket() as peer:
         peer.setsockopt(socket.SOL_SOCKET, socket.SO_RCVBUF, 4096)
         peer.connect(("127.0.0.1", trial.port))
-        peer.sendall(b"GET /open?answer=large&X-Accel-Buffering=no HTTP/1.1\r\nHost: x\r\n\r\n")
+        peer.sendall(f"GET {target} HTTP/1.1\r\nHost: x\r\n\r\n".encode())
+        yield
+
+
+def try_buffering(trial: Trial) -> None:
+    """The application cannot turn the buffers off by a field of nginx: it has sent its answer before a slow client has read it."""
+    target = f"/open?answer=large&length={OF_BUFFERS}&X-Accel-Buffering=no"
+    with reader_that_stops(trial, target):
         see("whether the application is done", trial.application.sent.wait(SECONDS_TO_SEND), True)
+
+
+def temporary_bytes(folder: Path) -> int:
+    """The bytes on the disk that nginx keeps in its folder `temporary`, whose files it removes at once and holds open."""
+    master = (folder / "proxy/nginx.pid").read_text().strip()
+    workers = Path(f"/proc/{master}/task/{master}/children").read_text().split()
+    held = 0
+    for it in (it for worker in workers for it in Path(f"/proc/{worker}/fd").iterdir()):
+        with contextlib.suppress(OSError):
+            held += it.stat().st_size if "/temporary/" in os.readlink(it) else 0
+    return held
+
+
+def try_disk(trial: Trial) -> None:
+    """An answer that its client does not read takes at most 1.25 MiB of the disk."""
+    with reader_that_stops(trial, "/open?answer=large"):
+        held, end = [0], time.monotonic() + SECONDS_TO_SEND
+        while time.monotonic() < end and (held[-1] == 0 or len(set(held[-SAME_COUNTS:])) > 1):
+            time.sleep(0.1)
+            held.append(temporary_bytes(trial.journal.parent))
+        see("whether the answer is on the disk", held[-1] > 0, True)
+        see("whether it takes more", held[-1] > MOST_ON_DISK, False)
 
 
 def try_charset(trial: Trial) -> None:
@@ -351,8 +400,26 @@ def try_pages(trial: Trial) -> None:
     page = trial.visitor().get("/members/")
     see_page("a part", trial.visitor().get("/members/", Range="bytes=0-2"), 200, LOGIN)
     see("its ETag", page.field("etag"), "")
-    since = {"If_Modified_Since": page.field("last-modified")}
-    see_page("a page that the client has", trial.visitor().get("/members/", **since), 200, LOGIN)
+    for condition in (
+        {"If_Modified_Since": page.field("last-modified")},
+        {"If_None_Match": '"one", W/"*"'},
+    ):
+        answer = trial.visitor().get("/members/", **condition)
+        see_page(f"a page with the condition {condition}", answer, 200, LOGIN)
+    see_conditions(trial)
+
+
+def see_conditions(trial: Trial) -> None:
+    """Sees that a condition about the document that a page would replace has no effect but that there is no page (RFC 9110, section 13.2.1)."""
+    ann = trial.caller("ann")
+    for name, value in CONDITIONS:
+        fields = {**HTML, name: value}
+        answer = trial.visitor().ask("GET", "/members/", fields)
+        see(f"{name}, a stranger", (answer.status, answer.text), (401, '{"status": 401}\n'))
+        answer = trial.visitor("127.0.0.9").ask("POST", "/j_security_check", fields, b"")
+        see(f"{name}, a failed login", (answer.status, answer.text), (401, '{"status": 401}\n'))
+        see_page(f"{name}, a denied caller", ann.ask("GET", "/admin/", fields), 403, DENIED)
+    trial.see_none("requests with conditions")
 
 
 def try_web_socket(trial: Trial) -> None:

@@ -80,6 +80,7 @@ def read_for_application(text: bytes, told: Told) -> Descriptor:
     top, constraints = _top(root, told), security.constraints(root, told)
     login = security.login_config(root, told)
     shown = guarding.shown_pages(root, login, told)
+    guarding.tell_welcome_files(root, told)
     parts = _guarded_parts(root, shown, constraints, told)
     descriptor = _whole(root, top, [*parts, *_of_tables({"login-config": login})], told)
     return dataclasses.replace(descriptor, shown=shown)

@@ -2,10 +2,12 @@
 from __future__ import annotations
 
 import argparse
+import ipaddress
 import os
 import re
 from pathlib import Path
 from typing import NamedTuple
+from urllib.parse import quote
 
 from .elements import shortened
 from .files import NewFile, read_regular
@@ -20,7 +22,16 @@ GUARD_PORT, PORT = 8000, 8001
 # The pages of the example, for those that the application has none of, or no static one.
 PLAIN = ("login.html", "failed.html", "denied.html")
 
-_ADDRESS = re.compile(r"http://(unix:/[\w./-]+|(?:[A-Za-z0-9.-]+|\[[0-9A-Fa-f:]+\]):[0-9]{1,5})/?")
+_ADDRESS = re.compile(
+    r"http://(?:(unix:/[\w./-]*[\w.-])|([^/:@\s]+|\[[0-9A-Fa-f:.]+\]):([0-9]+))/?"
+)
+# A label of the name of a host (RFC 1123, section 2.1). The last one has a letter, unlike that of an address.
+_LABEL = "[A-Za-z0-9](?:[A-Za-z0-9-]*[A-Za-z0-9])?"
+_HOST = re.compile(rf"(?:{_LABEL}\.)*(?![0-9]+\.?$){_LABEL}\.?")
+MAX_HOST_BYTES = 253
+# The path of a Unix socket and a NUL byte (unix(7)).
+MAX_SOCKET_BYTES = 108
+PORTS = range(1, 65536)
 _MADE_BY_CODE = (".jsp", ".jspx", ".jspf")
 
 
@@ -31,7 +42,30 @@ def application_address(text: str) -> str:
         raise argparse.ArgumentTypeError(
             f"{text!r} is neither http://HOST:PORT nor http://unix:/PATH"
         )
-    return found[1]
+    socket, host, port = found.groups()
+    if socket is not None:
+        if len(socket.removeprefix("unix:").encode()) >= MAX_SOCKET_BYTES:
+            raise argparse.ArgumentTypeError(
+                f"the path in {text!r} has {MAX_SOCKET_BYTES} bytes or more"
+            )
+        return str(socket)
+    if not _is_host(host):
+        raise argparse.ArgumentTypeError(f"{host!r} in {text!r} is no name or address of a host")
+    if len(port) > len(str(PORTS[-1])) or int(port) not in PORTS:
+        raise argparse.ArgumentTypeError(f"{port} in {text!r} is no port from 1 to {PORTS[-1]}")
+    return f"{host}:{int(port)}"
+
+
+def _is_host(text: str) -> bool:
+    """Whether a text is the name of a host, an IPv4 address, or an IPv6 address in brackets."""
+    if _HOST.fullmatch(text):
+        return len(text) <= MAX_HOST_BYTES
+    kind = ipaddress.IPv6Address if text.startswith("[") else ipaddress.IPv4Address
+    try:
+        kind(text.strip("[]"))
+    except ValueError:
+        return False
+    return True
 
 
 class Guard(NamedTuple):
@@ -40,6 +74,7 @@ class Guard(NamedTuple):
     address: str
     port: int
     secret: str
+    context: str
     shown: list[Page]
 
     def configuration(self) -> str:
@@ -56,7 +91,20 @@ class Guard(NamedTuple):
             "SECRET": self.secret,
         }
         text = re.sub(rf"\b({'|'.join(words)})\b", lambda it: words[it[1]], text)
-        return _HEAD.format(log_out=LOG_OUT) + text.replace(_DENIED, _DENIED + self._error_pages())
+        text = text.replace(_DENIED, _DENIED + self._error_pages())
+        return self._head() + text.replace(_ALL, self._redirect() + _ALL)
+
+    def _head(self) -> str:
+        """The first lines, which say how a session ends if one can begin."""
+        has_login = any(it.name == "login.html" for it in self.shown)
+        return _HEAD + (_LOG_OUT.format(log_out=self.context + LOG_OUT) if has_login else "")
+
+    def _redirect(self) -> str:
+        """The location that adds a slash to the path of the context, as Tomcat and Jetty do: the container reads both paths alike."""
+        if not self.context:
+            return ""
+        quoted = self.context.replace('"', r"\"")
+        return _REDIRECT.format(context=quoted, escaped=quote(self.context, safe="/-._~"))
 
     def _error_pages(self) -> str:
         """The lines for the pages of other errors."""
@@ -65,10 +113,18 @@ class Guard(NamedTuple):
 
 
 _DENIED = "            error_page 403 $denied;\n"
+_ALL = "        # Asks the container about every request, without its body."
+_REDIRECT = """        # Links of the page are relative to a path with a slash at its end.
+        location = "{context}" {{
+            absolute_redirect off;
+            return 302 {escaped}/$is_args$args;
+        }}
+
+"""
 _HEAD = """# By tools/import-web-xml, of examples/guard/nginx.conf, whose README.md explains each part. Only root may read this file, since it has the secret.
 # In this folder: `sv run server.toml`, and as root: nginx -p "$PWD" -c nginx.conf -e nginx.log
-# A POST to {log_out} ends the session of its caller.
 """
+_LOG_OUT = "# A POST to {log_out} ends the session of its caller.\n"
 
 
 def page_files(web_xml: Path, shown: list[Page], may_replace: bool, told: Told) -> list[NewFile]:

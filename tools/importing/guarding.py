@@ -2,12 +2,14 @@
 from __future__ import annotations
 
 import dataclasses
-from typing import Iterator
+from typing import Iterable, Iterator
 from urllib.parse import unquote
 
 from . import components, pages
 from .elements import CONTENT, shortened
-from .limits import is_location
+from .guards import requires
+from .limits import ERROR_CODES, is_location
+from .patterns import can_match, covers, folder_of
 from .told import Rank, Told
 from .tree import Element
 from .words import Table
@@ -18,6 +20,10 @@ LOG_OUT = "/guard/log-out"
 # The session of the container has a cookie of its own: the application may have one of the default name.
 COOKIE = "GUARDSESSION"
 EVERYTHING = "/"
+# The code of nginx for a client that is gone, for which it shows no page.
+CODE_OF_NGINX = 499
+# The welcome files of an application without a list of its own (`web.xml` of Tomcat and `webdefault.xml` of Jetty).
+_WELCOME_FILES = ("index.html", "index.htm", "index.jsp")
 
 # What the container reads of a web-app, and of its elements. All else that is an element of web.xml is for the application.
 _READ: dict[str, frozenset[str]] = {
@@ -28,6 +34,7 @@ _READ: dict[str, frozenset[str]] = {
     "filter": frozenset(["filter-name", "filter-class"]),
     "filter-mapping": frozenset(CONTENT["filter-mapping"]),
     "session-config": frozenset(["session-timeout"]),
+    "welcome-file-list": frozenset(["welcome-file"]),
     "error-page": frozenset(["error-code", "location"]),
     "security-constraint": frozenset(CONTENT["security-constraint"]),
     "security-role": frozenset(CONTENT["security-role"]),
@@ -153,9 +160,45 @@ def shown_pages(root: Element, login: Table | None, told: Told) -> list[Page]:
                 element.line,
                 "the error page for 401 is not read: the page for the login takes its place",
             )
-        elif code.isdigit() and is_location(location):
+        elif code == str(CODE_OF_NGINX):
+            told.tell(
+                Rank.BEHAVIOR,
+                element.line,
+                f"the error page for {code} is not read: nginx has a meaning of its own for this code",
+            )
+        elif code in map(str, ERROR_CODES) and is_location(location):
             shown.setdefault(name, Page(name, location, element.line))
     return list(shown.values())
+
+
+def tell_welcome_files(root: Element, told: Told) -> None:
+    """Reports the patterns that match a welcome file, and not its folder, at whose path an application shows the file, too."""
+    lists = root.all("welcome-file-list")
+    listed = [it.strip("/") for each in lists for it in each.texts("welcome-file")]
+    names = list(filter(None, listed)) or _WELCOME_FILES
+    for constraint in filter(requires, root.all("security-constraint")):
+        collections = constraint.all("web-resource-collection")
+        patterns = [it for each in collections for it in each.all("url-pattern")]
+        others = [it.text for it in patterns if can_match(it.text)]
+        for pattern in patterns:
+            name = _welcome_file(pattern.text, names, others)
+            if name is not None:
+                told.tell(
+                    Rank.SECURITY,
+                    pattern.line,
+                    f"url-pattern {shortened(pattern.text)} matches the welcome file {shortened(name)}, and not the path of its folder: there the application may show the file to others",
+                )
+
+
+def _welcome_file(pattern: str, names: Iterable[str], others: list[str]) -> str | None:
+    """The welcome file that a pattern matches, if no pattern of its constraint matches the folder."""
+    if pattern not in others:
+        return None
+    folders = ((name, folder_of(pattern, name)) for name in names)
+    left = (
+        name for name, it in folders if it is not None and not any(covers(o, it) for o in others)
+    )
+    return next(left, None)
 
 
 @dataclasses.dataclass

@@ -107,7 +107,7 @@ class _Areas:
         constrained: dict[str, None] = {}
         opened: dict[str, None] = {}
         for constraint in root.all("security-constraint"):
-            patterns = constrained if _requires(constraint) else opened
+            patterns = constrained if requires(constraint) else opened
             for collection in constraint.all("web-resource-collection"):
                 patterns |= dict.fromkeys(filter(can_match, collection.texts("url-pattern")))
         self._constrained = list(constrained)
@@ -127,7 +127,7 @@ class _Areas:
         return max((precedence(it) for it in self._open if covers(it, pattern)), default=(0, 0))
 
 
-def _requires(constraint: Element) -> bool:
+def requires(constraint: Element) -> bool:
     """Whether a constraint requires a role, a login or a protected transport."""
     transport = constraint.first("user-data-constraint")
     guarantee = "" if transport is None else transport.text_of("transport-guarantee")

@@ -87,3 +87,19 @@ def meet(one: str, other: str) -> bool:
     if {_kind(one), _kind(other)} == {_PREFIX, _EXTENSION}:
         return True
     return covers(one, other) or covers(other, one)
+
+
+def folder_of(pattern: str, name: str) -> str | None:
+    """A pattern for the folders whose file of a name a pattern matches, and of which it matches no folder itself; `None` if there is no such folder."""
+    if _kind(pattern) == _EXTENSION:
+        return "/*" if _matches(pattern, f"/{name}") else None
+    path = pattern.removesuffix("/*") if _kind(pattern) == _PREFIX else pattern
+    segments = name.split("/")
+    # A prefix may end within the name, if the name has slashes.
+    first = 1 if _kind(pattern) == _PREFIX else len(segments)
+    for count in range(first, len(segments) + 1):
+        beginning = "/".join(segments[:count])
+        if path.endswith(f"/{beginning}"):
+            folder = path.removesuffix(beginning)
+            return "" if folder == "/" else folder
+    return None
