@@ -160,8 +160,8 @@ module _ {S F L : Type 0} (moving : ComponentSteps S F L) where
       → IsLawfulMessage moving handling (front ++ OfServlet place (Serviced exchange turn step left) ∷ behind)
       → kind_of exchange ≡ kinds.Request → MayEnter handling.context handling.request
 
-  -- whatever the message, a response names an internal location only if its request enters and is handed over; unless other
-  -- components set these fields, they are the request's own, and unless others undo the login, its caller is that of its session
+  -- if the other components leave these fields, a response names an internal location only if its request enters and is
+  -- handed over, with its own target and cookies; if they undo no login either, its caller is that of its session
   abbrev pub RedirectsAreOfEntries : Type 0
   RedirectsAreOfEntries =
       (location_of : S → Option (List ℕ)) (handling : Handling (ContextState S F L)) (made : List Record) (internal : List ℕ)

@@ -32,11 +32,11 @@ pub fn only_entries_are_dispatched<S: Servlet, F: Filter, L: Listener>()
     ensures { OnlyEntriesAreDispatched (steps_of S.servlet_step F.filter_step L.listener_step) }
 {}
 
-/// A response names an internal location of the proxy only if its request enters, and a servlet which takes the steps of
-/// the class `Application` was called with the dispatch of the request. The target and the cookies in the response are
-/// those about which the container decided, unless another component sets these fields. Its caller and roles are those of
-/// the session, unless another component also undoes the login (Jakarta Servlet 6.0, sections 3.5, 9.1, 9.4, 10.9.2,
-/// 13.6.3 and 13.8).
+/// If the other components of a message leave the fields that a proxy reads, its response names an internal location only
+/// if the request enters, and a servlet which takes the steps of the class `Application` was called with the dispatch of
+/// the request. The target and the cookies in the response are then those about which the container decided. Its caller
+/// and roles are those of the session, if the other components undo no login either (Jakarta Servlet 6.0, sections 3.5,
+/// 9.1, 9.4, 10.9.2, 13.6.3 and 13.8).
 pub fn redirects_are_of_entries<S: Servlet, F: Filter, L: Listener>()
     ensures { RedirectsAreOfEntries (steps_of S.servlet_step F.filter_step L.listener_step) }
 {
