@@ -10,7 +10,7 @@ use Rattle.sv_program.specs.Configuration.{Step, server_in}
 use Rattle.sv_program.specs.ConfigurationFiles.{ReadsContexts, ReadsServer}
 use Rattle.sv_program.specs.FileStore.{AreRead, FileText, Giving, Reading}
 use Rattle.sv_program.specs.declared.command_fault.CommandFault.{CommandFault}
-use Rattle.sv_program.specs.declared.command_fault.CommandFault.TheVariants.{Input, Output, File, Folder, Server as ServerFault, Descriptor, Users, Class, Files, Start, Socket, Script, User, Method, Refused, NoMemory, Findings, Faults}
+use Rattle.sv_program.specs.declared.command_fault.CommandFault.TheVariants.{Input, Output, File, Folder, Server as ServerFault, Descriptor, Users, Class, Files, Start, Socket, Script, User, Role, Method, Refused, NoMemory, Findings, Faults}
 use Rattle.sv_program.specs.declared.configuration.ContextTexts.{ContextTexts}
 use Rattle.sv_program.specs.declared.unavailable.Unavailable.TheVariants.{Missing}
 use Rattle.sv_text.specs.Gives.{Gives}
@@ -110,6 +110,7 @@ ends (Start code context) report old new are h = rw h refl
 ends (Socket found) report old new are h = rw h refl
 ends (Script at) report old new are h = rw h refl
 ends (User shown) report old new are h = rw h refl
+ends (Role shown) report old new are h = rw h refl
 ends (Method shown) report old new are h = rw h refl
 ends (Refused refusal) report old new are h = rw h refl
 ends NoMemory report old new are h = tt
@@ -154,6 +155,7 @@ late Unwritten report (Err (Start code context)) old new is = absurd is
 late Unwritten report (Err (Socket found)) old new is = absurd is
 late Unwritten report (Err (Script at)) old new is = absurd is
 late Unwritten report (Err (User shown)) old new is = absurd is
+late Unwritten report (Err (Role shown)) old new is = absurd is
 late Unwritten report (Err (Method shown)) old new is = absurd is
 late Unwritten report (Err (Refused refusal)) old new is = absurd is
 late Unwritten report (Err NoMemory) old new is = absurd is

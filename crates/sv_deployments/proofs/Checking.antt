@@ -8,7 +8,7 @@ use Rattle.sv_realm.specs.declared.account.User.{User}
 use Rattle.sv_program.specs.CommandFault.{command_fault, status_of}
 use Rattle.sv_program.specs.Configuration.{Step, descriptor_in, each, users_in}
 use Rattle.sv_program.specs.declared.command_fault.CommandFault.{CommandFault}
-use Rattle.sv_program.specs.declared.command_fault.CommandFault.TheVariants.{Input, Output, File as FileFault, Folder, Server, Descriptor, Users, Class, Files, Start, Socket, Script, User as UserFault, Method, Refused, NoMemory, Findings, Faults}
+use Rattle.sv_program.specs.declared.command_fault.CommandFault.TheVariants.{Input, Output, File as FileFault, Folder, Server, Descriptor, Users, Class, Files, Start, Socket, Script, User as UserFault, Role, Method, Refused, NoMemory, Findings, Faults}
 use Rattle.sv_program.specs.declared.configuration.ContextTexts.{ContextTexts}
 use Rattle.sv_deployments.specs.Check.{FindsFirstFault, checked_server, class_fault_of, context_faults, counts_in, counts_of, fault_of, total_bytes}
 use Rattle.sv_deployments.specs.Counted.{AreTaken, AreTakenBy, IsAdded, IsNoMemory, IsTaken, app_counts, checked_app, classes_in, counts_for, faults_for, file_counts, joined, user_count}
@@ -38,6 +38,7 @@ is_no_memory (Start code context) = refl
 is_no_memory (Socket found) = refl
 is_no_memory (Script line) = refl
 is_no_memory (UserFault shown) = refl
+is_no_memory (Role shown) = refl
 is_no_memory (Method shown) = refl
 is_no_memory (Refused refusal) = refl
 is_no_memory NoMemory = refl

@@ -4,7 +4,7 @@ use Rattle.sv_program.specs.CommandFault.{command_fault}
 use Rattle.sv_program.specs.Configuration.{Step}
 use Rattle.sv_program.specs.Printed.{EndsBy, FindsText, Printing, Prints}
 use Rattle.sv_program.specs.declared.command_fault.CommandFault.{CommandFault}
-use Rattle.sv_program.specs.declared.command_fault.CommandFault.TheVariants.{Input, Output, File, Folder, Server, Descriptor, Users, Class, Files, Start, Socket, Script, User, Method, Refused, NoMemory, Findings, Faults}
+use Rattle.sv_program.specs.declared.command_fault.CommandFault.TheVariants.{Input, Output, File, Folder, Server, Descriptor, Users, Class, Files, Start, Socket, Script, User, Role, Method, Refused, NoMemory, Findings, Faults}
 use Rattle.sv_program.proofs.Faults.{FaultsAreAsked}
 
 -- a fault of the text ends the run
@@ -23,6 +23,7 @@ ends (Start code context) text old asked h = h
 ends (Socket found) text old asked h = h
 ends (Script at) text old asked h = h
 ends (User shown) text old asked h = h
+ends (Role shown) text old asked h = h
 ends (Method shown) text old asked h = h
 ends (Refused refusal) text old asked h = h
 ends NoMemory text old asked h = tt

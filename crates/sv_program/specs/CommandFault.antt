@@ -9,7 +9,7 @@ use Rattle.sv_files.specs.Fault.{fault_number as files_number}
 use Rattle.sv_uri.specs.ContextPath.{shown_context}
 use Rattle.sv_program.specs.Shown.{printed_key}
 use Rattle.sv_program.specs.declared.command_fault.CommandFault.{CommandFault}
-use Rattle.sv_program.specs.declared.command_fault.CommandFault.TheVariants.{Input, Output, File, Folder, Server, Descriptor, Users, Class, Files, Start, Socket, Script, User, Method, Refused, NoMemory, Findings, Faults}
+use Rattle.sv_program.specs.declared.command_fault.CommandFault.TheVariants.{Input, Output, File, Folder, Server, Descriptor, Users, Class, Files, Start, Socket, Script, User, Role, Method, Refused, NoMemory, Findings, Faults}
 
 -- the key of the fault in a configuration file, or `-` if the fault concerns the whole text or the key is empty
 abbrev pub key_text : List ℕ → List ℕ
@@ -34,6 +34,7 @@ fault_line (Start code context) = codes "sv: start " ++ decimal (new_code_number
 fault_line (Socket found) = codes "sv: socket"
 fault_line (Script line) = codes "sv: script " ++ decimal line
 fault_line (User shown) = codes "sv: user"
+fault_line (Role shown) = codes "sv: role"
 fault_line (Method shown) = codes "sv: method"
 fault_line (Refused refusal) = codes "sv: refused"
 fault_line NoMemory = codes "sv: no memory"
@@ -55,6 +56,7 @@ status_of (Start code context) = 1
 status_of (Socket found) = 1
 status_of (Script line) = 2
 status_of (User shown) = 2
+status_of (Role shown) = 2
 status_of (Method shown) = 2
 status_of (Refused refusal) = 1
 status_of NoMemory = 3

@@ -97,5 +97,6 @@ detail_text (detail.Address address why) = codes "  " ++ socket_text address ++ 
 detail_text (detail.Component place) = codes "  " ++ place_text place ++ codes " of its descriptor: init failed"
 detail_text (detail.Classes place classes) = codes "  " ++ (place.now ++ (codes ": the program has " ++ classes.now))
 detail_text (detail.User shown) = codes "  the context has no user " ++ shown.now
+detail_text (detail.Role shown) = codes "  no context knows the role " ++ shown.now
 detail_text (detail.Method shown) = codes "  the method is not a token: " ++ shown.now
 detail_text (detail.Sentence sentence) = codes "  " ++ sentence.now

@@ -68,6 +68,7 @@ IsFaultDetail (fault.Start code context) given = Says (start_reason code) given
 IsFaultDetail (fault.Socket found) given = Says (socket_reason found) given
 IsFaultDetail (fault.Script line) given = Says (codes "the line is malformed, or the container refuses what it requests") given
 IsFaultDetail (fault.User shown) given = Says (codes "the context has no user " ++ shown) given
+IsFaultDetail (fault.Role shown) given = Says (codes "no context knows the role " ++ shown) given
 IsFaultDetail (fault.Method shown) given = Says (codes "the method is not a token: " ++ shown) given
 IsFaultDetail (fault.Refused refusal) given = Says (refusal_text refusal) given
 IsFaultDetail fault.Input given = Says (codes "standard input cannot be read") given

@@ -89,6 +89,8 @@ pub enum CommandFault {
     },
     /// The context has no user of this name: `sv: user`, status 2. The name is a TOML basic string.
     User(Text),
+    /// No context knows the role of this name: `sv: role`, status 2. The name is a TOML basic string.
+    Role(Text),
     /// The text is not a method: `sv: method`, status 2. It is a TOML basic string.
     Method(Text),
     /// A server at a control socket did not do what it was asked for: `sv: refused`, status 1.
@@ -120,7 +122,10 @@ impl CommandFault {
             | CommandFault::Socket(_)
             | CommandFault::Refused(_)
             | CommandFault::Faults(_) => 1,
-            CommandFault::Script { .. } | CommandFault::User(_) | CommandFault::Method(_) => 2,
+            CommandFault::Script { .. }
+            | CommandFault::User(_)
+            | CommandFault::Role(_)
+            | CommandFault::Method(_) => 2,
             CommandFault::NoMemory => 3,
             CommandFault::Findings(_) => 4,
         }
@@ -151,6 +156,7 @@ impl CommandFault {
             CommandFault::Socket(fault) => Some(socket_detail(*fault)),
             CommandFault::Script { .. } => Some(Detail::Sentence(SCRIPT_REASON)),
             CommandFault::User(shown) => Some(Detail::User(shown.as_str())),
+            CommandFault::Role(shown) => Some(Detail::Role(shown.as_str())),
             CommandFault::Method(shown) => Some(Detail::Method(shown.as_str())),
             CommandFault::Refused(refusal) => Some(Detail::Sentence(refusal.text())),
             CommandFault::Input => Some(Detail::Sentence(INPUT_REASON)),
@@ -231,6 +237,7 @@ impl CommandFault {
                 end: LineEnd::Number(*line),
             },
             CommandFault::User(_) => plain("sv: user"),
+            CommandFault::Role(_) => plain("sv: role"),
             CommandFault::Method(_) => plain("sv: method"),
             CommandFault::Refused(_) => plain("sv: refused"),
             CommandFault::NoMemory => plain("sv: no memory"),

@@ -34,6 +34,8 @@ pub enum Detail<'a> {
     Classes(&'a str, &'a str),
     /// The context has no such user. The name is a TOML basic string.
     User(&'a str),
+    /// No context knows such a role. The name is a TOML basic string.
+    Role(&'a str),
     /// The text is not a method. It is a TOML basic string.
     Method(&'a str),
     /// A sentence.
@@ -61,6 +63,7 @@ impl fmt::Display for Detail<'_> {
             ),
             Detail::Classes(place, classes) => write!(f, "  {place}: the program has {classes}"),
             Detail::User(shown) => write!(f, "  the context has no user {shown}"),
+            Detail::Role(shown) => write!(f, "  no context knows the role {shown}"),
             Detail::Method(shown) => write!(f, "  the method is not a token: {shown}"),
             Detail::Sentence(sentence) => write!(f, "  {sentence}"),
         }
