@@ -38,6 +38,7 @@ ROWS: list[tuple[str, str, Optional[Try]]] = [
     ("server", "proxy_max_temp_file_size", trials.try_disk),
     ("server", "proxy_buffer", trials.try_long_targets),
     ("server", "proxy_cache off", trials.try_cache),
+    ("server", "recursive_error_pages", trials.try_pages),
     ("location / ", "proxy_pass ", trials.try_strangers),
     ("location / ", "proxy_pass_request_body", hostile.try_smuggling),
     ("location / ", "proxy_set_header Content-Length", trials.try_bodies),

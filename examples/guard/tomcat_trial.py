@@ -32,6 +32,15 @@ CONTEXT = """<Context docBase="{place}"><Resources allowLinking="true">
 <PostResources className="org.apache.catalina.webresources.DirResourceSet" base="{here}/tomcat/trial" webAppMount="/trial"/>
 </Resources></Context>
 """
+# Paths that Tomcat takes for the protected page, and what a stranger gets at each: the page for the login, or a refusal.
+READ_AS_PROTECTED = {
+    "/examples/jsp/security;a=b/protected;c/index.jsp": 200,
+    "/examples/jsp/%73ecurity/protected/index%2Ejsp": 200,
+    "/examples/jsp//security/./x/../protected/index.jsp": 200,
+    "/x/../examples/jsp/security/protected/index.jsp": 200,
+    "/examples/jsp/x/..;/security/protected/index.jsp": 400,
+    "/examples/jsp/x/%2e%2e/security/protected/index.jsp": 400,
+}
 TRIAL = "/examples/trial"
 SHOWN = "user={} owner={} scheme={} address={}\n"
 # A page of the trial that needs TLS, by the words of its descriptor.
@@ -213,6 +222,17 @@ def see_root(port: int, direct: Direct) -> None:
             see(f"Tomcat, {method} {target}", (came.status, came.field("location")), wanted)
 
 
+def see_paths(port: int, direct: Direct) -> None:
+    """Sees that no path that Tomcat reads as that of the protected page is open."""
+    ann = {"X_Application_Caller": "ann", "X_Application_Roles": "tomcat"}
+    for target, status in READ_AS_PROTECTED.items():
+        with direct.asked("GET", target, **ann) as it:
+            see(f"Tomcat, {target} for ann", "<b>ann</b>" in it.read().decode(), True)
+        came = Visitor(port, "127.0.0.8").get(target)
+        see(f"Tomcat, {target} for a stranger", came.status, status)
+        see("Tomcat, its page", "<h1>Log in</h1>" in came.text, status == 200)
+
+
 def see_log_out(folder: Path, port: int) -> None:
     """Sees that a session ends at the path that nginx.conf names."""
     ann = Visitor(port, "127.0.0.6")
@@ -267,6 +287,7 @@ def try_tomcat(program: str, room: str) -> None:
             see_threads(guard_port)
             see_early(direct)
             see_root(guard_port, direct)
+            see_paths(guard_port, direct)
             see_log_out(folder, guard_port)
         keys = f"{room}/keys"
         with nginx(folder, it, *[line.replace("KEYS", keys) for line in TLS]) as guard_port:

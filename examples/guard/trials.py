@@ -196,12 +196,15 @@ def try_cookies(trial: Trial) -> None:
     see("the application's cookie", answer.field("set-cookie"), "own=2")
 
 
-# Conditions by which nginx answers 304 or 412 in place of a page of its own.
+# Conditions by which nginx would answer 304 or 412 in place of a page of its own, or which the page would meet.
 CONDITIONS = [
     ("If-None-Match", "*"),
     ("If-Match", '"one"'),
     ("If-Match", "*"),
+    ("If-Match", ""),
     ("If-Unmodified-Since", "Thu, 01 Jan 1970 00:00:00 GMT"),
+    ("If-Unmodified-Since", "Thu, 31 Dec 2099 23:59:59 GMT"),
+    ("If-Unmodified-Since", ""),
 ]
 # Fields that an application may trust. Those with an empty text do not arrive.
 REPLACED = {
