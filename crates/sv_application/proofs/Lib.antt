@@ -1,3 +1,4 @@
 pub mod NameLemmas
 pub mod CookieLemmas
 pub mod SettingLemmas
+pub mod ProxyFields

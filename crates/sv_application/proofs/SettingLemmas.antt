@@ -1,6 +1,6 @@
 -- Calls that are made in order, up to the first that is refused.
 use Rattle.std.proofs.Common.{◌≡◌, Bool, List, [], ◌∷◌, ◌++◌, Option, Some, None, refl, ap, sym, subst, ◌∙◌, append_assoc}
-use Rattle.std.specs.Prelude.{MatchOption, OnErr, OnOk, Result, Ok, Err}
+use Rattle.std.specs.Prelude.{IfErr, IfSome, MatchOption, OnOk, Result, Ok, Err}
 use Rattle.std.specs.Result.{IsErrAnd}
 use Rattle.sv_exchange.specs.Changing.{Change, Does, after_all, answer, left_by}
 use Rattle.sv_exchange.specs.State.{State}
@@ -51,16 +51,31 @@ refuses change faults.NoMemory before after does = tt
 refuses change faults.BadHeader before after does = ap (λ said. said >>= (λ _. Ok tt)) does.0
 refuses change faults.TooLarge before after does = ap (λ said. said >>= (λ _. Ok tt)) does.0
 
--- of calls of which the first is refused, none is made
-pub first_refused : (change : Change) (others : List Change) (before after : State) → after ≡ before → IsCut (change ∷ others) before after
-first_refused change others before after same = record { made = []; next = change; others = others; are = refl; left = same }
+-- a call that is refused answers with its fault, unless memory ran out
+answers : (change : Change) (fault : ExchangeFault) (before after : State) → Does change (Err fault) before after
+    → IfSome (call_fault fault) (λ its. answer change after ≡ Err its)
+answers change faults.Committed before after does = ap (answer change) does.1 ∙ does.0
+answers change faults.TooManySessions before after does = ap (answer change) does.1 ∙ does.0
+answers change faults.SerialSpent before after does = ap (answer change) does.1 ∙ does.0
+answers change faults.NoSession before after does = ap (answer change) does.1 ∙ does.0
+answers change faults.NoMemory before after does = tt
+answers change faults.BadHeader before after does = ap (answer change) does.1 ∙ does.0
+answers change faults.TooLarge before after does = ap (answer change) does.1 ∙ does.0
 
 pub one_refused : (change : Change) (fault : ExchangeFault) (before after : State) → Does change (Err fault) before after
     → Makes (change ∷ []) before (Err fault) after
 one_refused change fault before after does = record {
   all = tt;
   refusal = refuses change fault before after does;
-  cut = first_refused change [] before after (stays change fault before after does);
+  cut = record {
+    made = [];
+    next = change;
+    others = [];
+    are = refl;
+    answered = refl;
+    left = stays change fault before after does;
+    refused = answers change fault before after does;
+  };
 }
 
 -- ---- some, and then others
@@ -82,32 +97,45 @@ first_of_both (change ∷ first) second x =
     ap (λ rest. answer change x >>= (λ _. rest)) (first_of_both first second y)
     ∙ in_order (answer change x) (first_answer first y) (first_answer second (after_all first y))
 
-cut_later : (first second : List Change) (before middle after : State) → middle ≡ after_all first before → IsCut second middle after
-    → IsCut (first ++ second) before after
-cut_later first second before middle after reached cut = record {
+-- if none of the first calls is refused, and none of those after them, none of both is
+none_refused : (first second : List Change) (before middle : State) → first_answer first before ≡ Ok tt → middle ≡ after_all first before
+    → first_answer second middle ≡ Ok tt → first_answer (first ++ second) before ≡ Ok tt
+none_refused first second before middle passed reached is =
+    first_of_both first second before ∙ ap (λ said. said >> first_answer second (after_all first before)) passed
+    ∙ (ap (first_answer second) (sym reached) ∙ is)
+
+cut_later : (first second : List Change) (fault : ExchangeFault) (before middle after : State) → first_answer first before ≡ Ok tt
+    → middle ≡ after_all first before → IsCut second fault middle after → IsCut (first ++ second) fault before after
+cut_later first second fault before middle after passed reached cut = record {
   made = first ++ cut.made;
   next = cut.next;
   others = cut.others;
   are = ap (λ later. first ++ later) cut.are ∙ sym (append_assoc first cut.made (cut.next ∷ cut.others));
+  answered = none_refused first cut.made before middle passed reached cut.answered;
   left = cut.left ∙ ap (after_all cut.made) reached ∙ sym (after_both first cut.made before);
+  refused = cut.refused;
 }
 
-cut_sooner : (first second : List Change) (before after : State) → IsCut first before after → IsCut (first ++ second) before after
-cut_sooner first second before after cut = record {
+cut_sooner : (first second : List Change) (fault : ExchangeFault) (before after : State) → IsCut first fault before after
+    → IsCut (first ++ second) fault before after
+cut_sooner first second fault before after cut = record {
   made = cut.made;
   next = cut.next;
   others = cut.others ++ second;
   are = ap (λ sooner. sooner ++ second) cut.are ∙ append_assoc cut.made (cut.next ∷ cut.others) second;
+  answered = cut.answered;
   left = cut.left;
+  refused = cut.refused;
 }
 
 on_ok : {P Q : Type 0} (done : Result (Unit {0}) ExchangeFault) → (P → Q) → OnOk done P → OnOk done Q
 on_ok (Ok value) both is = both is
 on_ok (Err fault) both is = tt
 
-on_err : {P Q : Type 0} (done : Result (Unit {0}) ExchangeFault) → (P → Q) → OnErr done P → OnErr done Q
-on_err (Ok value) both is = tt
-on_err (Err fault) both is = both is
+if_err : {P Q : ExchangeFault → Type 0} (done : Result (Unit {0}) ExchangeFault) → ((fault : ExchangeFault) → P fault → Q fault)
+    → IfErr done P → IfErr done Q
+if_err (Ok value) both is = tt
+if_err (Err fault) both is = both fault is
 
 pub then_made : (first second : List Change) (before middle after : State) (passed done : Result (Unit {0}) ExchangeFault) (value : Unit {0})
     → passed ≡ Ok value → Makes first before passed middle → Makes second middle done after → Makes (first ++ second) before done after
@@ -119,7 +147,8 @@ then_made first second before middle after passed done value is one two =
       refusal = subst (Gives call_fault done)
           (sym (first_of_both first second before ∙ ap (λ said. said >> first_answer second (after_all first before)) made.refusal))
           (subst (λ it. Gives call_fault done (first_answer second it)) made.all two.refusal);
-      cut = on_err done (cut_later first second before middle after made.all) two.cut;
+      cut = if_err done
+          (λ fault (cut : IsCut second fault middle after). cut_later first second fault before middle after made.refusal made.all cut) two.cut;
     }
 
 refused_first : (fault : ExchangeFault) (first second : Result (Unit {0}) ExchangeFault)
@@ -136,5 +165,5 @@ then_none first second fault before after one = record {
   all = tt;
   refusal = subst (Gives call_fault (refusal fault)) (sym (first_of_both first second before))
       (refused_first fault (first_answer first before) (first_answer second (after_all first before)) one.refusal);
-  cut = cut_sooner first second before after one.cut;
+  cut = cut_sooner first second fault before after one.cut;
 }

@@ -1,6 +1,6 @@
 -- Requests that are handed over to an application behind a proxy, by fields of the response. nginx sends a request on
 -- to the location that `x-accel-redirect` names.
-use Rattle.std.specs.Prelude.{◌≡◌, ℕ, List, [], ◌∷◌, ◌++◌, codes, OnErr, OnOk, Option, None, Some, Result, Ok}
+use Rattle.std.specs.Prelude.{◌≡◌, ℕ, List, [], ◌∷◌, ◌++◌, codes, IfErr, IfSome, OnOk, Option, None, Some, Result, Ok, Err}
 use Rattle.std.specs.Option.{option_map}
 use Rattle.sv_application.specs.Cookies.{cookies_text, other_cookies}
 use Rattle.sv_application.specs.Names.{encoded_name, roles_text}
@@ -73,19 +73,22 @@ abbrev pub call_fault : ExchangeFault → Option ExchangeFault
 call_fault faults.NoMemory = None
 call_fault fault = Some fault
 
--- only a part of the calls was made, and not the last
-pub record IsCut (changes : List Change) (before after : State) : Type 0 where
+-- the calls before one of them were made and not refused, and that one is the first that is refused, with this fault; or
+-- memory ran out before it
+pub record IsCut (changes : List Change) (fault : ExchangeFault) (before after : State) : Type 0 where
   pub made : List Change
   pub next : Change
   pub others : List Change
   pub are : changes ≡ made ++ next ∷ others
+  pub answered : first_answer made before ≡ Ok tt
   pub left : after ≡ after_all made before
+  pub refused : IfSome (call_fault fault) (λ its. answer next after ≡ Err its)
 
 -- the calls were made in order, up to the first that was refused
 pub record Makes (changes : List Change) (before : State) (done : Result (Unit {0}) ExchangeFault) (after : State) : Type 0 where
   pub all : OnOk done (after ≡ after_all changes before)
   pub refusal : Gives call_fault done (first_answer changes before)
-  pub cut : OnErr done (IsCut changes before after)
+  pub cut : IfErr done (λ fault. IsCut changes fault before after)
 
 -- the request of the exchange is handed over to the application at the internal location
 abbrev pub HandsOver : List ℕ → State → Result (Unit {0}) ExchangeFault → State → Type 0

@@ -8,3 +8,4 @@ pub mod TotalBytes
 pub mod Finding
 mod FolderReadings
 mod InTurn
+pub mod Leaving

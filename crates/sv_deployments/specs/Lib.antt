@@ -4,6 +4,7 @@ pub mod ClassFault
 pub mod ComponentPlace
 pub mod FilesFault
 pub mod FilterClasses
+pub mod Leaving
 pub mod ListenerClasses
 pub mod Parts
 pub mod Results

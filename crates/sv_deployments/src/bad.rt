@@ -16,6 +16,10 @@ impl Bad {
 }
 
 impl Filter for Bad {
+    ghost use Rattle.sv_deployments.specs.Leaving.{CallLeavesBoth};
+
+    ghost filter_step = { λ _ call _. CallLeavesBoth call };
+
     fn init(&mut self, _alloc: Global, _config: &Config) -> Init {
         Init::Failed
     }

@@ -1,5 +1,6 @@
 //! A servlet that ends the session.
 
+ghost use Rattle.sv_deployments.specs.Leaving.{LeavesFields};
 ghost use Rattle.sv_exchange.specs.Changing.{Reaches};
 
 use crate::plain::{done, unless_refused, write_plain};
@@ -19,6 +20,10 @@ impl Bye {
 }
 
 impl Servlet for Bye {
+    ghost use Rattle.sv_deployments.specs.Leaving.{CallLeavesFields};
+
+    ghost servlet_step = { λ _ call _. CallLeavesFields call };
+
     fn init(&mut self, _alloc: Global, _config: &Config) -> Init {
         Init::Ready
     }
@@ -31,8 +36,16 @@ impl Servlet for Bye {
 }
 
 fn end_session(exchange: &mut Exchange) -> Result<(), NoMemory>
-    ensures { Reaches exchange.old exchange.new }
+    ensures fields { LeavesFields exchange.old exchange.new }
+    ensures reached { Reaches exchange.old exchange.new }
 {
-    unless_refused(exchange.session_end())?;
+    drop_session(exchange)?;
     write_plain(exchange, b"bye\n")
+}
+
+fn drop_session(exchange: &mut Exchange) -> Result<(), NoMemory>
+    ensures fields { LeavesFields exchange.old exchange.new }
+    ensures reached { Reaches exchange.old exchange.new }
+{
+    unless_refused(exchange.session_end())
 }

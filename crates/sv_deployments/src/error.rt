@@ -23,6 +23,10 @@ impl ErrorCode {
 }
 
 impl Servlet for ErrorCode {
+    ghost use Rattle.sv_deployments.specs.Leaving.{CallLeavesBoth};
+
+    ghost servlet_step = { λ _ call _. CallLeavesBoth call };
+
     fn init(&mut self, _alloc: Global, config: &Config) -> Init {
         let code = number(config.param("code").unwrap_or(""));
         self.code = u16::try_from(code).unwrap_or(0);

@@ -30,6 +30,10 @@ impl Fail {
 }
 
 impl Servlet for Fail {
+    ghost use Rattle.sv_deployments.specs.Leaving.{CallLeavesBoth};
+
+    ghost servlet_step = { λ _ call _. CallLeavesBoth call };
+
     fn init(&mut self, alloc: Global, config: &Config) -> Init {
         keep_parameter(alloc, config, "kind", &mut self.kind)
     }

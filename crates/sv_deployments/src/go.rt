@@ -25,6 +25,10 @@ impl Go {
 }
 
 impl Servlet for Go {
+    ghost use Rattle.sv_deployments.specs.Leaving.{CallLeavesBoth};
+
+    ghost servlet_step = { λ _ call _. CallLeavesBoth call };
+
     fn init(&mut self, alloc: Global, config: &Config) -> Init {
         keep_parameter(alloc, config, "path", &mut self.path)
     }

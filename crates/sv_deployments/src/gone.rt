@@ -22,6 +22,10 @@ impl Gone {
 }
 
 impl Servlet for Gone {
+    ghost use Rattle.sv_deployments.specs.Leaving.{CallLeavesBoth};
+
+    ghost servlet_step = { λ _ call _. CallLeavesBoth call };
+
     fn init(&mut self, _alloc: Global, config: &Config) -> Init {
         self.seconds = seconds(config.param("seconds").unwrap_or(""));
         Init::Ready

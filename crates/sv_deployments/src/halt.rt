@@ -17,6 +17,10 @@ impl Halt {
 }
 
 impl Filter for Halt {
+    ghost use Rattle.sv_deployments.specs.Leaving.{CallLeavesBoth};
+
+    ghost filter_step = { λ _ call _. CallLeavesBoth call };
+
     fn init(&mut self, _alloc: Global, _config: &Config) -> Init {
         Init::Ready
     }

@@ -1,9 +1,10 @@
 //! A servlet that counts in the session.
 
+ghost use Rattle.sv_deployments.specs.Leaving.{LeavesCaller, LeavesFields};
 ghost use Rattle.sv_exchange.specs.Changing.{Reaches};
 
 use crate::parameter::number;
-use crate::plain::{done, set_plain, unless_refused};
+use crate::plain::{done, set_plain, unless_refused, write};
 use std::alloc::Global;
 use sv_component::{Config, Exchange, ExchangeFault, Init, Servlet, Step};
 use sv_text::{NoMemory, Text};
@@ -21,12 +22,16 @@ impl Keep {
 }
 
 impl Servlet for Keep {
+    ghost use Rattle.sv_deployments.specs.Leaving.{CallLeavesBoth};
+
+    ghost servlet_step = { λ _ call _. CallLeavesBoth call };
+
     fn init(&mut self, _alloc: Global, _config: &Config) -> Init {
         Init::Ready
     }
 
     fn service(&mut self, alloc: Global, exchange: &mut Exchange, _turn: u32) -> Step {
-        match exchange.session_open() {
+        match open_session(exchange) {
             Ok(_) => done(count(alloc, exchange)),
             Err(ExchangeFault::NoMemory) => Step::NoMemory,
             Err(_) => full(alloc),
@@ -44,12 +49,30 @@ fn full(alloc: Global) -> Step {
 }
 
 fn count(alloc: Global, exchange: &mut Exchange) -> Result<(), NoMemory>
-    ensures { Reaches exchange.old exchange.new }
+    ensures fields { LeavesFields exchange.old exchange.new }
+    ensures caller { LeavesCaller exchange.old exchange.new }
+    ensures reached { Reaches exchange.old exchange.new }
 {
     let count = number(exchange.session_get("n").unwrap_or("")).saturating_add(1);
     set_plain(exchange)?;
     let value = format!(in alloc; "{count}")?;
-    unless_refused(exchange.session_set("n", value.as_str()))?;
+    set_count(exchange, value.as_str())?;
     let line = format!(in alloc; "n={count}\n")?;
-    unless_refused(exchange.write(line.as_bytes()))
+    write(exchange, line.as_bytes())
+}
+
+fn open_session(exchange: &mut Exchange) -> Result<bool, ExchangeFault>
+    ensures fields { LeavesFields exchange.old exchange.new }
+    ensures caller { LeavesCaller exchange.old exchange.new }
+    ensures reached { Reaches exchange.old exchange.new }
+{
+    exchange.session_open()
+}
+
+fn set_count(exchange: &mut Exchange, count: &str) -> Result<(), NoMemory>
+    ensures fields { LeavesFields exchange.old exchange.new }
+    ensures caller { LeavesCaller exchange.old exchange.new }
+    ensures reached { Reaches exchange.old exchange.new }
+{
+    unless_refused(exchange.session_set("n", count))
 }

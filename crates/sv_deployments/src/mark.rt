@@ -1,6 +1,8 @@
 //! A filter that adds its name to the response.
 
 ghost use Rattle.std.specs.Prelude.{◌≡◌, []};
+ghost use Rattle.sv_deployments.specs.Leaving.{LeavesCaller, LeavesFields};
+ghost use Rattle.sv_exchange.specs.Changing.{Reaches};
 
 use crate::plain::unless_refused;
 use std::alloc::Global;
@@ -26,6 +28,10 @@ impl Mark {
 }
 
 impl Filter for Mark {
+    ghost use Rattle.sv_deployments.specs.Leaving.{CallLeavesBoth};
+
+    ghost filter_step = { λ _ call _. CallLeavesBoth call };
+
     fn init(&mut self, alloc: Global, config: &Config) -> Init {
         match Text::copy_of(alloc, config.name.as_str()) {
             Ok(name) => {
@@ -37,7 +43,7 @@ impl Filter for Mark {
     }
 
     fn before(&mut self, _alloc: Global, exchange: &mut Exchange) -> Gate {
-        match unless_refused(exchange.add_header("x-mark", self.name.as_str())) {
+        match add_mark(exchange, self.name.as_str()) {
             Ok(()) => Gate::Pass,
             Err(_) => Gate::NoMemory,
         }
@@ -48,4 +54,12 @@ impl Filter for Mark {
     }
 
     fn destroy(&mut self) {}
+}
+
+fn add_mark(exchange: &mut Exchange, name: &str) -> Result<(), NoMemory>
+    ensures fields { LeavesFields exchange.old exchange.new }
+    ensures caller { LeavesCaller exchange.old exchange.new }
+    ensures reached { Reaches exchange.old exchange.new }
+{
+    unless_refused(exchange.add_header("x-mark", name))
 }

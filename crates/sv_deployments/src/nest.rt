@@ -1,10 +1,11 @@
 //! A servlet that includes a path.
 
 ghost use Rattle.std.specs.Prelude.{◌≡◌, []};
+ghost use Rattle.sv_deployments.specs.Leaving.{LeavesCaller, LeavesFields};
 ghost use Rattle.sv_exchange.specs.Changing.{Reaches};
 
 use crate::parameter::{keep_parameter, no_text};
-use crate::plain::{done, unless_refused, write_plain};
+use crate::plain::{done, unless_refused, write, write_plain};
 use std::alloc::Global;
 use sv_component::{Config, Exchange, Init, Servlet, Step};
 use sv_mapping::Kind;
@@ -32,7 +33,9 @@ impl Nest {
 
     // Writes the first line and requests the include.
     fn include(&self, alloc: Global, exchange: &mut Exchange) -> Result<Step, NoMemory>
-        ensures { Reaches exchange.old exchange.new }
+        ensures fields { LeavesFields exchange.old exchange.new }
+        ensures caller { LeavesCaller exchange.old exchange.new }
+        ensures reached { Reaches exchange.old exchange.new }
     {
         let line = format!(in alloc; "a{}\n", self.calls)?;
         write_plain(exchange, line.as_bytes())?;
@@ -41,6 +44,10 @@ impl Nest {
 }
 
 impl Servlet for Nest {
+    ghost use Rattle.sv_deployments.specs.Leaving.{CallLeavesBoth};
+
+    ghost servlet_step = { λ _ call _. CallLeavesBoth call };
+
     fn init(&mut self, alloc: Global, config: &Config) -> Init {
         keep_parameter(alloc, config, "path", &mut self.path)
     }
@@ -63,10 +70,20 @@ impl Servlet for Nest {
 }
 
 fn write_included(alloc: Global, exchange: &mut Exchange, calls: u64) -> Result<(), NoMemory>
-    ensures { Reaches exchange.old exchange.new }
+    ensures fields { LeavesFields exchange.old exchange.new }
+    ensures caller { LeavesCaller exchange.old exchange.new }
+    ensures reached { Reaches exchange.old exchange.new }
 {
-    unless_refused(exchange.set_header("x-in", "1"))?;
+    set_included(exchange)?;
     write_line(alloc, exchange, "b", calls)
+}
+
+fn set_included(exchange: &mut Exchange) -> Result<(), NoMemory>
+    ensures fields { LeavesFields exchange.old exchange.new }
+    ensures caller { LeavesCaller exchange.old exchange.new }
+    ensures reached { Reaches exchange.old exchange.new }
+{
+    unless_refused(exchange.set_header("x-in", "1"))
 }
 
 fn write_line(
@@ -75,8 +92,10 @@ fn write_line(
     word: &str,
     calls: u64,
 ) -> Result<(), NoMemory>
-    ensures { Reaches exchange.old exchange.new }
+    ensures fields { LeavesFields exchange.old exchange.new }
+    ensures caller { LeavesCaller exchange.old exchange.new }
+    ensures reached { Reaches exchange.old exchange.new }
 {
     let line = format!(in alloc; "{word}{calls}\n")?;
-    unless_refused(exchange.write(line.as_bytes()))
+    write(exchange, line.as_bytes())
 }

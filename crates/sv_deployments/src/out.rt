@@ -1,8 +1,9 @@
 //! A servlet that logs the caller out.
 
+ghost use Rattle.sv_deployments.specs.Leaving.{LeavesFields};
 ghost use Rattle.sv_exchange.specs.Changing.{Reaches};
 
-use crate::plain::{done, unless_refused, write_plain};
+use crate::plain::{done, drop_caller, write_plain};
 use std::alloc::Global;
 use sv_component::{Config, Exchange, Init, Servlet, Step};
 use sv_text::NoMemory;
@@ -19,6 +20,10 @@ impl Out {
 }
 
 impl Servlet for Out {
+    ghost use Rattle.sv_deployments.specs.Leaving.{CallLeavesFields};
+
+    ghost servlet_step = { λ _ call _. CallLeavesFields call };
+
     fn init(&mut self, _alloc: Global, _config: &Config) -> Init {
         Init::Ready
     }
@@ -31,8 +36,9 @@ impl Servlet for Out {
 }
 
 fn log_out(exchange: &mut Exchange) -> Result<(), NoMemory>
-    ensures { Reaches exchange.old exchange.new }
+    ensures fields { LeavesFields exchange.old exchange.new }
+    ensures reached { Reaches exchange.old exchange.new }
 {
-    unless_refused(exchange.logout())?;
+    drop_caller(exchange)?;
     write_plain(exchange, b"out\n")
 }

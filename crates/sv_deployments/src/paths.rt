@@ -1,5 +1,6 @@
 //! A servlet that writes its paths.
 
+ghost use Rattle.sv_deployments.specs.Leaving.{LeavesCaller, LeavesFields};
 ghost use Rattle.sv_exchange.specs.Changing.{Reaches};
 
 use crate::plain::{done, write_plain};
@@ -19,6 +20,10 @@ impl Paths {
 }
 
 impl Servlet for Paths {
+    ghost use Rattle.sv_deployments.specs.Leaving.{CallLeavesBoth};
+
+    ghost servlet_step = { λ _ call _. CallLeavesBoth call };
+
     fn init(&mut self, _alloc: Global, _config: &Config) -> Init {
         Init::Ready
     }
@@ -31,7 +36,9 @@ impl Servlet for Paths {
 }
 
 fn write_paths(alloc: Global, exchange: &mut Exchange) -> Result<(), NoMemory>
-    ensures { Reaches exchange.old exchange.new }
+    ensures fields { LeavesFields exchange.old exchange.new }
+    ensures caller { LeavesCaller exchange.old exchange.new }
+    ensures reached { Reaches exchange.old exchange.new }
 {
     let servlet = exchange.servlet_path();
     let info = exchange.path_info().unwrap_or("-");

@@ -1,5 +1,6 @@
-//! Plain text responses.
+//! Plain text responses, and calls whose faults are ignored.
 
+ghost use Rattle.sv_deployments.specs.Leaving.{LeavesCaller, LeavesFields};
 ghost use Rattle.sv_exchange.specs.Changing.{Reaches};
 
 use sv_component::{Exchange, ExchangeFault, Step};
@@ -7,7 +8,9 @@ use sv_text::NoMemory;
 
 /// Sets the content type to plain text. Faults of the exchange are ignored, except running out of memory.
 pub(crate) fn set_plain(exchange: &mut Exchange) -> Result<(), NoMemory>
-    ensures { Reaches exchange.old exchange.new }
+    ensures fields { LeavesFields exchange.old exchange.new }
+    ensures caller { LeavesCaller exchange.old exchange.new }
+    ensures reached { Reaches exchange.old exchange.new }
 {
     unless_refused(exchange.set_header("content-type", "text/plain"))
 }
@@ -15,10 +18,29 @@ pub(crate) fn set_plain(exchange: &mut Exchange) -> Result<(), NoMemory>
 /// Sets the content type to plain text and writes the text. Faults of the exchange are ignored, except running out of
 /// memory.
 pub(crate) fn write_plain(exchange: &mut Exchange, text: &[u8]) -> Result<(), NoMemory>
-    ensures { Reaches exchange.old exchange.new }
+    ensures fields { LeavesFields exchange.old exchange.new }
+    ensures caller { LeavesCaller exchange.old exchange.new }
+    ensures reached { Reaches exchange.old exchange.new }
 {
     set_plain(exchange)?;
+    write(exchange, text)
+}
+
+/// Writes the text. Faults of the exchange are ignored, except running out of memory.
+pub(crate) fn write(exchange: &mut Exchange, text: &[u8]) -> Result<(), NoMemory>
+    ensures fields { LeavesFields exchange.old exchange.new }
+    ensures caller { LeavesCaller exchange.old exchange.new }
+    ensures reached { Reaches exchange.old exchange.new }
+{
     unless_refused(exchange.write(text))
+}
+
+/// Logs the caller out, if there is one. Faults of the exchange are ignored, except running out of memory.
+pub(crate) fn drop_caller(exchange: &mut Exchange) -> Result<(), NoMemory>
+    ensures fields { LeavesFields exchange.old exchange.new }
+    ensures reached { Reaches exchange.old exchange.new }
+{
+    unless_refused(exchange.logout())
 }
 
 /// Returns the error of a call that ran out of memory. Any other fault is ignored.

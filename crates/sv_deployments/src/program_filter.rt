@@ -37,6 +37,10 @@ impl ProgramFilter {
 }
 
 impl Filter for ProgramFilter {
+    ghost use Rattle.sv_deployments.specs.FilterClasses.{FilterSteps};
+
+    ghost filter_step = { FilterSteps };
+
     fn init(&mut self, alloc: Global, config: &Config) -> Init {
         match self {
             ProgramFilter::Mark(filter) => filter.init(alloc, config),

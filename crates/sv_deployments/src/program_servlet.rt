@@ -72,6 +72,10 @@ impl ProgramServlet {
 }
 
 impl Servlet for ProgramServlet {
+    ghost use Rattle.sv_deployments.specs.ServletClasses.{ServletSteps};
+
+    ghost servlet_step = { ServletSteps };
+
     fn init(&mut self, alloc: Global, config: &Config) -> Init {
         match self {
             ProgramServlet::Who(servlet) => servlet.init(alloc, config),

@@ -1,10 +1,11 @@
 //! A servlet that sends its response in pieces.
 
 ghost use Rattle.std.specs.Prelude.{◌≡◌, []};
+ghost use Rattle.sv_deployments.specs.Leaving.{LeavesCaller, LeavesFields};
 ghost use Rattle.sv_exchange.specs.Changing.{Reaches};
 
 use crate::parameter::{keep_parameter, no_text};
-use crate::plain::{unless_refused, write_plain};
+use crate::plain::{unless_refused, write, write_plain};
 use std::alloc::Global;
 use sv_component::{Config, Exchange, Init, Servlet, Step};
 use sv_text::{NoMemory, Text};
@@ -36,6 +37,10 @@ impl Stream {
 }
 
 impl Servlet for Stream {
+    ghost use Rattle.sv_deployments.specs.Leaving.{CallLeavesBoth};
+
+    ghost servlet_step = { λ _ call _. CallLeavesBoth call };
+
     fn init(&mut self, alloc: Global, config: &Config) -> Init {
         keep_parameter(alloc, config, "kind", &mut self.kind)
     }
@@ -54,9 +59,19 @@ impl Servlet for Stream {
 }
 
 fn write_in_pieces(exchange: &mut Exchange) -> Result<(), NoMemory>
-    ensures { Reaches exchange.old exchange.new }
+    ensures fields { LeavesFields exchange.old exchange.new }
+    ensures caller { LeavesCaller exchange.old exchange.new }
+    ensures reached { Reaches exchange.old exchange.new }
 {
     write_plain(exchange, b"one\n")?;
-    unless_refused(exchange.flush())?;
-    unless_refused(exchange.write(b"two\n"))
+    flush(exchange)?;
+    write(exchange, b"two\n")
+}
+
+fn flush(exchange: &mut Exchange) -> Result<(), NoMemory>
+    ensures fields { LeavesFields exchange.old exchange.new }
+    ensures caller { LeavesCaller exchange.old exchange.new }
+    ensures reached { Reaches exchange.old exchange.new }
+{
+    unless_refused(exchange.flush())
 }

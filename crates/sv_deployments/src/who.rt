@@ -1,5 +1,6 @@
 //! A servlet that writes the caller's name.
 
+ghost use Rattle.sv_deployments.specs.Leaving.{LeavesCaller, LeavesFields};
 ghost use Rattle.sv_exchange.specs.Changing.{Reaches};
 
 use crate::plain::{done, write_plain};
@@ -22,6 +23,10 @@ impl Who {
 }
 
 impl Servlet for Who {
+    ghost use Rattle.sv_deployments.specs.Leaving.{CallLeavesBoth};
+
+    ghost servlet_step = { λ _ call _. CallLeavesBoth call };
+
     fn init(&mut self, _alloc: Global, _config: &Config) -> Init {
         Init::Ready
     }
@@ -34,7 +39,9 @@ impl Servlet for Who {
 }
 
 fn write_caller(alloc: Global, exchange: &mut Exchange) -> Result<(), NoMemory>
-    ensures { Reaches exchange.old exchange.new }
+    ensures fields { LeavesFields exchange.old exchange.new }
+    ensures caller { LeavesCaller exchange.old exchange.new }
+    ensures reached { Reaches exchange.old exchange.new }
 {
     let line = line_of(alloc, caller_name(exchange))?;
     write_plain(exchange, line.as_bytes())

@@ -13,7 +13,7 @@ use Rattle.sv_exchange.specs.declared.exchange_fault.ExchangeFault.{ExchangeFaul
 use Rattle.sv_exchange.specs.declared.exchange_fault.ExchangeFault.TheVariants as faults
 use Rattle.sv_message.specs.declared.field.Field.{Field}
 use Rattle.sv_text.specs.Steps.{◌>>=◌}
-use Rattle.sv_headline.specs.HandedOver.{ProxyFields, proxy_fields}
+use Rattle.sv_application.specs.ProxyFields.{ProxyFields, proxy_fields}
 use Rattle.sv_headline.proofs.ProxyFields.{caller_set, cookies_set, internal_set, roles_set, target_set}
 
 -- ---- lists
@@ -350,9 +350,9 @@ module _ (own : HandedOver) (Stays : Type 0) (Known : List ℕ → Type 0) where
     before_last (change ∷ first) last (one ∷ made) next others same keep =
         (subst Keeps (head_of same) keep.0, before_last first last made next others (tail_of same) keep.1)
 
-    cut_own : (internal : List ℕ) (x y : State) → IsCut (all_fields request internal) x y → AreOwn (proxy_fields x.fields)
+    cut_own : (internal : List ℕ) (fault : ExchangeFault) (x y : State) → IsCut (all_fields request internal) fault x y → AreOwn (proxy_fields x.fields)
         → AreOwn (proxy_fields y.fields) × (y.caller ≡ x.caller)
-    cut_own internal x y cut are =
+    cut_own internal fault x y cut are =
         let keep = before_last (request_fields request) (SetHeader (codes "x-accel-redirect") internal) cut.made cut.next cut.others cut.are request_keeps in
         let some = some_keep cut.made x keep are in
         (subst (λ (z : State). AreOwn (proxy_fields z.fields)) (sym cut.left) some.0, ap (λ (z : State). z.caller) cut.left ∙ some.1)
@@ -436,4 +436,4 @@ module _ (own : HandedOver) (Stays : Type 0) (Known : List ℕ → Type 0) where
     pub makes_own : (internal : List ℕ) → Known internal → (x y : State) (done : Result (Unit {0}) ExchangeFault)
         → Makes (all_fields request internal) x done y → AreOwn (proxy_fields x.fields) → AreOwn (proxy_fields y.fields) × (y.caller ≡ x.caller)
     makes_own internal known x y (Ok value) makes are = all_made internal known x y makes.all makes.refusal are
-    makes_own internal known x y (Err fault) makes are = cut_own internal x y makes.cut are
+    makes_own internal known x y (Err fault) makes are = cut_own internal fault x y makes.cut are

@@ -30,7 +30,7 @@ use Rattle.sv_tree.specs.Tree.{Tree}
 use Rattle.sv_tree.specs.declared.limits.TheConstants.{MAX_NESTING}
 use Rattle.sv_uri.specs.LocationField.{location}
 use Rattle.sv_uri.specs.declared.path.Canon.{Canon}
-use Rattle.sv_headline.specs.HandedOver.{proxy_fields}
+use Rattle.sv_application.specs.ProxyFields.{proxy_fields}
 use Rattle.sv_headline.proofs.OwnFields.{AreOwn, IsOwnRequest, makes_own, none_are_own}
 use Rattle.sv_headline.proofs.ProxyFields.{own_set}
 

@@ -28,7 +28,8 @@ use Rattle.sv_headline.proofs.HandingOver.{its_caller, its_step}
 use Rattle.sv_headline.proofs.OwnFields.{AreAll, AreOwn, none_are_own}
 use Rattle.sv_headline.proofs.Redirecting.{IsFair, IsOfRequest, Stay, error_stays, page_stays, request_stays, steps}
 use Rattle.sv_headline.proofs.RefutingRuns.{message_of}
-use Rattle.sv_headline.specs.HandedOver.{IsApplicationAt, IsHandingCall, IsOfApplication, IsRedirectOfEntry, HoldsOfOther, OnlyEntriesAreDispatched, OthersLeaveCaller, OthersLeaveFields, RedirectsAreOfEntries, RedirectsInRunsAreOfEntries, StepAsApplications, own_request, proxy_fields}
+use Rattle.sv_application.specs.ProxyFields.{proxy_fields}
+use Rattle.sv_headline.specs.HandedOver.{IsApplicationAt, IsHandingCall, IsOfApplication, IsRedirectOfEntry, HoldsOfOther, OnlyEntriesAreDispatched, OthersLeaveCaller, OthersLeaveFields, RedirectsAreOfEntries, RedirectsInRunsAreOfEntries, StepAsApplications, own_request}
 use Rattle.sv_headline.specs.Message.{IsDoneBy, IsLawfulMessage, MayEnter, exchange_for, session_in, settled_for}
 use Rattle.sv_login.specs.declared.outcome.Outcome.{Outcome}
 use Rattle.sv_login.specs.declared.outcome.Outcome.TheVariants as outcomes

@@ -6,6 +6,7 @@ use Rattle.std.specs.Option.{option_map}
 use Rattle.sv_admission.specs.Held.{caller_held}
 use Rattle.sv_application.specs.Cookies.{other_cookies}
 use Rattle.sv_application.specs.HandingOver.{Makes, all_fields, caller_names, joined_cookies, query_text}
+use Rattle.sv_application.specs.ProxyFields.{SameProxyFields, proxy_fields}
 use Rattle.sv_application.specs.Serving.{IsError, IsStepOf, ServesRequest, Steps}
 use Rattle.sv_application.specs.declared.handing_over.HandedOver.{HandedOver}
 use Rattle.sv_component.specs.Call as calls
@@ -26,7 +27,6 @@ use Rattle.sv_headline.specs.Transitions.{ContextAnswer, Transition}
 use Rattle.sv_headline.specs.Unlawful.{GoesToServlet, calls_with, first_exchange}
 use Rattle.sv_login.specs.declared.outcome.Outcome.TheVariants.{Entered}
 use Rattle.sv_mapping.specs.declared.kind.Kind.TheVariants as kinds
-use Rattle.sv_message.specs.declared.field.Field.{Field}
 use Rattle.sv_run.specs.Contexts.{Handling}
 use Rattle.sv_run.specs.Events.{Happening}
 use Rattle.sv_run.specs.Runs.{Answer}
@@ -70,23 +70,6 @@ module _ {S F L : Type 0} (moving : ComponentSteps S F L) (handling : Handling (
 
 -- ---- the response
 
--- the fields that a proxy reads in a response
-pub record ProxyFields : Type 0 where
-  pub internal : Option (List ℕ)
-  pub target : Option (List ℕ)
-  pub caller : Option (List ℕ)
-  pub roles : Option (List ℕ)
-  pub cookies : Option (List ℕ)
-
-abbrev pub proxy_fields : List Field → ProxyFields
-proxy_fields fields = record {
-  internal = first_value (codes "x-accel-redirect") fields;
-  target = first_value (codes "x-application-target") fields;
-  caller = first_value (codes "x-application-caller") fields;
-  roles = first_value (codes "x-application-roles") fields;
-  cookies = first_value (codes "x-application-cookie") fields;
-}
-
 module _ {S F L : Type 0} (moving : ComponentSteps S F L) (location_of : S → Option (List ℕ)) (context : ContextState S F L) where
   abbrev pub IsOfApplication : ℕ → Type 0
   IsOfApplication place = (internal : List ℕ) × IsApplicationAt moving location_of context place internal
@@ -100,7 +83,7 @@ module _ {S F L : Type 0} (moving : ComponentSteps S F L) (location_of : S → O
 
   -- the other components leave these fields as they are
   abbrev pub OthersLeaveFields : List Record → Type 0
-  OthersLeaveFields made = AllByRecursion (HoldsOfOther (λ before after. proxy_fields after.fields ≡ proxy_fields before.fields)) made
+  OthersLeaveFields made = AllByRecursion (HoldsOfOther SameProxyFields) made
 
   -- the other components undo no login
   abbrev pub OthersLeaveCaller : List Record → Type 0
