@@ -1,43 +1,22 @@
 """The differences of Tomcat in the reading of constraints. It seeks an exact pattern, then the longest of a prefix, then an extension, then `/`, and goes
 on from a prefix whose constraints leave the method uncovered. By the specification only the best pattern counts (Jakarta Servlet 6.0, section 13.8.3).
-It declares the roles that constraints name. By the specification the role `*` is only for the roles of `security-role` (section 13.8)."""
+The two decide differently only if the constraints of such a later pattern refuse the method, or require a login. Tomcat also declares the roles that
+constraints name. By the specification the role `*` is only for the roles of `security-role` (section 13.8)."""
 from __future__ import annotations
 
+import itertools
 import re
-from typing import Iterator, NamedTuple
+from typing import Iterator
 
 from .elements import shortened
+from .methods import Coverage, Methods, coverages
 from .role_names import imported_role
-from .told import Rank, Told
+from .told import MOST_NAMED, Rank, Told, listed
 from .tree import Element
 from .words import Table
 
-
-class Methods(NamedTuple):
-    """These methods, or all but these."""
-
-    names: frozenset[str]
-    is_all_but: bool
-
-    def without(self, collection: Table) -> Methods:
-        """What remains where a collection covers its methods."""
-        listed, omitted = collection.get("http-method"), collection.get("http-method-omission")
-        if isinstance(listed, list):
-            names = frozenset(map(str, listed))
-            return Methods(
-                self.names | names if self.is_all_but else self.names - names, self.is_all_but
-            )
-        rest = frozenset(map(str, omitted)) if isinstance(omitted, list) else frozenset()
-        return Methods(rest - self.names if self.is_all_but else rest & self.names, False)
-
-    def __str__(self) -> str:
-        names = ", ".join(sorted(self.names))
-        return f"all methods but {names}" if self.is_all_but else names
-
-
 # An extension pattern that matches a path: in Tomcat an extension is not empty, and it has no dot.
 _EXTENSION = re.compile(r"\*\.[^.]+")
-ALL = Methods(frozenset(), True)
 
 
 def tell_readings(root: Element, constraints: list[Table], told: Told) -> None:
@@ -46,32 +25,61 @@ def tell_readings(root: Element, constraints: list[Table], told: Told) -> None:
     lines: dict[str, int] = {}
     for pattern_element in _patterns_of(root):
         lines.setdefault(pattern_element.text, pattern_element.line)
-    uncovered = _uncovered(constraints)
-    if "/" in uncovered and ("/*" in uncovered or "" in uncovered):
+    coverage = coverages(constraints)
+    if "/" in coverage and ("/*" in coverage or "" in coverage):
         told.tell(
             Rank.SECURITY,
             lines["/"],
             'url-pattern "/" of a constraint is matched last for the path / too; Tomcat matches that path exactly',
         )
-    if "*." in uncovered:
+    if "*." in coverage:
         told.tell(
             Rank.SECURITY,
             lines["*."],
             'url-pattern "*." of a constraint is for paths that end in a dot; Tomcat matches nothing by it',
         )
-    lesser = [pattern for pattern in uncovered if pattern == "/" or _EXTENSION.fullmatch(pattern)]
-    for pattern, methods in uncovered.items():
-        if (
-            lesser
-            and pattern.endswith("/*")
-            and (methods.is_all_but or methods.names)
-            and root.first("deny-uncovered-http-methods") is None
-        ):
+    # Tomcat covers these methods itself, by constraints that deny them.
+    if root.first("deny-uncovered-http-methods") is None:
+        _tell_prefixes(coverage, lines, told)
+
+
+def _tell_prefixes(coverage: dict[str, Coverage], lines: dict[str, int], told: Told) -> None:
+    """Reports the prefixes with uncovered methods of which Tomcat refuses one by a later pattern."""
+    later = _Later(coverage)
+    prefixes = {
+        pattern: its.uncovered for pattern, its in coverage.items() if pattern.endswith("/*")
+    }
+    sentences = {methods: later.sentence(methods) for methods in set(prefixes.values())}
+    for pattern, methods in prefixes.items():
+        if sentences[methods]:
             told.tell(
                 Rank.SECURITY,
                 lines[pattern],
-                f"url-pattern {shortened(pattern)}: its constraints leave {methods} uncovered, and so open; Tomcat goes on to {', '.join(map(shortened, lesser))}",
+                f"url-pattern {shortened(pattern)}: {sentences[methods]}",
             )
+
+
+class _Later:
+    """The extension patterns and `/`, which Tomcat tries after prefixes, in groups of those that refuse the same methods."""
+
+    def __init__(self, coverage: dict[str, Coverage]) -> None:
+        # The patterns of a group, each after its place among the patterns of all constraints.
+        self._groups: dict[Methods, list[tuple[int, str]]] = {}
+        for place, (pattern, its) in enumerate(coverage.items()):
+            if pattern == "/" or _EXTENSION.fullmatch(pattern):
+                self._groups.setdefault(its.refused, []).append((place, pattern))
+
+    def sentence(self, uncovered: Methods) -> str:
+        """What is reported of a prefix that leaves these methods uncovered: nothing if no later pattern refuses one of them."""
+        groups = [group for refused, group in self._groups.items() if refused.meets(uncovered)]
+        if not groups:
+            return ""
+        # The groups are in the order of their first patterns, so each of these has a pattern before all of the other groups.
+        first = sorted(it for group in groups[:MOST_NAMED] for it in group[:MOST_NAMED])
+        others = listed([shortened(pattern) for _, pattern in first], sum(map(len, groups)))
+        return (
+            f"its constraints leave {uncovered} uncovered, and so open; Tomcat goes on to {others}"
+        )
 
 
 def _tell_undeclared_roles(root: Element, told: Told) -> None:
@@ -79,13 +87,16 @@ def _tell_undeclared_roles(root: Element, told: Told) -> None:
     named = [_roles_of(element) for element in constraints if element is not None]
     declared = [_roles_of(element) for element in root.all("security-role")]
     undeclared = {role for lines in named for role in lines}.difference({"*", "**"}, *declared)
+    in_order = sorted(undeclared)
     for lines in named:
-        others = sorted(undeclared - lines.keys()) if "*" in lines and "**" not in lines else []
-        if others:
+        count = len(undeclared) - sum(role in undeclared for role in lines)
+        if count and "*" in lines and "**" not in lines:
+            others = (role for role in in_order if role not in lines)
+            names = listed(list(itertools.islice(others, MOST_NAMED)), count)
             told.tell(
                 Rank.SECURITY,
                 lines["*"],
-                f"role-name * is for the declared roles; Tomcat also admits {', '.join(others)}, which other constraints name",
+                f"role-name * is for the declared roles; Tomcat also admits {names}, which other constraints name",
             )
 
 
@@ -98,15 +109,3 @@ def _patterns_of(root: Element) -> Iterator[Element]:
     for constraint in root.all("security-constraint"):
         for collection in constraint.all("web-resource-collection"):
             yield from collection.all("url-pattern")
-
-
-def _uncovered(constraints: list[Table]) -> dict[str, Methods]:
-    """The methods that the constraints of each pattern leave uncovered."""
-    found: dict[str, Methods] = {}
-    for constraint in constraints:
-        collections = constraint["web-resource-collection"]
-        assert isinstance(collections, list)
-        for collection in collections:
-            for pattern in collection["url-pattern"]:
-                found[pattern] = found.get(pattern, ALL).without(collection)
-    return found

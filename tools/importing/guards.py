@@ -6,7 +6,7 @@ from typing import Iterator
 from .components import EVERY_SERVLET, FILE_SERVLET
 from .elements import shortened
 from .patterns import can_match, covers, meet, precedence
-from .told import Rank, Told
+from .told import Rank, Told, listed
 from .tree import Element
 
 # Products whose filters decide access, by the name of a class, or by a package with its dot.
@@ -48,8 +48,6 @@ _KNOWN = {
     "org.apache.catalina.filters.RemoteHostFilter": "Tomcat",
 }
 _UNKNOWN = "the policy does not show it"
-# The most patterns that a line names.
-_MOST_NAMED = 3
 
 
 def tell_guards(root: Element, told: Told) -> None:
@@ -72,7 +70,7 @@ def tell_guards(root: Element, told: Told) -> None:
             told.tell(
                 Rank.SECURITY,
                 mapping.line,
-                f"filter {shortened(name)} is mapped over paths that are constrained by {_listed(covered)}, and may refuse requests there: {_UNKNOWN}",
+                f"filter {shortened(name)} is mapped over paths that are constrained by {listed(list(map(shortened, covered)), len(covered))}, and may refuse requests there: {_UNKNOWN}",
             )
 
 
@@ -80,12 +78,6 @@ def _product(class_name: str) -> str | None:
     """The product that a class belongs to, if it is known to decide access."""
     packages = [class_name[: place + 1] for place, it in enumerate(class_name) if it == "."]
     return next((_KNOWN[name] for name in [class_name, *packages] if name in _KNOWN), None)
-
-
-def _listed(patterns: list[str]) -> str:
-    named = ", ".join(map(shortened, patterns[:_MOST_NAMED]))
-    more = len(patterns) - _MOST_NAMED
-    return f"{named} and {more} more" if more > 0 else named
 
 
 def _patterns_of(mapping: Element, root: Element) -> Iterator[str]:

@@ -3,6 +3,9 @@ from __future__ import annotations
 
 import enum
 
+# The most names of a list that a line has.
+MOST_NAMED = 3
+
 
 def visible(text: str) -> str:
     """A text whose letters all can be seen: it can neither end a line nor move a terminal."""
@@ -12,6 +15,12 @@ def visible(text: str) -> str:
 def on_one_line(text: str) -> str:
     """A visible text whose blanks are single ones."""
     return visible(" ".join(text.split()))
+
+
+def listed(names: list[str], count: int, most: int = MOST_NAMED) -> str:
+    """The first names of a list that has `count` of them, at most so many, and how many more it has."""
+    more = count - len(names[:most])
+    return ", ".join(names[:most]) + (f" and {more} more" if more else "")
 
 
 class Rank(enum.IntEnum):
