@@ -58,7 +58,8 @@ pub fn findings_of(
         constraints,
         rules,
         surroundings.has_login,
-        &rows,
+        rows.all,
+        rows.met.as_slice(),
     )?;
     push_by_pattern(
         &mut findings,
@@ -107,22 +108,24 @@ fn table_rows<'a>(
     Ok(TableRows { all: rows, met })
 }
 
-/// Appends the findings of rows of the table, given whether there is a login configuration.
+/// Appends the findings of rows that requests meet, given whether there is a login configuration, and all rows of the
+/// table.
 fn push_by_row(
     findings: &mut Vec<Finding>,
     alloc: Global,
     constraints: &[Constraint],
     rules: &Rules,
     has_login: bool,
-    rows: &TableRows<'_>,
+    all: &[Row],
+    met: &[&Row],
 ) -> Result<(), NoMemory>
     ensures { OnOk result (findings.new.items ≡ findings.old.items
-        ++ spec.row_findings constraints.now has_login rows.now.all.now (map (λ row. row.now) rows.now.met.items)) }
+        ++ spec.row_findings constraints.now has_login all.now (map (λ row. row.now) met.now)) }
 {
-    push_opened(findings, alloc, constraints, rules, rows.met.as_slice())?;
-    push_uncovered(findings, alloc, rows.met.as_slice())?;
-    push_read_otherwise(findings, alloc, rows.all, rows.met.as_slice())?;
-    push_heads(findings, alloc, has_login, rows.met.as_slice())
+    push_opened(findings, alloc, constraints, rules, met)?;
+    push_uncovered(findings, alloc, met)?;
+    push_read_otherwise(findings, alloc, all, met)?;
+    push_heads(findings, alloc, has_login, met)
 }
 
 /// Appends the findings of the patterns of the constraints.

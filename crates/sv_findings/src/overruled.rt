@@ -1,7 +1,7 @@
 //! Constraints without which each request is decided alike.
 
 ghost use Rattle.std.specs.Prelude.{◌≡◌, ◌++◌, IfOk, List, ℕ, OnOk, if◌then◌else◌, map};
-ghost use Rattle.std.specs.List.{list_all};
+ghost use Rattle.std.specs.List.{flat_map, list_all};
 ghost use Rattle.std.specs.Str.{bytes_eq};
 ghost use Rattle.sv_constraints.specs.declared.constraint.Constraint.{Constraint};
 ghost use Rattle.sv_policy.specs.Groups.{IsGrouped};
@@ -35,8 +35,22 @@ pub fn push_overruled(
     let listed = ListedPatterns::of(alloc, constraints)?;
     let groups = grouped(alloc, constraints)?;
     let overruled = OverruledByPattern::of(alloc, rules, &groups)?;
+    push_overruled_among(findings, alloc, &overruled, &listed, constraints)
+}
+
+/// Appends those of the constraints that are overruled.
+fn push_overruled_among(
+    findings: &mut Vec<Finding>,
+    alloc: Global,
+    overruled: &OverruledByPattern<'_>,
+    listed: &ListedPatterns<'_>,
+    constraints: &[Constraint],
+) -> Result<(), NoMemory>
+    ensures { (rules : Rules) (all : List Constraint) → spec.AreOverruled rules all overruled.now →
+        OnOk result (findings.new.items ≡ findings.old.items ++ flat_map (spec.overruled_in rules all listed.now) constraints.now) }
+{
     for constraint in constraints {
-        push_overruled_in(findings, alloc, &overruled, &listed, constraint)?;
+        push_overruled_in(findings, alloc, overruled, listed, constraint)?;
     }
     Ok(())
 }
