@@ -1,15 +1,18 @@
 //! The findings of constraints and their access table.
 
-ghost use Rattle.std.specs.Prelude.{◌≡◌, ◌++◌, OnOk, filter, map};
+ghost use Rattle.std.specs.Prelude.{◌≡◌, ◌++◌, IfOk, OnOk, filter, map};
 ghost use Rattle.std.specs.List.{flat_map, list_all};
 ghost use Rattle.sv_text.specs.Gives.{GivesAnswer};
+ghost use Rattle.sv_constraints.specs.Covering.{all_patterns};
 ghost use Rattle.sv_findings.specs.Findings as spec;
+ghost use Rattle.sv_findings.specs.MetRows.{is_row_met};
 ghost use Rattle.sv_findings.specs.Uncovered as uncovered;
 ghost use Rattle.sv_findings.specs.declared.finding.Finding.TheVariants as finding;
 
-use crate::dead::{lists_prefix, push_escaped, push_ineffective};
+use crate::dead::{push_escaped, push_ineffective};
 use crate::finding::Finding;
 use crate::heads::push_heads;
+use crate::listed_patterns::ListedPatterns;
 use crate::login_needs::push_login_needs;
 use crate::met_rows::met_rows;
 use crate::opened::push_opened;
@@ -17,7 +20,7 @@ use crate::overruled::push_overruled;
 use crate::reach::Reaches;
 use crate::readings::push_read_otherwise;
 use crate::role_findings::push_by_role;
-use crate::surroundings::Surroundings;
+use crate::surroundings::{Surroundings, compared};
 use crate::unreached::push_unreached;
 use crate::unserved::push_unserved;
 use std::alloc::Global;
@@ -28,7 +31,8 @@ use sv_text::{Listed, NoMemory, Text};
 
 /// Returns the findings of constraints, their rules, their access table and what surrounds them, in the order of the
 /// variants of [`Finding`]. What a row opens is looked for only at patterns that requests meet: they may reach
-/// them, and have them as their best match.
+/// them, and have them as their best match. Constraints without which each request is decided alike are looked for among
+/// those with their transport requirements.
 ///
 /// # Errors
 /// `NoMemory` if memory runs out.
@@ -47,15 +51,15 @@ pub fn findings_of(
         surroundings.path.as_str(),
     )?;
     let mut findings = Vec::new(alloc);
-    let has_prefix = lists_prefix(alloc, constraints)?;
-    let rows = met_rows(alloc, &reaches, has_prefix, table.rows.as_slice())?;
+    let rows = table_rows(alloc, &reaches, constraints, table.rows.as_slice())?;
     push_by_row(
         &mut findings,
         alloc,
         constraints,
         rules,
         surroundings.has_login,
-        rows.as_slice(),
+        rows.all,
+        rows.met.as_slice(),
     )?;
     push_by_pattern(
         &mut findings,
@@ -83,21 +87,45 @@ pub fn findings_of(
     Ok(Listed::from_vec(findings))
 }
 
-/// Appends the findings of rows of the table, given whether there is a login configuration.
+/// The rows of an access table, and those of them that requests meet.
+#[derive(Drop)]
+struct TableRows<'a> {
+    all: &'a [Row],
+    met: Vec<&'a Row>,
+}
+
+fn table_rows<'a>(
+    alloc: Global,
+    reaches: &Reaches<'_>,
+    constraints: &[Constraint],
+    rows: &'a [Row],
+) -> Result<TableRows<'a>, NoMemory>
+    ensures { IfOk result (λ its. (its.all.now ≡ rows.now)
+        × (map (λ row. row.now) its.met.items ≡ filter (is_row_met reaches.now.0 reaches.now.1 (all_patterns constraints.now)) rows.now)) }
+{
+    let listed = ListedPatterns::of(alloc, constraints)?;
+    let met = met_rows(alloc, reaches, &listed, rows)?;
+    Ok(TableRows { all: rows, met })
+}
+
+/// Appends the findings of rows that requests meet, given whether there is a login configuration, and all rows of the
+/// table.
 fn push_by_row(
     findings: &mut Vec<Finding>,
     alloc: Global,
     constraints: &[Constraint],
     rules: &Rules,
     has_login: bool,
-    rows: &[&Row],
+    all: &[Row],
+    met: &[&Row],
 ) -> Result<(), NoMemory>
-    ensures { OnOk result (findings.new.items ≡ findings.old.items ++ spec.row_findings constraints.now has_login (map (λ row. row.now) rows.now)) }
+    ensures { OnOk result (findings.new.items ≡ findings.old.items
+        ++ spec.row_findings constraints.now has_login all.now (map (λ row. row.now) met.now)) }
 {
-    push_opened(findings, alloc, constraints, rules, rows)?;
-    push_uncovered(findings, alloc, rows)?;
-    push_read_otherwise(findings, alloc, rows)?;
-    push_heads(findings, alloc, has_login, rows)
+    push_opened(findings, alloc, constraints, rules, met)?;
+    push_uncovered(findings, alloc, met)?;
+    push_read_otherwise(findings, alloc, all, met)?;
+    push_heads(findings, alloc, has_login, met)
 }
 
 /// Appends the findings of the patterns of the constraints.
@@ -112,7 +140,7 @@ fn push_by_pattern(
     ensures { OnOk result (findings.new.items ≡ findings.old.items ++ spec.pattern_findings constraints.now rules.now reaches.now.0 reaches.now.1 surroundings.now) }
 {
     push_ineffective(findings, alloc, constraints)?;
-    push_overruled(findings, alloc, constraints, rules)?;
+    push_overruled(findings, alloc, compared(surroundings, constraints), rules)?;
     push_unreached(findings, alloc, reaches, constraints)?;
     push_unserved(findings, alloc, reaches, surroundings, constraints)?;
     push_escaped(findings, alloc, constraints)

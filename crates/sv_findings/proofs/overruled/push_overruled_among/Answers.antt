@@ -1,0 +1,9 @@
+use Rattle.sv_findings.specs.Overruled.{overruled_in}
+use Rattle.sv_findings.proofs.OverruledSteps.{joined_more}
+use Rattle.sv_findings.proofs.overruled.push_overruled_among.Goals as goal
+
+pub loop-constraint-preserved : goal.loop-constraint-preserved
+loop-constraint-preserved c = λ rules all are.
+    joined_more (overruled_in rules all c.args.listed.now) c.args.constraints.now c.loop-constraint.constraint-index c.constraint-item.result c.loop-constraint-test.true c.constraint-item.is
+    c.args.findings.now.items c.loop-constraint.findings.items c.push_overruled_in.new.findings.items (c.loop-constraint.invariant rules all are)
+    (c.in_ok-push_overruled_in.ensures rules all are)
