@@ -57,7 +57,7 @@ use Rattle.sv_findings.specs.Overruled.{compared, is_overruled, overruled, overr
 use Rattle.sv_findings.specs.Uncovered.{is_left_open, is_left_out, uncovered_at}
 use Rattle.sv_findings.specs.MetRows.{is_row_met}
 use Rattle.sv_findings.specs.Reach.{is_reached}
-use Rattle.sv_findings.specs.Readings.{first_restricting, is_late, is_late_match, is_prefix, read_as, read_at, read_otherwise, restricts_one, restricts_part, share_method}
+use Rattle.sv_findings.specs.Readings.{extensions_first, first_restricting, is_extension_row, is_late, is_late_match, is_other_row, is_prefix, late_rows, read_as, read_at, read_otherwise, restricts_one, restricts_part, share_method}
 use Rattle.sv_findings.proofs.MeetingForms.{none_held, none_meets}
 use Rattle.sv_findings.specs.LoginNeeds.{bars, is_barred, is_loaded, login_needs, needed_at, needed_of, needed_paths, parts, references_after, target_of}
 use Rattle.sv_findings.specs.declared.surroundings.LoginPage.{LoginPage}
@@ -480,9 +480,14 @@ module _ (constraints : List Constraint) (rules : Rules) (pattern : List ℕ) wh
       let access : Access = (cell_for constraints rules pattern method).access in
       false≢true (sym (not-true (is_open access) is) ∙ opens access (ap (λ (x : Kind × Cause). x.0) (said rules None (Some pattern) (covering constraints (Some pattern) method)) ∙ passes))
 
+-- What holds of all rows holds of them in another order.
+pub extensions_all : (P : Row → Type 0) (rows : List Row) → All P rows → All P (extensions_first rows)
+extensions_all P rows all =
+    All-append P (filter is_extension_row rows) (filter is_other_row rows) (kept_all P is_extension_row rows (λ k d within _. all k d within)) (kept_all P is_other_row rows (λ k d within _. all k d within))
+
 module _ (constraints : List Constraint) (rules : Rules) (surroundings : Surroundings) where
   abbrev pub late : List Row
-  late = filter is_late (table_of constraints rules).rows
+  late = late_rows (table_of constraints rules).rows
 
   -- One of the methods is not open to everyone at the pattern.
   abbrev HasRestricted : Methods → List ℕ → Type 0
@@ -525,8 +530,9 @@ module _ (constraints : List Constraint) (rules : Rules) (surroundings : Surroun
 
   late_made : All (λ (row : Row). IsMade constraints rules surroundings row × (is_late row ≡ true)) late
   late_made =
-      kept_all (λ (row : Row). IsMade constraints rules surroundings row × (is_late row ≡ true)) is_late (table_of constraints rules).rows
-      (λ k d within tried. (all_made constraints rules surroundings k d within, tried))
+      extensions_all (λ (row : Row). IsMade constraints rules surroundings row × (is_late row ≡ true)) (filter is_late (table_of constraints rules).rows)
+      (kept_all (λ (row : Row). IsMade constraints rules surroundings row × (is_late row ≡ true)) is_late (table_of constraints rules).rows
+      (λ k d within tried. (all_made constraints rules surroundings k d within, tried)))
 
   module _ (pattern : List ℕ) (prefixed : is_prefix (form pattern) ≡ true) where
     abbrev its : List Group
