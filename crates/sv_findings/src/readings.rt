@@ -1,6 +1,6 @@
 //! Prefix patterns at which a server that takes only patterns which cover the method decides otherwise.
 
-ghost use Rattle.std.specs.Prelude.{◌≡◌, ◌++◌, IfOk, IsTrue, OnOk, filter, find, map};
+ghost use Rattle.std.specs.Prelude.{◌≡◌, ◌++◌, IfOk, IsTrue, OnOk, Some, filter, find, map};
 ghost use Rattle.std.specs.List.{flat_map, list_any};
 ghost use Rattle.std.specs.Option.{option_copied};
 ghost use Rattle.sv_constraints.specs.Covering.{covers_method};
@@ -28,14 +28,15 @@ use sv_text::{NoMemory, Text};
 #[derive(Drop)]
 struct LateRows<'a> {
     rows: &'a [&'a Row],
-    methods: &'a Methods,
+    methods: Option<&'a Methods>,
     /// The pattern of the first row that restricts one of the methods.
     answer: Option<&'a str>,
 }
 
 impl<'a> Model for LateRows<'a> {
-    ghost use Rattle.std.specs.Prelude.{◌≡◌, List, map};
+    ghost use Rattle.std.specs.Prelude.{◌≡◌, List, Some, map};
     ghost use Rattle.std.specs.Option.{option_copied};
+    ghost use Rattle.sv_constraints.specs.declared.constraint.Methods.{Methods};
     ghost use Rattle.sv_audit.specs.declared.rows.Row.{Row};
     ghost use Rattle.sv_findings.specs.Readings.{first_restricting};
 
@@ -43,17 +44,17 @@ impl<'a> Model for LateRows<'a> {
 
     ghost view = { λ late. map (λ row. row.now) late.rows.now };
 
-    ghost invariant = { λ late. option_copied late.answer ≡ first_restricting (map (λ row. row.now) late.rows.now) late.methods.now };
+    ghost invariant = { λ late. (asked : Methods) → option_copied late.methods ≡ Some asked → option_copied late.answer ≡ first_restricting (map (λ row. row.now) late.rows.now) asked };
 }
 
 impl<'a> LateRows<'a> {
-    fn of(rows: &'a [&'a Row], methods: &'a Methods) -> LateRows<'a>
+    fn of(rows: &'a [&'a Row]) -> LateRows<'a>
         ensures { result ≡ map (λ row. row.now) rows.now }
     {
         LateRows {
             rows,
-            methods,
-            answer: first_restricting(rows, methods),
+            methods: None,
+            answer: None,
         }
     }
 
@@ -62,11 +63,20 @@ impl<'a> LateRows<'a> {
         ensures answer { option_copied result ≡ spec.first_restricting self.old methods.now }
         ensures kept { self.new ≡ self.old }
     {
-        if !are_same(self.methods, methods) {
+        if !is_asked(self.methods, methods) {
             self.answer = first_restricting(self.rows, methods);
-            self.methods = methods;
+            self.methods = Some(methods);
         }
         self.answer
+    }
+}
+
+fn is_asked(asked: Option<&Methods>, methods: &Methods) -> bool
+    ensures { IsTrue result → option_copied asked ≡ Some methods.now }
+{
+    match asked {
+        Some(asked) => are_same(asked, methods),
+        None => false,
     }
 }
 
@@ -130,8 +140,7 @@ pub fn push_read_otherwise(
 {
     let late = late_rows(alloc, all)?;
     let late = extensions_first(alloc, late.as_slice())?;
-    let every = Methods::All;
-    let mut late = LateRows::of(late.as_slice(), &every);
+    let mut late = LateRows::of(late.as_slice());
     push_read_before(findings, alloc, &mut late, met)
 }
 
