@@ -15,9 +15,10 @@ use Rattle.sv_constraints.specs.declared.cause.Cause.{Cause}
 use Rattle.sv_constraints.specs.declared.constraint.Constraint.{Constraint}
 use Rattle.sv_constraints.specs.declared.constraint.Rules.{Rules}
 use Rattle.sv_policy.proofs.Best.{any_in, or_right}
-use Rattle.sv_policy.proofs.Listed.{any_seen, length_seen, some_filtered}
+use Rattle.sv_policy.proofs.Listed.{any_seen, different_lists, length_seen, some_filtered}
 use Rattle.sv_policy.proofs.Rising.{same_text}
-use Rattle.sv_policy.proofs.Steps.{any_of_joined, any_same}
+use Rattle.sv_policy.proofs.Steps.{any_of_joined, any_same, passing_lists}
+use Rattle.sv_policy.specs.Patterns.{different}
 use Rattle.sv_policy.specs.Uncovered.{is_uncovered as is_uncovered_at}
 use Rattle.sv_audit.proofs.Alikes.{differ_at, opened as opened_to}
 use Rattle.sv_audit.proofs.Said.{said}
@@ -247,6 +248,13 @@ opened_found best_is_a_match constraints rules surroundings pattern method path 
 pub same_number : (n : ℕ) → (n == n) ≡ true
 same_number n = grind arith
 
+-- A text that passes is among the different ones, and a test finds it with the number.
+pub once_any : (number : ℕ) (test : List ℕ → Bool) (texts : List (List ℕ)) (text : List ℕ) → lists texts text ≡ true → test text ≡ true → list_any (λ one. (number == number) && bytes_eq one text) (different (filter test texts)) ≡ true
+once_any number test texts text listed passes =
+    any_in (λ one. (number == number) && bytes_eq one text) (different (filter test texts)) text
+    (different_lists (filter test texts) text ∙ passing_lists test texts text ∙ both (lists texts text) (test text) listed passes)
+    (both (number == number) (bytes_eq text text) (same_number number) (same_text text))
+
 module _ (constraints : List Constraint) (rules : Rules) (surroundings : Surroundings) (c : Constraint) (pattern : List ℕ) (there : Contains constraints c) (listed : lists (patterns_in c) pattern ≡ true) where
   abbrev patterns : List (List ℕ)
   patterns = all_patterns constraints
@@ -261,11 +269,9 @@ module _ (constraints : List Constraint) (rules : Rules) (surroundings : Surroun
       among_partly_dead constraints rules surroundings (says_dead c.number pattern)
       (any_of_joined (says_dead c.number pattern) (dead_patterns_in patterns) constraints
       ∙ contained (λ (x : Constraint). list_any (says_dead c.number pattern) (dead_patterns_in patterns x)) constraints c there
-      (ap (λ b. list_any (says_dead c.number pattern) (cond b [] (map (finding.DeadPattern c.number) (filter (decides_nothing patterns) (patterns_in c))))) is
-      ∙ any_seen (says_dead c.number pattern) (finding.DeadPattern c.number) (filter (decides_nothing patterns) (patterns_in c))
-      ∙ kept_any (λ text. (c.number == c.number) && bytes_eq text pattern) (decides_nothing patterns) (patterns_in c)
-      ∙ any_in (λ text. decides_nothing patterns text && ((c.number == c.number) && bytes_eq text pattern)) (patterns_in c) pattern listed
-      (both (decides_nothing patterns pattern) ((c.number == c.number) && bytes_eq pattern pattern) nothing (both (c.number == c.number) (bytes_eq pattern pattern) (same_number c.number) (same_text pattern)))))
+      (ap (λ b. list_any (says_dead c.number pattern) (cond b [] (map (finding.DeadPattern c.number) (different (filter (decides_nothing patterns) (patterns_in c)))))) is
+      ∙ any_seen (says_dead c.number pattern) (finding.DeadPattern c.number) (different (filter (decides_nothing patterns) (patterns_in c)))
+      ∙ once_any c.number (decides_nothing patterns) (patterns_in c) pattern listed nothing))
 
 pub dead_found : DeadIsFound
 dead_found constraints rules surroundings c pattern there listed nothing = dead_found_at constraints rules surroundings c pattern there listed nothing (is_dead (all_patterns constraints) c) refl
@@ -442,7 +448,5 @@ unreached_found constraints rules surroundings c pattern there listed none =
     among_not_reached constraints rules surroundings (says_unreached c.number pattern)
     (any_of_joined (says_unreached c.number pattern) (unreached_in surroundings.contexts surroundings.path) constraints
     ∙ contained (λ (x : Constraint). list_any (says_unreached c.number pattern) (unreached_in surroundings.contexts surroundings.path x)) constraints c there
-    (any_seen (says_unreached c.number pattern) (finding.Unreached c.number) (filter is_out (patterns_in c))
-    ∙ kept_any (λ text. (c.number == c.number) && bytes_eq text pattern) is_out (patterns_in c)
-    ∙ any_in (λ text. is_out text && ((c.number == c.number) && bytes_eq text pattern)) (patterns_in c) pattern listed
-    (both (is_out pattern) ((c.number == c.number) && bytes_eq pattern pattern) (ap not none) (both (c.number == c.number) (bytes_eq pattern pattern) (same_number c.number) (same_text pattern)))))
+    (any_seen (says_unreached c.number pattern) (finding.Unreached c.number) (different (filter is_out (patterns_in c)))
+    ∙ once_any c.number is_out (patterns_in c) pattern listed (ap not none)))
