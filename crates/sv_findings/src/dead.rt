@@ -176,7 +176,11 @@ fn push_dead_of(
     Ok(())
 }
 
-fn dead_of<'a>(alloc: Global, listed: &ListedPatterns<'_>, patterns: &[&'a str]) -> Result<Vec<&'a str>, NoMemory>
+fn dead_of<'a>(
+    alloc: Global,
+    listed: &ListedPatterns<'_>,
+    patterns: &[&'a str],
+) -> Result<Vec<&'a str>, NoMemory>
     ensures { IfOk result (λ kept. map (λ pattern. pattern.now) kept.items ≡ different (filter (spec.decides_nothing listed.now) (map (λ pattern. pattern.now) patterns.now))) }
 {
     let mut kept = Vec::new(alloc);

@@ -26,14 +26,14 @@ use sv_text::{NoMemory, Text};
 /// The rows that are tried late, in the order in which they are tried, with the methods asked last and the answer: most
 /// rows leave the same methods uncovered. Contracts see the rows.
 #[derive(Drop)]
-struct LateRows<'a> {
-    rows: &'a [&'a Row],
-    methods: Option<&'a Methods>,
+struct LateRows<'s, 'r, 'm> {
+    rows: &'s [&'r Row],
+    methods: Option<&'m Methods>,
     /// The pattern of the first row that restricts one of the methods.
-    answer: Option<&'a str>,
+    answer: Option<&'r str>,
 }
 
-impl<'a> Model for LateRows<'a> {
+impl<'s, 'r, 'm> Model for LateRows<'s, 'r, 'm> {
     ghost use Rattle.std.specs.Prelude.{◌≡◌, List, Some, map};
     ghost use Rattle.std.specs.Option.{option_copied};
     ghost use Rattle.sv_constraints.specs.declared.constraint.Methods.{Methods};
@@ -47,8 +47,8 @@ impl<'a> Model for LateRows<'a> {
     ghost invariant = { λ late. (asked : Methods) → option_copied late.methods ≡ Some asked → option_copied late.answer ≡ first_restricting (map (λ row. row.now) late.rows.now) asked };
 }
 
-impl<'a> LateRows<'a> {
-    fn of(rows: &'a [&'a Row]) -> LateRows<'a>
+impl<'s, 'r, 'm> LateRows<'s, 'r, 'm> {
+    fn of(rows: &'s [&'r Row]) -> LateRows<'s, 'r, 'm>
         ensures { result ≡ map (λ row. row.now) rows.now }
     {
         LateRows {
@@ -59,7 +59,7 @@ impl<'a> LateRows<'a> {
     }
 
     /// Returns the pattern of the first row at which one of the methods is not open to everyone.
-    fn first_restricting(&mut self, methods: &'a Methods) -> Option<&'a str>
+    fn first_restricting(&mut self, methods: &'m Methods) -> Option<&'r str>
         ensures answer { option_copied result ≡ spec.first_restricting self.old methods.now }
         ensures kept { self.new ≡ self.old }
     {
@@ -213,11 +213,11 @@ fn is_late_match(pattern: &str) -> bool
     is_tried_late(pattern) && !matches_nothing(pattern)
 }
 
-fn push_read_before<'a>(
+fn push_read_before<'m>(
     findings: &mut Vec<Finding>,
     alloc: Global,
-    late: &mut LateRows<'a>,
-    rows: &[&'a Row],
+    late: &mut LateRows<'_, '_, 'm>,
+    rows: &[&'m Row],
 ) -> Result<(), NoMemory>
     ensures { OnOk result (findings.new.items ≡ findings.old.items
         ++ flat_map (λ row. spec.read_at late.old row.pattern row.groups) (map (λ row. row.now) rows.now)) }
@@ -228,11 +228,11 @@ fn push_read_before<'a>(
     Ok(())
 }
 
-fn push_read_in_row<'a>(
+fn push_read_in_row<'m>(
     findings: &mut Vec<Finding>,
     alloc: Global,
-    late: &mut LateRows<'a>,
-    row: &'a Row,
+    late: &mut LateRows<'_, '_, 'm>,
+    row: &'m Row,
 ) -> Result<(), NoMemory>
     ensures pushed { OnOk result (findings.new.items ≡ findings.old.items ++ spec.read_at late.old row.now.pattern row.now.groups) }
     ensures kept { late.new ≡ late.old }
@@ -240,12 +240,12 @@ fn push_read_in_row<'a>(
     push_read_at(findings, alloc, late, &row.pattern, row.groups.as_slice())
 }
 
-fn push_read_at<'a>(
+fn push_read_at<'m>(
     findings: &mut Vec<Finding>,
     alloc: Global,
-    late: &mut LateRows<'a>,
+    late: &mut LateRows<'_, '_, 'm>,
     pattern: &Option<Text>,
-    groups: &'a [Group],
+    groups: &'m [Group],
 ) -> Result<(), NoMemory>
     ensures pushed { OnOk result (findings.new.items ≡ findings.old.items ++ spec.read_at late.old pattern.now groups.now) }
     ensures kept { late.new ≡ late.old }
@@ -266,12 +266,12 @@ fn is_prefix(form: Form<'_>) -> bool
 }
 
 /// Appends a prefix pattern for each group of uncovered methods of which such a row restricts one.
-fn push_read_in<'a>(
+fn push_read_in<'m>(
     findings: &mut Vec<Finding>,
     alloc: Global,
-    late: &mut LateRows<'a>,
+    late: &mut LateRows<'_, '_, 'm>,
     pattern: &str,
-    groups: &'a [Group],
+    groups: &'m [Group],
 ) -> Result<(), NoMemory>
     ensures pushed { OnOk result (findings.new.items ≡ findings.old.items
         ++ flat_map (λ group. spec.read_as late.old pattern.now group.methods) (filter is_left_out groups.now)) }
@@ -285,12 +285,12 @@ fn push_read_in<'a>(
     Ok(())
 }
 
-fn push_read_as<'a>(
+fn push_read_as<'m>(
     findings: &mut Vec<Finding>,
     alloc: Global,
-    late: &mut LateRows<'a>,
+    late: &mut LateRows<'_, '_, 'm>,
     pattern: &str,
-    methods: &'a Methods,
+    methods: &'m Methods,
 ) -> Result<(), NoMemory>
     ensures pushed { OnOk result (findings.new.items ≡ findings.old.items ++ spec.read_as late.old pattern.now methods.now) }
     ensures kept { late.new ≡ late.old }

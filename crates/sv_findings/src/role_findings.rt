@@ -86,7 +86,11 @@ fn push_unknown_names(
     Ok(())
 }
 
-fn unknown_of<'a>(alloc: Global, declared: &[Text], names: &'a [Text]) -> Result<Vec<&'a str>, NoMemory>
+fn unknown_of<'a>(
+    alloc: Global,
+    declared: &[Text],
+    names: &'a [Text],
+) -> Result<Vec<&'a str>, NoMemory>
     ensures { IfOk result (λ kept. map (λ name. name.now) kept.items ≡ different (filter (spec.is_unknown declared.now) names.now)) }
 {
     let mut kept = Vec::new(alloc);

@@ -63,7 +63,11 @@ fn push_unreached_of(
     Ok(())
 }
 
-fn unreached_of<'a>(alloc: Global, reaches: &Reaches<'_>, patterns: &[&'a str]) -> Result<Vec<&'a str>, NoMemory>
+fn unreached_of<'a>(
+    alloc: Global,
+    reaches: &Reaches<'_>,
+    patterns: &[&'a str],
+) -> Result<Vec<&'a str>, NoMemory>
     ensures { IfOk result (λ kept. map (λ pattern. pattern.now) kept.items ≡ different (filter (spec.is_unreached reaches.now.0 reaches.now.1) (map (λ pattern. pattern.now) patterns.now))) }
 {
     let mut kept = Vec::new(alloc);

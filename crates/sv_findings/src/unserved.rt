@@ -26,13 +26,13 @@ pub const MAX_SERVED_PATTERNS: usize = 2_000;
 
 /// What patterns are compared with.
 #[derive(Drop)]
-struct Site<'a> {
-    reaches: &'a Reaches<'a>,
+struct Site<'r, 'c, 's, 'f> {
+    reaches: &'r Reaches<'r>,
     /// The patterns of all constraints.
-    listed: ListedPatterns<'a>,
-    servlets: &'a [Text],
+    listed: ListedPatterns<'c>,
+    servlets: &'s [Text],
     /// The files that requests reach.
-    files: &'a [&'a str],
+    files: &'f [&'s str],
 }
 
 /// Appends the patterns of constraints at which no servlet and no file answers: no servlet pattern can match one of
@@ -65,7 +65,11 @@ pub fn push_unserved(
 }
 
 /// Returns the files that requests reach.
-fn reached_files<'a>(alloc: Global, reaches: &Reaches<'_>, files: &'a [Text]) -> Result<Vec<&'a str>, NoMemory>
+fn reached_files<'a>(
+    alloc: Global,
+    reaches: &Reaches<'_>,
+    files: &'a [Text],
+) -> Result<Vec<&'a str>, NoMemory>
     ensures { IfOk result (λ kept. map (λ file. file.now) kept.items ≡ spec.reached_files reaches.now.0 reaches.now.1 files.now) }
 {
     let mut kept = Vec::new(alloc);
@@ -96,7 +100,7 @@ pub fn are_many(alloc: Global, constraints: &[Constraint]) -> Result<bool, NoMem
 fn push_unserved_at(
     findings: &mut Vec<Finding>,
     alloc: Global,
-    site: &Site<'_>,
+    site: &Site<'_, '_, '_, '_>,
     constraints: &[Constraint],
 ) -> Result<(), NoMemory>
     ensures { OnOk result (findings.new.items ≡ findings.old.items
@@ -111,7 +115,7 @@ fn push_unserved_at(
 fn push_unserved_in(
     findings: &mut Vec<Finding>,
     alloc: Global,
-    site: &Site<'_>,
+    site: &Site<'_, '_, '_, '_>,
     constraint: &Constraint,
 ) -> Result<(), NoMemory>
     ensures { OnOk result (findings.new.items ≡ findings.old.items
@@ -130,7 +134,7 @@ fn push_unserved_in(
 fn push_unserved_of(
     findings: &mut Vec<Finding>,
     alloc: Global,
-    site: &Site<'_>,
+    site: &Site<'_, '_, '_, '_>,
     number: u64,
     patterns: &[&str],
 ) -> Result<(), NoMemory>
@@ -143,7 +147,11 @@ fn push_unserved_of(
     Ok(())
 }
 
-fn unserved_of<'a>(alloc: Global, site: &Site<'_>, patterns: &[&'a str]) -> Result<Vec<&'a str>, NoMemory>
+fn unserved_of<'a>(
+    alloc: Global,
+    site: &Site<'_, '_, '_, '_>,
+    patterns: &[&'a str],
+) -> Result<Vec<&'a str>, NoMemory>
     ensures { IfOk result (λ kept. map (λ pattern. pattern.now) kept.items ≡ different (filter (spec.is_unserved site.now.reaches.now.0 site.now.reaches.now.1 site.now.listed site.now.servlets.now (map (λ file. file.now) site.now.files.now)) (map (λ pattern. pattern.now) patterns.now))) }
 {
     let mut kept = Vec::new(alloc);
@@ -155,7 +163,7 @@ fn unserved_of<'a>(alloc: Global, site: &Site<'_>, patterns: &[&'a str]) -> Resu
     Ok(kept)
 }
 
-fn is_unserved(alloc: Global, site: &Site<'_>, pattern: &str) -> Result<bool, NoMemory>
+fn is_unserved(alloc: Global, site: &Site<'_, '_, '_, '_>, pattern: &str) -> Result<bool, NoMemory>
     ensures { GivesAnswer result (spec.is_unserved site.now.reaches.now.0 site.now.reaches.now.1 site.now.listed site.now.servlets.now (map (λ file. file.now) site.now.files.now) pattern.now) }
 {
     let is_reached = site.reaches.is_reached(alloc, pattern)?;
