@@ -72,7 +72,7 @@ impl<'s, 'r, 'm> LateRows<'s, 'r, 'm> {
 }
 
 fn is_asked(asked: Option<&Methods>, methods: &Methods) -> bool
-    ensures { IsTrue result → option_copied asked ≡ Some methods.now }
+    ensures { IsTrue result → option_copied asked.entry ≡ Some methods.now }
 {
     match asked {
         Some(asked) => are_same(asked, methods),
