@@ -2,6 +2,7 @@
 
 ghost use Rattle.std.specs.Prelude.{◌≡◌, ◌++◌, IfOk, OnOk, filter, map};
 ghost use Rattle.std.specs.List.{flat_map, list_any};
+ghost use Rattle.sv_constraints.specs.Covering as covering;
 ghost use Rattle.sv_mapping.specs.Form.{form_seen};
 ghost use Rattle.sv_mapping.specs.Pattern as pattern_spec;
 ghost use Rattle.sv_policy.specs.Patterns.{different};
@@ -26,13 +27,13 @@ pub const MAX_SERVED_PATTERNS: usize = 2_000;
 
 /// What patterns are compared with.
 #[derive(Drop)]
-struct Site<'r, 'c, 's, 'f> {
+struct Site<'r, 'c, 's, 'f, 't> {
     reaches: &'r Reaches<'r>,
     /// The patterns of all constraints.
     listed: ListedPatterns<'c>,
     servlets: &'s [Text],
     /// The files that requests reach.
-    files: &'f [&'s str],
+    files: &'f [&'t str],
 }
 
 /// Appends the patterns of constraints at which no servlet and no file answers: no servlet pattern can match one of
@@ -54,11 +55,32 @@ pub fn push_unserved(
     if are_many(alloc, constraints)? {
         return Ok(());
     }
-    let files = reached_files(alloc, reaches, files.as_slice())?;
+    push_unserved_few(
+        findings,
+        alloc,
+        reaches,
+        surroundings.servlets.as_slice(),
+        constraints,
+        files.as_slice(),
+    )
+}
+
+fn push_unserved_few(
+    findings: &mut Vec<Finding>,
+    alloc: Global,
+    reaches: &Reaches<'_>,
+    servlets: &[Text],
+    constraints: &[Constraint],
+    files: &[Text],
+) -> Result<(), NoMemory>
+    ensures { OnOk result (findings.new.items ≡ findings.old.items
+        ++ flat_map (spec.unserved_in (spec.is_unserved reaches.now.0 reaches.now.1 (covering.all_patterns constraints.now) servlets.now (spec.reached_files reaches.now.0 reaches.now.1 files.now))) constraints.now) }
+{
+    let files = reached_files(alloc, reaches, files)?;
     let site = Site {
         reaches,
         listed: ListedPatterns::of(alloc, constraints)?,
-        servlets: surroundings.servlets.as_slice(),
+        servlets,
         files: files.as_slice(),
     };
     push_unserved_at(findings, alloc, &site, constraints)
@@ -100,7 +122,7 @@ pub fn are_many(alloc: Global, constraints: &[Constraint]) -> Result<bool, NoMem
 fn push_unserved_at(
     findings: &mut Vec<Finding>,
     alloc: Global,
-    site: &Site<'_, '_, '_, '_>,
+    site: &Site<'_, '_, '_, '_, '_>,
     constraints: &[Constraint],
 ) -> Result<(), NoMemory>
     ensures { OnOk result (findings.new.items ≡ findings.old.items
@@ -115,7 +137,7 @@ fn push_unserved_at(
 fn push_unserved_in(
     findings: &mut Vec<Finding>,
     alloc: Global,
-    site: &Site<'_, '_, '_, '_>,
+    site: &Site<'_, '_, '_, '_, '_>,
     constraint: &Constraint,
 ) -> Result<(), NoMemory>
     ensures { OnOk result (findings.new.items ≡ findings.old.items
@@ -134,7 +156,7 @@ fn push_unserved_in(
 fn push_unserved_of(
     findings: &mut Vec<Finding>,
     alloc: Global,
-    site: &Site<'_, '_, '_, '_>,
+    site: &Site<'_, '_, '_, '_, '_>,
     number: u64,
     patterns: &[&str],
 ) -> Result<(), NoMemory>
@@ -149,7 +171,7 @@ fn push_unserved_of(
 
 fn unserved_of<'a>(
     alloc: Global,
-    site: &Site<'_, '_, '_, '_>,
+    site: &Site<'_, '_, '_, '_, '_>,
     patterns: &[&'a str],
 ) -> Result<Vec<&'a str>, NoMemory>
     ensures { IfOk result (λ kept. map (λ pattern. pattern.now) kept.items ≡ different (filter (spec.is_unserved site.now.reaches.now.0 site.now.reaches.now.1 site.now.listed site.now.servlets.now (map (λ file. file.now) site.now.files.now)) (map (λ pattern. pattern.now) patterns.now))) }
@@ -163,7 +185,7 @@ fn unserved_of<'a>(
     Ok(kept)
 }
 
-fn is_unserved(alloc: Global, site: &Site<'_, '_, '_, '_>, pattern: &str) -> Result<bool, NoMemory>
+fn is_unserved(alloc: Global, site: &Site<'_, '_, '_, '_, '_>, pattern: &str) -> Result<bool, NoMemory>
     ensures { GivesAnswer result (spec.is_unserved site.now.reaches.now.0 site.now.reaches.now.1 site.now.listed site.now.servlets.now (map (λ file. file.now) site.now.files.now) pattern.now) }
 {
     let is_reached = site.reaches.is_reached(alloc, pattern)?;

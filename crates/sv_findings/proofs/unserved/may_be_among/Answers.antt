@@ -6,4 +6,4 @@ use Rattle.sv_findings.specs.Unserved.{may_hold}
 use Rattle.sv_findings.proofs.unserved.may_be_among.Goals as goal
 
 pub returns : goal.returns
-returns c = c.may_hold_one.ensures ∙ sym (any_seen (may_hold (form_seen c.args.form.entry)) (λ (file : Bor (List ℕ)). file.now) c.args.files.now)
+returns c = c.may_hold_one.ensures ∙ sym (any_seen (may_hold (form_seen c.args.form)) (λ (file : Bor (List ℕ)). file.now) c.args.files.now)
