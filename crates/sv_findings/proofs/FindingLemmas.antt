@@ -57,7 +57,7 @@ use Rattle.sv_findings.specs.Overruled.{compared, is_overruled, overruled, overr
 use Rattle.sv_findings.specs.Uncovered.{is_left_open, is_left_out, uncovered_at}
 use Rattle.sv_findings.specs.MetRows.{is_row_met}
 use Rattle.sv_findings.specs.Reach.{is_reached}
-use Rattle.sv_findings.specs.Readings.{first_restricting, is_late, is_late_match, is_prefix, read_as, read_at, read_otherwise, restricts_one, restricts_part, share_method}
+use Rattle.sv_findings.specs.Readings.{extensions_first, first_restricting, is_extension_row, is_late, is_late_match, is_other_row, is_prefix, late_rows, read_as, read_at, read_otherwise, restricts_one, restricts_part, share_method}
 use Rattle.sv_findings.proofs.MeetingForms.{none_held, none_meets}
 use Rattle.sv_findings.specs.LoginNeeds.{bars, is_barred, is_loaded, login_needs, needed_at, needed_of, needed_paths, parts, references_after, target_of}
 use Rattle.sv_findings.specs.declared.surroundings.LoginPage.{LoginPage}
@@ -68,7 +68,7 @@ use Rattle.sv_uri.specs.Canonical.{canonical}
 use Rattle.sv_uri.specs.declared.fault.PathFault.{PathFault}
 use Rattle.sv_uri.specs.declared.path.Canon.{Canon}
 use Rattle.sv_mapping.specs.Within.{path_within}
-use Rattle.sv_findings.specs.Unserved.{are_many, is_unserved, may_answer, may_be_among, unserved, unserved_among, unserved_in}
+use Rattle.sv_findings.specs.Unserved.{are_many, is_unserved, may_answer, may_be_among, reached_files, unserved, unserved_among, unserved_in}
 use Rattle.sv_findings.specs.Unreached.{is_unreached, unreached, unreached_in}
 use Rattle.sv_findings.specs.declared.surroundings.Surroundings.{Surroundings}
 use Rattle.sv_findings.specs.Heads.{head_at, head_on, straying, strays}
@@ -88,6 +88,15 @@ use Rattle.sv_audit.specs.declared.rows.Row.{Row}
 joined : {A X : Type 0} (P : X → Type 0) (f : A → List X) (xs : List A) → All (λ a. All P (f a)) xs → All P (flat_map f xs)
 joined P f [] all = All-nil P
 joined P f (x ∷ xs) all = All-append P (f x) (flat_map f xs) (All-head (λ a. All P (f a)) x xs all) (joined P f xs (All-tail (λ a. All P (f a)) x xs all))
+
+-- What holds of each text that passes holds of the different ones.
+once_all : (P : List ℕ → Type 0) (test : List ℕ → Bool) (texts : List (List ℕ)) → ((text : List ℕ) → lists texts text ≡ true → test text ≡ true → P text) → All P (different (filter test texts))
+once_all P test texts each = λ k d within.
+    let kept : List (List ℕ) = different (filter test texts) in
+    let text : List ℕ = slice_index_or kept k d in
+    let its : (lists texts text ≡ true) × (test text ≡ true) =
+    and_parts (lists texts text) (test text) (sym (passing_lists test texts text) ∙ sym (different_lists (filter test texts) text) ∙ in_texts kept text (All-contains_itself kept k d within)) in
+    each text its.0 its.1
 
 -- ---- The groups of a row that have a method have its cell.
 module _ (method : List ℕ) (cell : Cell) where
@@ -281,12 +290,12 @@ module _ (shapes : CanonicalHasShape) (constraints : List Constraint) where
           λ method path pattern served best. covers_nothing_at (slice_index_or constraints k d) method path pattern (covers (slice_index_or constraints k d) pattern method) refl dead served best,
         )))
 
-    patterns_right : (c : Constraint) → Contains constraints c → (dead : Bool) → All Right (cond dead [] (map (finding.DeadPattern c.number) (filter (decides_nothing patterns) (patterns_in c))))
+    patterns_right : (c : Constraint) → Contains constraints c → (dead : Bool) → All Right (cond dead [] (map (finding.DeadPattern c.number) (different (filter (decides_nothing patterns) (patterns_in c)))))
     patterns_right c there true = All-nil Right
     patterns_right c there false =
-        All-map Right (finding.DeadPattern c.number) (filter (decides_nothing patterns) (patterns_in c))
-        (kept_all (λ pattern. Right (finding.DeadPattern c.number pattern)) (decides_nothing patterns) (patterns_in c)
-        (λ k d within nothing. (c, there, refl, in_texts (patterns_in c) (slice_index_or (patterns_in c) k d) (All-contains_itself (patterns_in c) k d within), never_best (slice_index_or (patterns_in c) k d) nothing)))
+        All-map Right (finding.DeadPattern c.number) (different (filter (decides_nothing patterns) (patterns_in c)))
+        (once_all (λ pattern. Right (finding.DeadPattern c.number pattern)) (decides_nothing patterns) (patterns_in c)
+        (λ pattern listed nothing. (c, there, refl, listed, never_best pattern nothing)))
 
     dead_patterns_right : All Right (dead_patterns patterns constraints)
     dead_patterns_right =
@@ -303,9 +312,8 @@ module _ (shapes : CanonicalHasShape) (constraints : List Constraint) where
 
     escaped_at : (c : Constraint) → Contains constraints c → All Right (escaped_in c)
     escaped_at c there =
-        All-map Right (finding.Escaped c.number) (filter is_escaped (patterns_in c))
-        (kept_all (λ pattern. Right (finding.Escaped c.number pattern)) is_escaped (patterns_in c)
-        (λ k d within has. (c, there, refl, in_texts (patterns_in c) (slice_index_or (patterns_in c) k d) (All-contains_itself (patterns_in c) k d within), has)))
+        All-map Right (finding.Escaped c.number) (different (filter is_escaped (patterns_in c)))
+        (once_all (λ pattern. Right (finding.Escaped c.number pattern)) is_escaped (patterns_in c) (λ pattern listed has. (c, there, refl, listed, has)))
 
     escaped_right : All Right (escaped constraints)
     escaped_right = joined Right escaped_in constraints (λ k d within. escaped_at (slice_index_or constraints k d) (All-contains_itself constraints k d within))
@@ -330,14 +338,14 @@ module _ (constraints : List Constraint) (rules : Rules) (surroundings : Surroun
   unknown_at : (c : Constraint) → Contains constraints c → (its_auth : Auth) → c.auth ≡ its_auth → All (IsRight constraints rules surroundings) (unknown_roles rules.declared c.number its_auth)
   unknown_at c there auth.Absent is = All-nil (IsRight constraints rules surroundings)
   unknown_at c there (auth.Roles names) is =
-      All-map (IsRight constraints rules surroundings) (finding.UnknownRole c.number) (filter (is_unknown rules.declared) names)
-      (kept_all (λ name. IsRight constraints rules surroundings (finding.UnknownRole c.number name)) (is_unknown rules.declared) names
-      (λ k d within unknown. (
+      All-map (IsRight constraints rules surroundings) (finding.UnknownRole c.number) (different (filter (is_unknown rules.declared) names))
+      (once_all (λ name. IsRight constraints rules surroundings (finding.UnknownRole c.number name)) (is_unknown rules.declared) names
+      (λ name listed unknown. (
         c,
         there,
         refl,
-        ap (λ (an_auth : Auth). lists (names_in an_auth) (slice_index_or names k d)) is ∙ in_texts names (slice_index_or names k d) (All-contains_itself names k d within),
-        not-true (lists rules.declared (slice_index_or names k d)) (and_right (is_role (slice_index_or names k d)) (not (lists rules.declared (slice_index_or names k d))) unknown),
+        ap (λ (an_auth : Auth). lists (names_in an_auth) name) is ∙ listed,
+        not-true (lists rules.declared name) (and_right (is_role name) (not (lists rules.declared name)) unknown),
       )))
 
   unknown_right : All (IsRight constraints rules surroundings) (unknown_among rules.declared constraints)
@@ -480,9 +488,14 @@ module _ (constraints : List Constraint) (rules : Rules) (pattern : List ℕ) wh
       let access : Access = (cell_for constraints rules pattern method).access in
       false≢true (sym (not-true (is_open access) is) ∙ opens access (ap (λ (x : Kind × Cause). x.0) (said rules None (Some pattern) (covering constraints (Some pattern) method)) ∙ passes))
 
+-- What holds of all rows holds of them in another order.
+pub extensions_all : (P : Row → Type 0) (rows : List Row) → All P rows → All P (extensions_first rows)
+extensions_all P rows all =
+    All-append P (filter is_extension_row rows) (filter is_other_row rows) (kept_all P is_extension_row rows (λ k d within _. all k d within)) (kept_all P is_other_row rows (λ k d within _. all k d within))
+
 module _ (constraints : List Constraint) (rules : Rules) (surroundings : Surroundings) where
   abbrev pub late : List Row
-  late = filter is_late (table_of constraints rules).rows
+  late = late_rows (table_of constraints rules).rows
 
   -- One of the methods is not open to everyone at the pattern.
   abbrev HasRestricted : Methods → List ℕ → Type 0
@@ -525,8 +538,9 @@ module _ (constraints : List Constraint) (rules : Rules) (surroundings : Surroun
 
   late_made : All (λ (row : Row). IsMade constraints rules surroundings row × (is_late row ≡ true)) late
   late_made =
-      kept_all (λ (row : Row). IsMade constraints rules surroundings row × (is_late row ≡ true)) is_late (table_of constraints rules).rows
-      (λ k d within tried. (all_made constraints rules surroundings k d within, tried))
+      extensions_all (λ (row : Row). IsMade constraints rules surroundings row × (is_late row ≡ true)) (filter is_late (table_of constraints rules).rows)
+      (kept_all (λ (row : Row). IsMade constraints rules surroundings row × (is_late row ≡ true)) is_late (table_of constraints rules).rows
+      (λ k d within tried. (all_made constraints rules surroundings k d within, tried)))
 
   module _ (pattern : List ℕ) (prefixed : is_prefix (form pattern) ≡ true) where
     abbrev its : List Group
@@ -564,15 +578,9 @@ module _ (constraints : List Constraint) (rules : Rules) (surroundings : Surroun
   -- ---- Unreached patterns.
   unreached_at : (c : Constraint) → Contains constraints c → All (IsRight constraints rules surroundings) (unreached_in surroundings.contexts surroundings.path c)
   unreached_at c there =
-      All-map (IsRight constraints rules surroundings) (finding.Unreached c.number) (filter (is_unreached surroundings.contexts surroundings.path) (patterns_in c))
-      (kept_all (λ pattern. IsRight constraints rules surroundings (finding.Unreached c.number pattern)) (is_unreached surroundings.contexts surroundings.path) (patterns_in c)
-      (λ k d within none. (
-        c,
-        there,
-        refl,
-        in_texts (patterns_in c) (slice_index_or (patterns_in c) k d) (All-contains_itself (patterns_in c) k d within),
-        not-true (is_reached surroundings.contexts surroundings.path (slice_index_or (patterns_in c) k d)) none,
-      )))
+      All-map (IsRight constraints rules surroundings) (finding.Unreached c.number) (different (filter (is_unreached surroundings.contexts surroundings.path) (patterns_in c)))
+      (once_all (λ pattern. IsRight constraints rules surroundings (finding.Unreached c.number pattern)) (is_unreached surroundings.contexts surroundings.path) (patterns_in c)
+      (λ pattern listed none. (c, there, refl, listed, not-true (is_reached surroundings.contexts surroundings.path pattern) none)))
 
   unreached_right : All (IsRight constraints rules surroundings) (unreached surroundings.contexts surroundings.path constraints)
   unreached_right = joined (IsRight constraints rules surroundings) (unreached_in surroundings.contexts surroundings.path) constraints (λ k d within. unreached_at (slice_index_or constraints k d) (All-contains_itself constraints k d within))
@@ -634,26 +642,28 @@ module _ (constraints : List Constraint) (rules : Rules) (surroundings : Surroun
 
 -- ---- Unserved patterns.
 module _ (constraints : List Constraint) (rules : Rules) (surroundings : Surroundings) where
+  abbrev answering : List (List ℕ) → List (List ℕ)
+  answering files = reached_files surroundings.contexts surroundings.path files
+
   abbrev is_out : List (List ℕ) → List ℕ → Bool
-  is_out files = is_unserved surroundings.contexts surroundings.path (all_patterns constraints) surroundings.servlets files
+  is_out files = is_unserved surroundings.contexts surroundings.path (all_patterns constraints) surroundings.servlets (answering files)
 
   unserved_at : (files : List (List ℕ)) → surroundings.files ≡ Some files → (c : Constraint) → Contains constraints c → All (IsRight constraints rules surroundings) (unserved_in (is_out files) c)
   unserved_at files known c there =
-      All-map (IsRight constraints rules surroundings) (finding.Unserved c.number) (filter (is_out files) (patterns_in c))
-      (kept_all (λ pattern. IsRight constraints rules surroundings (finding.Unserved c.number pattern)) (is_out files) (patterns_in c)
-      (λ k d within out.
-      let pattern : List ℕ = slice_index_or (patterns_in c) k d in
-      let left : ((is_reached surroundings.contexts surroundings.path pattern && not (decides_nothing (all_patterns constraints) pattern) && not (may_answer (form pattern) surroundings.servlets)) ≡ true) × (not (may_be_among (form pattern) files) ≡ true) =
-      and_parts (is_reached surroundings.contexts surroundings.path pattern && not (decides_nothing (all_patterns constraints) pattern) && not (may_answer (form pattern) surroundings.servlets)) (not (may_be_among (form pattern) files)) out in (
+      All-map (IsRight constraints rules surroundings) (finding.Unserved c.number) (different (filter (is_out files) (patterns_in c)))
+      (once_all (λ pattern. IsRight constraints rules surroundings (finding.Unserved c.number pattern)) (is_out files) (patterns_in c)
+      (λ pattern listed out.
+      let left : ((is_reached surroundings.contexts surroundings.path pattern && not (decides_nothing (all_patterns constraints) pattern) && not (may_answer (form pattern) surroundings.servlets)) ≡ true) × (not (may_be_among (form pattern) (answering files)) ≡ true) =
+      and_parts (is_reached surroundings.contexts surroundings.path pattern && not (decides_nothing (all_patterns constraints) pattern) && not (may_answer (form pattern) surroundings.servlets)) (not (may_be_among (form pattern) (answering files))) out in (
         c,
         there,
         refl,
-        in_texts (patterns_in c) pattern (All-contains_itself (patterns_in c) k d within),
+        listed,
         files,
         known,
         λ path matched. (
           none_meets pattern path surroundings.servlets matched (not-true (may_answer (form pattern) surroundings.servlets) (and_right (is_reached surroundings.contexts surroundings.path pattern && not (decides_nothing (all_patterns constraints) pattern)) (not (may_answer (form pattern) surroundings.servlets)) left.0)),
-          none_held pattern path files matched (not-true (may_be_among (form pattern) files) left.1),
+          none_held pattern path (answering files) matched (not-true (may_be_among (form pattern) (answering files)) left.1),
         ),
       )))
 

@@ -1,8 +1,9 @@
 -- No opened pattern, nothing uncovered, no difference of HEAD and no dead pattern is missed.
 use Rattle.std.proofs.lemmas.List.Folds.{list_all_at, list_any-append, list_any_at}
 use Rattle.std.proofs.lemmas.Bool.{false≢true}
-use Rattle.std.proofs.Common.{arith, ◌≡◌, ℕ, Bool, true, false, not, ◌||◌, ◌&&◌, ◌==◌, List, [], ◌∷◌, ◌++◌, length, map, codes, refl, ap, sym, ◌∙◌, cond, Option, None, Some}
-use Rattle.std.specs.Prelude.{◌≢◌, Contains, filter, find, is_some, slice_index_or}
+use Rattle.std.proofs.lemmas.List.Elements.{All-head, All-tail}
+use Rattle.std.proofs.Common.{arith, ◌≡◌, ℕ, Bool, true, false, not, ◌||◌, ◌&&◌, ◌==◌, List, [], ◌∷◌, ◌++◌, length, map, codes, refl, ap, ap₂, sym, ◌∙◌, cond, Option, None, Some}
+use Rattle.std.specs.Prelude.{◌≢◌, All, Contains, filter, find, is_some, slice_index_or}
 use Rattle.std.specs.Option.{option_and_then, option_map_or, option_to_list}
 use Rattle.std.specs.List.{flat_map, list_all, list_any}
 use Rattle.std.specs.Str.{bytes_eq}
@@ -14,19 +15,20 @@ use Rattle.sv_constraints.specs.declared.cause.Cause.{Cause}
 use Rattle.sv_constraints.specs.declared.constraint.Constraint.{Constraint}
 use Rattle.sv_constraints.specs.declared.constraint.Rules.{Rules}
 use Rattle.sv_policy.proofs.Best.{any_in, or_right}
-use Rattle.sv_policy.proofs.Listed.{any_seen, length_seen, some_filtered}
+use Rattle.sv_policy.proofs.Listed.{any_seen, different_lists, length_seen, some_filtered}
 use Rattle.sv_policy.proofs.Rising.{same_text}
-use Rattle.sv_policy.proofs.Steps.{any_of_joined, any_same}
+use Rattle.sv_policy.proofs.Steps.{any_of_joined, any_same, passing_lists}
+use Rattle.sv_policy.specs.Patterns.{different}
 use Rattle.sv_policy.specs.Uncovered.{is_uncovered as is_uncovered_at}
 use Rattle.sv_audit.proofs.Alikes.{differ_at, opened as opened_to}
 use Rattle.sv_audit.proofs.Said.{said}
 use Rattle.sv_audit.proofs.Equal.{and_left, and_right, both}
-use Rattle.sv_findings.proofs.FindingLemmas.{changing_nothing, dead, fate_at, heads, in_row, late, not_reached, not_served, opened, partly_dead, readings, the_rows, uncovered}
+use Rattle.sv_findings.proofs.FindingLemmas.{changing_nothing, dead, extensions_all, fate_at, heads, in_row, late, not_reached, not_served, opened, partly_dead, readings, the_rows, uncovered}
 use Rattle.sv_audit.proofs.Witness.{found}
 use Rattle.sv_audit.proofs.Found.{in_texts, ordered_lists}
 use Rattle.sv_audit.proofs.RowCells.{row_cell}
 use Rattle.sv_audit.specs.Access.{cell_at}
-use Rattle.sv_findings.proofs.OpenedLemmas.{contained, kept_any, method_found, opened_exact, some_pair}
+use Rattle.sv_findings.proofs.OpenedLemmas.{contained, kept_all, kept_any, method_found, opened_exact, some_pair}
 use Rattle.sv_findings.specs.Dead.{dead_patterns_in, decides_nothing, escaped, is_dead}
 use Rattle.sv_findings.specs.FindingLaws.{AreFew, ChangesNothing, DeadIsFound, FaresDifferently, HeadIsFound, IsMet, IsShut, OpenedIsFound, OverruledIsFound, ReadingIsFound, UncoveredIsFound, UnreachedIsFound, configuration_of, says_dead, says_head, says_opened, says_overruled, says_read, says_uncovered, says_unreached}
 use Rattle.sv_audit.specs.Callers.{has_method, is_open, same_callers}
@@ -38,7 +40,7 @@ use Rattle.sv_findings.specs.Uncovered.{is_left_open, is_left_out, uncovered_at}
 use Rattle.sv_audit.specs.Shapes.{matches_nothing}
 use Rattle.sv_findings.specs.Dead.{is_tried_late}
 use Rattle.sv_findings.specs.MetRows.{is_met, is_row_met}
-use Rattle.sv_findings.specs.Readings.{first_restricting, holds_one, is_late, is_late_match, is_prefix, read_as, read_at, restricts_one, restricts_part, share_method}
+use Rattle.sv_findings.specs.Readings.{extensions_first, first_restricting, holds_one, is_extension_row, is_late, is_late_match, is_other_row, is_prefix, read_as, read_at, restricts_one, restricts_part, share_method}
 use Rattle.sv_findings.proofs.OverruledLemmas.{is_over, matters_not}
 use Rattle.sv_findings.specs.Overruled.{compared, is_overruled, overruled_in}
 use Rattle.sv_findings.specs.Unreached.{is_unreached, unreached_in}
@@ -246,6 +248,13 @@ opened_found best_is_a_match constraints rules surroundings pattern method path 
 pub same_number : (n : ℕ) → (n == n) ≡ true
 same_number n = grind arith
 
+-- A text that passes is among the different ones, and a test finds it with the number.
+pub once_any : (number : ℕ) (test : List ℕ → Bool) (texts : List (List ℕ)) (text : List ℕ) → lists texts text ≡ true → test text ≡ true → list_any (λ one. (number == number) && bytes_eq one text) (different (filter test texts)) ≡ true
+once_any number test texts text listed passes =
+    any_in (λ one. (number == number) && bytes_eq one text) (different (filter test texts)) text
+    (different_lists (filter test texts) text ∙ passing_lists test texts text ∙ both (lists texts text) (test text) listed passes)
+    (both (number == number) (bytes_eq text text) (same_number number) (same_text text))
+
 module _ (constraints : List Constraint) (rules : Rules) (surroundings : Surroundings) (c : Constraint) (pattern : List ℕ) (there : Contains constraints c) (listed : lists (patterns_in c) pattern ≡ true) where
   abbrev patterns : List (List ℕ)
   patterns = all_patterns constraints
@@ -260,11 +269,9 @@ module _ (constraints : List Constraint) (rules : Rules) (surroundings : Surroun
       among_partly_dead constraints rules surroundings (says_dead c.number pattern)
       (any_of_joined (says_dead c.number pattern) (dead_patterns_in patterns) constraints
       ∙ contained (λ (x : Constraint). list_any (says_dead c.number pattern) (dead_patterns_in patterns x)) constraints c there
-      (ap (λ b. list_any (says_dead c.number pattern) (cond b [] (map (finding.DeadPattern c.number) (filter (decides_nothing patterns) (patterns_in c))))) is
-      ∙ any_seen (says_dead c.number pattern) (finding.DeadPattern c.number) (filter (decides_nothing patterns) (patterns_in c))
-      ∙ kept_any (λ text. (c.number == c.number) && bytes_eq text pattern) (decides_nothing patterns) (patterns_in c)
-      ∙ any_in (λ text. decides_nothing patterns text && ((c.number == c.number) && bytes_eq text pattern)) (patterns_in c) pattern listed
-      (both (decides_nothing patterns pattern) ((c.number == c.number) && bytes_eq pattern pattern) nothing (both (c.number == c.number) (bytes_eq pattern pattern) (same_number c.number) (same_text pattern)))))
+      (ap (λ b. list_any (says_dead c.number pattern) (cond b [] (map (finding.DeadPattern c.number) (different (filter (decides_nothing patterns) (patterns_in c)))))) is
+      ∙ any_seen (says_dead c.number pattern) (finding.DeadPattern c.number) (different (filter (decides_nothing patterns) (patterns_in c)))
+      ∙ once_any c.number (decides_nothing patterns) (patterns_in c) pattern listed nothing))
 
 pub dead_found : DeadIsFound
 dead_found constraints rules surroundings c pattern there listed nothing = dead_found_at constraints rules surroundings c pattern there listed nothing (is_dead (all_patterns constraints) c) refl
@@ -346,26 +353,42 @@ module _ (constraints : List Constraint) (rules : Rules) (other : List ℕ) wher
       (sharing methods (slice_index_or its k d).methods method has it)))
 
 -- The first row that restricts one of the methods has a pattern.
-found_pattern : (methods : Methods) (rows : List Row) → list_any (restricts_one methods) (filter is_late rows) ≡ true → is_some (first_restricting (filter is_late rows) methods) ≡ true
-found_pattern methods rows some = by_rows rows some
+found_pattern : (methods : Methods) (rows : List Row) → All (λ (row : Row). is_late row ≡ true) rows → list_any (restricts_one methods) rows ≡ true → is_some (first_restricting rows methods) ≡ true
+found_pattern methods rows tried some = by_rows rows tried some
   where
     has_pattern : (pattern : Option (List ℕ)) → option_map_or is_late_match pattern false ≡ true → is_some pattern ≡ true
     has_pattern None none = absurd (false≢true none)
-    has_pattern (Some text) tried = refl
+    has_pattern (Some text) tried_late = refl
 
     first_at : (row : Row) (rest : List Row) (covered : Bool) → is_late row ≡ true → (covered || list_any (restricts_one methods) rest) ≡ true → (list_any (restricts_one methods) rest ≡ true → is_some (first_restricting rest methods) ≡ true)
         → is_some (option_and_then (λ (one : Row). one.pattern) (cond covered (Some row) (find (restricts_one methods) rest))) ≡ true
-    first_at row rest true tried any later = has_pattern row.pattern tried
-    first_at row rest false tried any later = later any
+    first_at row rest true late_one any later = has_pattern row.pattern late_one
+    first_at row rest false late_one any later = later any
 
-    kept_at : (row : Row) (rest : List Row) (tried : Bool) → is_late row ≡ tried → list_any (restricts_one methods) (cond tried (row ∷ rest) rest) ≡ true → (list_any (restricts_one methods) rest ≡ true → is_some (first_restricting rest methods) ≡ true)
-        → is_some (first_restricting (cond tried (row ∷ rest) rest) methods) ≡ true
-    kept_at row rest true is any later = first_at row rest (restricts_one methods row) is any later
-    kept_at row rest false is any later = later any
+    by_rows : (all : List Row) → All (λ (row : Row). is_late row ≡ true) all → list_any (restricts_one methods) all ≡ true → is_some (first_restricting all methods) ≡ true
+    by_rows [] late_ones any = absurd (false≢true any)
+    by_rows (row ∷ rest) late_ones any =
+        first_at row rest (restricts_one methods row) (All-head (λ (one : Row). is_late one ≡ true) row rest late_ones) any (by_rows rest (All-tail (λ (one : Row). is_late one ≡ true) row rest late_ones))
 
-    by_rows : (all : List Row) → list_any (restricts_one methods) (filter is_late all) ≡ true → is_some (first_restricting (filter is_late all) methods) ≡ true
-    by_rows [] any = absurd (false≢true any)
-    by_rows (row ∷ rest) any = kept_at row (filter is_late rest) (is_late row) refl any (by_rows rest)
+-- A row that passes is among the rows in another order.
+either_at : (is passing one other : Bool) → (((is && passing) || one) || ((not is && passing) || other)) ≡ (passing || (one || other))
+either_at true true one other = refl
+either_at true false one other = refl
+either_at false true true other = refl
+either_at false true false other = refl
+either_at false false one other = refl
+
+either_any : (test : Row → Bool) (rows : List Row) → (list_any (λ (row : Row). is_extension_row row && test row) rows || list_any (λ (row : Row). is_other_row row && test row) rows) ≡ list_any test rows
+either_any test [] = refl
+either_any test (row ∷ rows) =
+    either_at (is_extension_row row) (test row) (list_any (λ (one : Row). is_extension_row one && test one) rows) (list_any (λ (one : Row). is_other_row one && test one) rows)
+    ∙ ap (λ b. test row || b) (either_any test rows)
+
+extensions_any : (test : Row → Bool) (rows : List Row) → list_any test rows ≡ true → list_any test (extensions_first rows) ≡ true
+extensions_any test rows some =
+    list_any-append test (filter is_extension_row rows) (filter is_other_row rows)
+    ∙ ap₂ (λ a b. a || b) (kept_any test is_extension_row rows) (kept_any test is_other_row rows)
+    ∙ either_any test rows ∙ some
 
 reported_reading : (pattern method : List ℕ) (methods : Methods) (other : Option (List ℕ)) → is_some other ≡ true → covers_method methods method ≡ true → list_any (says_read pattern method) (map (finding.ReadOtherwise pattern methods) (option_to_list other)) ≡ true
 reported_reading pattern method methods None some has = absurd (false≢true some)
@@ -377,12 +400,18 @@ module _ (constraints : List Constraint) (rules : Rules) (surroundings : Surroun
 
   restricting_some : (methods : Methods) → covers_method methods method ≡ true → list_any (restricts_one methods) late_ones ≡ true
   restricting_some methods has =
-      kept_any (restricts_one methods) is_late (table_of constraints rules).rows
+      extensions_any (restricts_one methods) (filter is_late (table_of constraints rules).rows)
+      (kept_any (restricts_one methods) is_late (table_of constraints rules).rows
       ∙ row_listed constraints rules other (λ (row : Row). is_late row && restricts_one methods row) listed
-      (both (is_late (row_at constraints rules other)) (restricts_one methods (row_at constraints rules other)) (both (is_tried_late other) (not (matches_nothing other)) tried (ap not met)) (row_restricts constraints rules other methods method has shut))
+      (both (is_late (row_at constraints rules other)) (restricts_one methods (row_at constraints rules other)) (both (is_tried_late other) (not (matches_nothing other)) tried (ap not met)) (row_restricts constraints rules other methods method has shut)))
+
+  all_late : All (λ (row : Row). is_late row ≡ true) late_ones
+  all_late =
+      extensions_all (λ (row : Row). is_late row ≡ true) (filter is_late (table_of constraints rules).rows)
+      (kept_all (λ (row : Row). is_late row ≡ true) is_late (table_of constraints rules).rows (λ k d within late_one. late_one))
 
   read_group : (group : Group) → has_method method group ≡ true → list_any (says_read pattern method) (read_as late_ones pattern group.methods) ≡ true
-  read_group group has = reported_reading pattern method group.methods (first_restricting late_ones group.methods) (found_pattern group.methods (table_of constraints rules).rows (restricting_some group.methods has)) has
+  read_group group has = reported_reading pattern method group.methods (first_restricting late_ones group.methods) (found_pattern group.methods late_ones all_late (restricting_some group.methods has)) has
 
   reading_reported : is_prefix (form pattern) ≡ true → rules.deny_uncovered ≡ false → is_uncovered_at constraints pattern method ≡ true → list_any (says_read pattern method) (read_at late_ones (Some pattern) (groups constraints rules pattern)) ≡ true
   reading_reported prefixed open_to_all none =
@@ -419,7 +448,5 @@ unreached_found constraints rules surroundings c pattern there listed none =
     among_not_reached constraints rules surroundings (says_unreached c.number pattern)
     (any_of_joined (says_unreached c.number pattern) (unreached_in surroundings.contexts surroundings.path) constraints
     ∙ contained (λ (x : Constraint). list_any (says_unreached c.number pattern) (unreached_in surroundings.contexts surroundings.path x)) constraints c there
-    (any_seen (says_unreached c.number pattern) (finding.Unreached c.number) (filter is_out (patterns_in c))
-    ∙ kept_any (λ text. (c.number == c.number) && bytes_eq text pattern) is_out (patterns_in c)
-    ∙ any_in (λ text. is_out text && ((c.number == c.number) && bytes_eq text pattern)) (patterns_in c) pattern listed
-    (both (is_out pattern) ((c.number == c.number) && bytes_eq pattern pattern) (ap not none) (both (c.number == c.number) (bytes_eq pattern pattern) (same_number c.number) (same_text pattern)))))
+    (any_seen (says_unreached c.number pattern) (finding.Unreached c.number) (different (filter is_out (patterns_in c)))
+    ∙ once_any c.number is_out (patterns_in c) pattern listed (ap not none)))

@@ -7,25 +7,22 @@ use Rattle.std.specs.Option.{option_map_or}
 use Rattle.std.specs.Str.{bytes_eq}
 use Rattle.sv_constraints.specs.Covering.{all_patterns, lists, patterns_in}
 use Rattle.sv_constraints.specs.declared.constraint.Constraint.{Constraint}
-use Rattle.sv_policy.proofs.Best.{any_in}
 use Rattle.sv_policy.proofs.Listed.{any_seen}
-use Rattle.sv_policy.proofs.Rising.{same_text}
 use Rattle.sv_policy.proofs.Steps.{any_of_joined}
 use Rattle.sv_policy.specs.Covering.{named_methods}
-use Rattle.sv_policy.specs.Patterns.{lists_pattern}
+use Rattle.sv_policy.specs.Patterns.{different, lists_pattern}
 use Rattle.sv_policy.specs.Uncovered.{rising}
-use Rattle.sv_audit.proofs.Equal.{both}
 use Rattle.sv_audit.proofs.Found.{any_of}
 use Rattle.sv_audit.proofs.Made.{named_of_all}
 use Rattle.sv_overruled.specs.declared.overruled.TheConstants.{MAX_COMPARED_AT_PATTERN}
-use Rattle.sv_findings.proofs.FoundFindings.{among_not_served, overruled_found, same_number}
-use Rattle.sv_findings.proofs.OpenedLemmas.{contained, kept_any}
+use Rattle.sv_findings.proofs.FoundFindings.{among_not_served, once_any, overruled_found}
+use Rattle.sv_findings.proofs.OpenedLemmas.{contained}
 use Rattle.sv_findings.proofs.OverruledLemmas.{no_from}
 use Rattle.sv_findings.specs.Dead.{decides_nothing}
 use Rattle.sv_findings.specs.FindingLaws.{AreFew, SearchedIsFound, UnservedIsFound, says_unserved}
 use Rattle.sv_findings.specs.Overruled.{compared}
 use Rattle.sv_findings.specs.Unsearched.{are_too_many, has_uncompared, is_overruled_kind, is_uncompared, is_unserved_kind}
-use Rattle.sv_findings.specs.Unserved.{are_many, is_unserved, unserved_among, unserved_in}
+use Rattle.sv_findings.specs.Unserved.{are_many, is_unserved, reached_files, unserved_among, unserved_in}
 use Rattle.sv_findings.specs.declared.finding.Finding.{Finding}
 use Rattle.sv_findings.specs.declared.finding.Finding.TheVariants as finding
 use Rattle.sv_findings.specs.declared.unsearched.Unsearched.TheVariants.{Overruled, Unserved}
@@ -79,7 +76,7 @@ searched_found constraints rules surroundings c none there alive each =
 -- ---- Unserved patterns.
 pub unserved_found : UnservedIsFound
 unserved_found constraints rules surroundings c pattern files known none there listed out =
-    let is_out : List ℕ → Bool = is_unserved surroundings.contexts surroundings.path (all_patterns constraints) surroundings.servlets files in
+    let is_out : List ℕ → Bool = is_unserved surroundings.contexts surroundings.path (all_patterns constraints) surroundings.servlets (reached_files surroundings.contexts surroundings.path files) in
     let says : Finding → Bool = says_unserved c.number pattern in
     let few : are_many constraints ≡ false =
     sym (ap (λ its. is_some its && are_many constraints) known) ∙ none_many (has_uncompared (compared surroundings constraints)) (is_some surroundings.files && are_many constraints) none in
@@ -87,7 +84,5 @@ unserved_found constraints rules surroundings c pattern files known none there l
     (ap (λ its. list_any says (option_map_or (unserved_among surroundings.contexts surroundings.path surroundings.servlets constraints) its [])) known
     ∙ ap (λ many. list_any says (cond many [] (flat_map (unserved_in is_out) constraints))) few ∙ any_of_joined says (unserved_in is_out) constraints
     ∙ contained (λ (x : Constraint). list_any says (unserved_in is_out x)) constraints c there
-    (any_seen says (finding.Unserved c.number) (filter is_out (patterns_in c))
-    ∙ kept_any (λ text. (c.number == c.number) && bytes_eq text pattern) is_out (patterns_in c)
-    ∙ any_in (λ text. is_out text && ((c.number == c.number) && bytes_eq text pattern)) (patterns_in c) pattern listed
-    (both (is_out pattern) ((c.number == c.number) && bytes_eq pattern pattern) out (both (c.number == c.number) (bytes_eq pattern pattern) (same_number c.number) (same_text pattern)))))
+    (any_seen says (finding.Unserved c.number) (different (filter is_out (patterns_in c)))
+    ∙ once_any c.number is_out (patterns_in c) pattern listed out))

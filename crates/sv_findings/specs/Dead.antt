@@ -6,6 +6,7 @@ use Rattle.sv_mapping.specs.Pattern.{Form, Root, Default, Extension, Prefix, Exa
 use Rattle.sv_uri.specs.Segment.{begins_with_digits}
 use Rattle.sv_constraints.specs.Covering.{lists, patterns_in}
 use Rattle.sv_constraints.specs.declared.constraint.Constraint.{Constraint}
+use Rattle.sv_policy.specs.Patterns.{different}
 use Rattle.sv_audit.specs.Shapes.{matches_nothing}
 use Rattle.sv_findings.specs.declared.finding.Finding.{Finding}
 use Rattle.sv_findings.specs.declared.finding.Finding.TheVariants as finding
@@ -46,10 +47,10 @@ is_dead patterns constraint = list_all (decides_nothing patterns) (patterns_in c
 abbrev pub dead_among : List (List ℕ) → List Constraint → List Finding
 dead_among patterns constraints = map (λ constraint. finding.Dead constraint.number) (filter (is_dead patterns) constraints)
 
--- The patterns of a constraint that decide nothing, unless all do.
+-- The patterns of a constraint that decide nothing, each once, unless all do.
 abbrev pub dead_patterns_in : List (List ℕ) → Constraint → List Finding
 dead_patterns_in patterns constraint =
-    if is_dead patterns constraint then [] else map (finding.DeadPattern constraint.number) (filter (decides_nothing patterns) (patterns_in constraint))
+    if is_dead patterns constraint then [] else map (finding.DeadPattern constraint.number) (different (filter (decides_nothing patterns) (patterns_in constraint)))
 
 abbrev pub dead_patterns : List (List ℕ) → List Constraint → List Finding
 dead_patterns patterns constraints = flat_map (dead_patterns_in patterns) constraints
@@ -60,7 +61,7 @@ abbrev pub is_escaped : List ℕ → Bool
 is_escaped pattern = list_any begins_with_digits (drop 1 (slice_split (λ b. b == byte "%") pattern))
 
 abbrev pub escaped_in : Constraint → List Finding
-escaped_in constraint = map (finding.Escaped constraint.number) (filter is_escaped (patterns_in constraint))
+escaped_in constraint = map (finding.Escaped constraint.number) (different (filter is_escaped (patterns_in constraint)))
 
 abbrev pub escaped : List Constraint → List Finding
 escaped constraints = flat_map escaped_in constraints

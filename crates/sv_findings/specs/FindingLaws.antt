@@ -28,7 +28,7 @@ use Rattle.sv_findings.specs.Findings.{findings_of}
 use Rattle.sv_findings.specs.Reach.{is_reached}
 use Rattle.sv_findings.specs.MetRows.{is_met}
 use Rattle.sv_findings.specs.Readings.{is_prefix}
-use Rattle.sv_findings.specs.Unserved.{holds, is_unserved}
+use Rattle.sv_findings.specs.Unserved.{holds, is_unserved, reached_files}
 use Rattle.sv_findings.specs.LoginNeeds.{needed_at, parts, references_after, target_of}
 use Rattle.sv_findings.specs.declared.surroundings.LoginPage.{LoginPage}
 use Rattle.sv_audit.specs.Reading.{Kind, Passes, kind_and_cause, said_to}
@@ -129,7 +129,7 @@ AreFew constraints pattern = (length (filter (λ constraint. lists_pattern const
 -- and some visitor fares differently with them at each path of the pattern; the constraint covers nothing; the constraint has the pattern, which is never best; the
 -- constraint, with its transport requirements, changes nothing at each of its patterns that is the best match of the path
 -- of a request; the constraint has the pattern, which is not reached; the constraint has the pattern, the files are known, and at no path that it matches is there a servlet,
--- a file or a folder that holds one; the constraint has the pattern, with a percent sign; the login page refers to the
+-- a file that requests reach, or a folder that holds one; the constraint has the pattern, with a percent sign; the login page refers to the
 -- path, and a request without a caller does not pass there; the constraint names the role, which is not declared; a
 -- constraint means the role, which is declared if any is, and no user has it; the role is declared, and no constraint
 -- means it.
@@ -151,7 +151,7 @@ IsRight constraints rules surroundings (Unreached its_number pattern) = (constra
     × IsTrue (lists (patterns_in constraint) pattern) × (is_reached surroundings.contexts surroundings.path pattern ≡ false)
 IsRight constraints rules surroundings (Unserved its_number pattern) = (constraint : Constraint) × Contains constraints constraint × (constraint.number ≡ its_number)
     × IsTrue (lists (patterns_in constraint) pattern) × (files : List (List ℕ)) × (surroundings.files ≡ Some files)
-    × ((path : List ℕ) → IsTrue (matches pattern path) → (list_any (λ servlet. matches servlet path) surroundings.servlets ≡ false) × (list_any (holds path) files ≡ false))
+    × ((path : List ℕ) → IsTrue (matches pattern path) → (list_any (λ servlet. matches servlet path) surroundings.servlets ≡ false) × (list_any (holds path) (reached_files surroundings.contexts surroundings.path files) ≡ false))
 IsRight constraints rules surroundings (Escaped its_number pattern) = (constraint : Constraint) × Contains constraints constraint × (constraint.number ≡ its_number)
     × IsTrue (lists (patterns_in constraint) pattern) × IsTrue (is_escaped pattern)
 IsRight constraints rules surroundings (LoginNeeds path) = (page : LoginPage) × (surroundings.login_page ≡ Some page) × ((kind_and_cause (verdict constraints rules (codes "GET") path None)).0 ≢ Passes)
@@ -298,5 +298,5 @@ says_unserved number pattern other = false
 abbrev pub UnservedIsFound : Type 0
 UnservedIsFound = (constraints : List Constraint) (rules : Rules) (surroundings : Surroundings) (constraint : Constraint) (pattern : List ℕ) (files : List (List ℕ)) → surroundings.files ≡ Some files →
     list_any is_unserved_kind (unsearched constraints surroundings) ≡ false → Contains constraints constraint → IsTrue (lists (patterns_in constraint) pattern) →
-    IsTrue (is_unserved surroundings.contexts surroundings.path (all_patterns constraints) surroundings.servlets files pattern) →
+    IsTrue (is_unserved surroundings.contexts surroundings.path (all_patterns constraints) surroundings.servlets (reached_files surroundings.contexts surroundings.path files) pattern) →
     IsTrue (list_any (says_unserved constraint.number pattern) (findings_of constraints rules (table_of constraints rules) surroundings))

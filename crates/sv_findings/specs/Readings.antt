@@ -1,12 +1,12 @@
 -- Prefix patterns at which a server that takes only patterns which cover the method decides otherwise. The best match does
 -- not depend on the method (Jakarta Servlet 6.0, sections 12.1 and 13.8.3).
-use Rattle.std.specs.Prelude.{ℕ, Bool, true, false, not, ◌&&◌, List, [], filter, find, map, Option, None, Some, if◌then◌else◌}
+use Rattle.std.specs.Prelude.{ℕ, Bool, true, false, not, ◌&&◌, List, [], ◌++◌, filter, find, map, Option, None, Some, if◌then◌else◌}
 use Rattle.std.specs.List.{flat_map, list_any}
 use Rattle.std.specs.Option.{option_and_then, option_map_or, option_to_list}
 use Rattle.sv_constraints.specs.Covering.{covers_method}
 use Rattle.sv_constraints.specs.declared.constraint.Methods.{Methods}
 use Rattle.sv_constraints.specs.declared.constraint.Methods.TheVariants.{All, Only, Except}
-use Rattle.sv_mapping.specs.Pattern.{Form, Root, Default, Extension, Prefix, Exact, form}
+use Rattle.sv_mapping.specs.Pattern.{Form, Root, Default, Extension, Prefix, Exact, form, is_extension_pattern}
 use Rattle.sv_audit.specs.Callers.{is_open}
 use Rattle.sv_audit.specs.Shapes.{matches_nothing}
 use Rattle.sv_audit.specs.declared.rows.Group.{Group}
@@ -42,6 +42,20 @@ is_late_match pattern = is_tried_late pattern && not (matches_nothing pattern)
 abbrev pub is_late : Row → Bool
 is_late row = option_map_or is_late_match row.pattern false
 
+-- Extension patterns are asked before `/` (section 12.1).
+abbrev pub is_extension_row : Row → Bool
+is_extension_row row = option_map_or is_extension_pattern row.pattern false
+
+abbrev pub is_other_row : Row → Bool
+is_other_row row = not (is_extension_row row)
+
+abbrev pub extensions_first : List Row → List Row
+extensions_first rows = filter is_extension_row rows ++ filter is_other_row rows
+
+-- The rows of patterns that are tried late and match some canonical path, in the order in which they are tried.
+abbrev pub late_rows : List Row → List Row
+late_rows rows = extensions_first (filter is_late rows)
+
 abbrev pub is_prefix : Form → Bool
 is_prefix Root = false
 is_prefix Default = false
@@ -65,4 +79,4 @@ read_at late (Some pattern) groups = if is_prefix (form pattern) then flat_map (
 -- `/` of all rows. Requests need not meet that one: `/*` takes all paths from it here (section 12.1), but not on a server
 -- that takes only patterns which cover the method.
 abbrev pub read_otherwise : List Row → List Row → List Finding
-read_otherwise all_rows met_rows = flat_map (λ row. read_at (filter is_late all_rows) row.pattern row.groups) met_rows
+read_otherwise all_rows met_rows = flat_map (λ row. read_at (late_rows all_rows) row.pattern row.groups) met_rows

@@ -22,7 +22,7 @@ is_unknown declared name = is_role name && not (lists declared name)
 
 abbrev pub unknown_roles : List (List ℕ) → ℕ → Auth → List Finding
 unknown_roles declared number auth.Absent = []
-unknown_roles declared number (auth.Roles names) = map (finding.UnknownRole number) (filter (is_unknown declared) names)
+unknown_roles declared number (auth.Roles names) = map (finding.UnknownRole number) (different (filter (is_unknown declared) names))
 
 abbrev pub unknown_among : List (List ℕ) → List Constraint → List Finding
 unknown_among declared constraints = flat_map (λ constraint. unknown_roles declared constraint.number constraint.auth) constraints

@@ -1,14 +1,16 @@
--- Patterns at which nothing answers (Jakarta Servlet 6.0, sections 12.1 and 12.2).
-use Rattle.std.specs.Prelude.{ℕ, Bool, true, not, ◌&&◌, ◌||◌, nat_eq, nat_lt, List, [], length, codes, filter, map, if◌then◌else◌}
+-- Patterns at which nothing answers (Jakarta Servlet 6.0, sections 10.5, 12.1 and 12.2).
+use Rattle.std.specs.Prelude.{ℕ, Bool, true, not, ◌&&◌, ◌||◌, nat_eq, nat_lt, List, [], ◌++◌, length, codes, filter, map, if◌then◌else◌}
 use Rattle.std.specs.List.{ends_with, flat_map, list_any, starts_with}
 use Rattle.std.specs.Option.{option_map_or}
 use Rattle.std.specs.Str.{bytes_eq}
 use Rattle.sv_constraints.specs.Covering.{all_patterns, patterns_in}
 use Rattle.sv_constraints.specs.declared.constraint.Constraint.{Constraint}
 use Rattle.sv_mapping.specs.Pattern.{Form, Root, Default, Extension, Prefix, Exact, form, form_matches, has_extension, is_at_or_below}
+use Rattle.sv_mapping.specs.Protected.{is_protected}
 use Rattle.sv_mapping.specs.Segments.{between_slashes}
+use Rattle.sv_policy.specs.Patterns.{different}
 use Rattle.sv_findings.specs.Dead.{decides_nothing}
-use Rattle.sv_findings.specs.Reach.{is_reached}
+use Rattle.sv_findings.specs.Reach.{is_reached, serves}
 use Rattle.sv_findings.specs.declared.finding.Finding.{Finding}
 use Rattle.sv_findings.specs.declared.finding.Finding.TheVariants as finding
 use Rattle.sv_findings.specs.declared.surroundings.Surroundings.{Surroundings}
@@ -68,8 +70,15 @@ abbrev pub is_unserved : List (List ℕ) → List ℕ → List (List ℕ) → Li
 is_unserved contexts context patterns servlets files pattern =
     is_reached contexts context pattern && not (decides_nothing patterns pattern) && not (may_answer (form pattern) servlets) && not (may_be_among (form pattern) files)
 
+-- Whether requests reach the file: the context serves its path (section 12.1), which is in no hidden folder (section 10.5).
+abbrev pub is_reached_file : List (List ℕ) → List ℕ → List ℕ → Bool
+is_reached_file contexts context path = serves contexts context (context ++ path) && not (is_protected path)
+
+abbrev pub reached_files : List (List ℕ) → List ℕ → List (List ℕ) → List (List ℕ)
+reached_files contexts context files = filter (is_reached_file contexts context) files
+
 abbrev pub unserved_in : (List ℕ → Bool) → Constraint → List Finding
-unserved_in test constraint = map (finding.Unserved constraint.number) (filter test (patterns_in constraint))
+unserved_in test constraint = map (finding.Unserved constraint.number) (different (filter test (patterns_in constraint)))
 
 -- Whether there are too many patterns to compare them with servlets and files.
 abbrev pub are_many : List Constraint → Bool
@@ -78,7 +87,7 @@ are_many constraints = nat_lt MAX_SERVED_PATTERNS (length (all_patterns constrai
 abbrev pub unserved_among : List (List ℕ) → List ℕ → List (List ℕ) → List Constraint → List (List ℕ) → List Finding
 unserved_among contexts context servlets constraints files =
     if are_many constraints then []
-    else flat_map (unserved_in (is_unserved contexts context (all_patterns constraints) servlets files)) constraints
+    else flat_map (unserved_in (is_unserved contexts context (all_patterns constraints) servlets (reached_files contexts context files))) constraints
 
 -- The patterns of constraints at which nothing answers, if the files are known, given the paths of all contexts and that
 -- of this one.

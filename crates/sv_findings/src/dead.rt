@@ -4,12 +4,14 @@ ghost use Rattle.std.specs.Prelude.{◌≡◌, ◌++◌, IfOk, OnOk, filter, map
 ghost use Rattle.std.specs.List.{list_all, list_any};
 ghost use Rattle.sv_constraints.specs.Covering as covering;
 ghost use Rattle.sv_mapping.specs.Form.{form_seen};
+ghost use Rattle.sv_policy.specs.Patterns.{different};
 ghost use Rattle.sv_uri.specs.Segment.{begins_with_digits};
 ghost use Rattle.sv_findings.specs.Dead as spec;
 ghost use Rattle.sv_findings.specs.declared.finding.Finding.TheVariants as finding;
 
 use crate::finding::Finding;
 use crate::listed_patterns::ListedPatterns;
+use crate::role_findings::push_once;
 use std::alloc::Global;
 use sv_audit::{form_of, is_extension_pattern, matches_nothing, patterns_in};
 use sv_constraints::Constraint;
@@ -136,7 +138,7 @@ fn push_dead_patterns(
     Ok(())
 }
 
-/// Appends the patterns of a constraint that decide nothing, unless all do.
+/// Appends the patterns of a constraint that decide nothing, each once, unless all do.
 fn push_dead_patterns_in(
     findings: &mut Vec<Finding>,
     alloc: Global,
@@ -166,17 +168,31 @@ fn push_dead_of(
     patterns: &[&str],
 ) -> Result<(), NoMemory>
     ensures { OnOk result (findings.new.items ≡ findings.old.items
-        ++ map (finding.DeadPattern number) (filter (spec.decides_nothing listed.now) (map (λ pattern. pattern.now) patterns.now))) }
+        ++ map (finding.DeadPattern number) (different (filter (spec.decides_nothing listed.now) (map (λ pattern. pattern.now) patterns.now)))) }
 {
-    for pattern in patterns {
-        if decides_nothing(listed, pattern) {
-            findings.push(Finding::DeadPattern(number, Text::copy_of(alloc, *pattern)?))?;
-        }
+    for pattern in dead_of(alloc, listed, patterns)?.as_slice() {
+        findings.push(Finding::DeadPattern(number, Text::copy_of(alloc, *pattern)?))?;
     }
     Ok(())
 }
 
-/// Appends the patterns with escapes.
+fn dead_of<'a>(
+    alloc: Global,
+    listed: &ListedPatterns<'_>,
+    patterns: &[&'a str],
+) -> Result<Vec<&'a str>, NoMemory>
+    ensures { IfOk result (λ kept. map (λ pattern. pattern.now) kept.items ≡ different (filter (spec.decides_nothing listed.now) (map (λ pattern. pattern.now) patterns.now))) }
+{
+    let mut kept = Vec::new(alloc);
+    for pattern in patterns {
+        if decides_nothing(listed, pattern) {
+            push_once(&mut kept, *pattern)?;
+        }
+    }
+    Ok(kept)
+}
+
+/// Appends the patterns with escapes, each pattern of a constraint once.
 pub fn push_escaped(
     findings: &mut Vec<Finding>,
     alloc: Global,
@@ -208,14 +224,24 @@ fn push_escaped_of(
     patterns: &[&str],
 ) -> Result<(), NoMemory>
     ensures { OnOk result (findings.new.items ≡ findings.old.items
-        ++ map (finding.Escaped number) (filter spec.is_escaped (map (λ pattern. pattern.now) patterns.now))) }
+        ++ map (finding.Escaped number) (different (filter spec.is_escaped (map (λ pattern. pattern.now) patterns.now)))) }
 {
-    for pattern in patterns {
-        if is_escaped(pattern) {
-            findings.push(Finding::Escaped(number, Text::copy_of(alloc, *pattern)?))?;
-        }
+    for pattern in escaped_of(alloc, patterns)?.as_slice() {
+        findings.push(Finding::Escaped(number, Text::copy_of(alloc, *pattern)?))?;
     }
     Ok(())
+}
+
+fn escaped_of<'a>(alloc: Global, patterns: &[&'a str]) -> Result<Vec<&'a str>, NoMemory>
+    ensures { IfOk result (λ kept. map (λ pattern. pattern.now) kept.items ≡ different (filter spec.is_escaped (map (λ pattern. pattern.now) patterns.now))) }
+{
+    let mut kept = Vec::new(alloc);
+    for pattern in patterns {
+        if is_escaped(pattern) {
+            push_once(&mut kept, *pattern)?;
+        }
+    }
+    Ok(kept)
 }
 
 fn is_escaped(pattern: &str) -> bool

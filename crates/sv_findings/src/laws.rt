@@ -18,8 +18,8 @@ use sv_uri::laws::canonical_has_shape;
 /// constraint each request at one of its patterns is decided alike, over a plain and over a secure connection, by the
 /// constraints with their transport requirements. An
 /// unreached pattern is hidden or belongs to another context, and at no path that an unserved one matches is there a
-/// servlet, a file or a folder that holds one. The login page refers to what it needs, and a request without a caller
-/// does not pass there. An unknown role is named and not declared, an unheld one is named and no user has it, and an
+/// servlet, a file that requests reach, or a folder that holds one. The login page refers to what it needs, and a
+/// request without a caller does not pass there. An unknown role is named and not declared, an unheld one is named and no user has it, and an
 /// unused one is declared and not named.
 pub fn findings_are_right()
     ensures { FindingsAreRight }

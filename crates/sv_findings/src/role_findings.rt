@@ -29,7 +29,7 @@ pub fn push_by_role(
     push_unused(findings, alloc, declared, constraints)
 }
 
-/// Appends the roles that are not declared.
+/// Appends the roles that are not declared, each role of a constraint once.
 fn push_unknown(
     findings: &mut Vec<Finding>,
     alloc: Global,
@@ -78,14 +78,28 @@ fn push_unknown_names(
     number: u64,
     names: &[Text],
 ) -> Result<(), NoMemory>
-    ensures { OnOk result (findings.new.items ≡ findings.old.items ++ map (finding.UnknownRole number) (filter (spec.is_unknown declared.now) names.now)) }
+    ensures { OnOk result (findings.new.items ≡ findings.old.items ++ map (finding.UnknownRole number) (different (filter (spec.is_unknown declared.now) names.now))) }
 {
-    for name in names {
-        if is_unknown(declared, name.as_str()) {
-            findings.push(Finding::UnknownRole(number, Text::copy_of(alloc, name.as_str())?))?;
-        }
+    for name in unknown_of(alloc, declared, names)?.as_slice() {
+        findings.push(Finding::UnknownRole(number, Text::copy_of(alloc, *name)?))?;
     }
     Ok(())
+}
+
+fn unknown_of<'a>(
+    alloc: Global,
+    declared: &[Text],
+    names: &'a [Text],
+) -> Result<Vec<&'a str>, NoMemory>
+    ensures { IfOk result (λ kept. map (λ name. name.now) kept.items ≡ different (filter (spec.is_unknown declared.now) names.now)) }
+{
+    let mut kept = Vec::new(alloc);
+    for name in names {
+        if is_unknown(declared, name.as_str()) {
+            push_once(&mut kept, name.as_str())?;
+        }
+    }
+    Ok(kept)
 }
 
 /// Returns whether the name is a role that is not declared.

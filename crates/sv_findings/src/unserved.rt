@@ -1,9 +1,11 @@
 //! Patterns at which nothing answers.
 
-ghost use Rattle.std.specs.Prelude.{◌≡◌, ◌++◌, OnOk, filter, map};
+ghost use Rattle.std.specs.Prelude.{◌≡◌, ◌++◌, IfOk, OnOk, filter, map};
 ghost use Rattle.std.specs.List.{flat_map, list_any};
+ghost use Rattle.sv_constraints.specs.Covering as covering;
 ghost use Rattle.sv_mapping.specs.Form.{form_seen};
 ghost use Rattle.sv_mapping.specs.Pattern as pattern_spec;
+ghost use Rattle.sv_policy.specs.Patterns.{different};
 ghost use Rattle.sv_text.specs.Gives.{GivesAnswer};
 ghost use Rattle.sv_findings.specs.Unserved as spec;
 ghost use Rattle.sv_findings.specs.declared.finding.Finding.TheVariants as finding;
@@ -12,11 +14,12 @@ use crate::dead::decides_nothing;
 use crate::finding::Finding;
 use crate::listed_patterns::ListedPatterns;
 use crate::reach::Reaches;
+use crate::role_findings::push_once;
 use crate::surroundings::Surroundings;
 use std::alloc::Global;
 use sv_audit::{all_patterns, form_of, patterns_in};
 use sv_constraints::Constraint;
-use sv_mapping::{Form, extension, is_at_or_below};
+use sv_mapping::{Form, extension, is_at_or_below, is_protected};
 use sv_text::{NoMemory, Text};
 
 /// With more patterns than so many, none is compared with servlets and files.
@@ -24,17 +27,19 @@ pub const MAX_SERVED_PATTERNS: usize = 2_000;
 
 /// What patterns are compared with.
 #[derive(Drop)]
-struct Site<'a> {
-    reaches: &'a Reaches<'a>,
+struct Site<'r, 'c, 's, 'f, 't> {
+    reaches: &'r Reaches<'r>,
     /// The patterns of all constraints.
-    listed: ListedPatterns<'a>,
-    servlets: &'a [Text],
-    files: &'a [Text],
+    listed: ListedPatterns<'c>,
+    servlets: &'s [Text],
+    /// The files that requests reach.
+    files: &'f [&'t str],
 }
 
 /// Appends the patterns of constraints at which no servlet and no file answers: no servlet pattern can match one of
-/// their paths, and none of their paths is that of a file or of a folder that holds one. Appends none if the files are
-/// not known, or if there are more than [`MAX_SERVED_PATTERNS`] patterns.
+/// their paths, and none of their paths is that of a file that requests reach, or of a folder that holds one. Appends
+/// each pattern of a constraint once, and none if the files are not known, or if there are more than
+/// [`MAX_SERVED_PATTERNS`] patterns.
 pub fn push_unserved(
     findings: &mut Vec<Finding>,
     alloc: Global,
@@ -50,13 +55,60 @@ pub fn push_unserved(
     if are_many(alloc, constraints)? {
         return Ok(());
     }
+    push_unserved_few(
+        findings,
+        alloc,
+        reaches,
+        surroundings.servlets.as_slice(),
+        constraints,
+        files.as_slice(),
+    )
+}
+
+fn push_unserved_few(
+    findings: &mut Vec<Finding>,
+    alloc: Global,
+    reaches: &Reaches<'_>,
+    servlets: &[Text],
+    constraints: &[Constraint],
+    files: &[Text],
+) -> Result<(), NoMemory>
+    ensures { OnOk result (findings.new.items ≡ findings.old.items
+        ++ flat_map (spec.unserved_in (spec.is_unserved reaches.now.0 reaches.now.1 (covering.all_patterns constraints.now) servlets.now (spec.reached_files reaches.now.0 reaches.now.1 files.now))) constraints.now) }
+{
+    let files = reached_files(alloc, reaches, files)?;
     let site = Site {
         reaches,
         listed: ListedPatterns::of(alloc, constraints)?,
-        servlets: surroundings.servlets.as_slice(),
+        servlets,
         files: files.as_slice(),
     };
     push_unserved_at(findings, alloc, &site, constraints)
+}
+
+/// Returns the files that requests reach.
+fn reached_files<'a>(
+    alloc: Global,
+    reaches: &Reaches<'_>,
+    files: &'a [Text],
+) -> Result<Vec<&'a str>, NoMemory>
+    ensures { IfOk result (λ kept. map (λ file. file.now) kept.items ≡ spec.reached_files reaches.now.0 reaches.now.1 files.now) }
+{
+    let mut kept = Vec::new(alloc);
+    for file in files {
+        if is_reached_file(alloc, reaches, file.as_str())? {
+            kept.push(file.as_str())?;
+        }
+    }
+    Ok(kept)
+}
+
+fn is_reached_file(alloc: Global, reaches: &Reaches<'_>, path: &str) -> Result<bool, NoMemory>
+    ensures { GivesAnswer result (spec.is_reached_file reaches.now.0 reaches.now.1 path.now) }
+{
+    let mut target = Text::copy_of(alloc, reaches.context())?;
+    target.push_str(alloc, path)?;
+    Ok(reaches.serves(target.as_str()) && !is_protected(path))
 }
 
 /// Returns whether there are too many patterns to compare them with servlets and files.
@@ -70,11 +122,11 @@ pub fn are_many(alloc: Global, constraints: &[Constraint]) -> Result<bool, NoMem
 fn push_unserved_at(
     findings: &mut Vec<Finding>,
     alloc: Global,
-    site: &Site<'_>,
+    site: &Site<'_, '_, '_, '_, '_>,
     constraints: &[Constraint],
 ) -> Result<(), NoMemory>
     ensures { OnOk result (findings.new.items ≡ findings.old.items
-        ++ flat_map (spec.unserved_in (spec.is_unserved site.now.reaches.now.0 site.now.reaches.now.1 site.now.listed site.now.servlets.now site.now.files.now)) constraints.now) }
+        ++ flat_map (spec.unserved_in (spec.is_unserved site.now.reaches.now.0 site.now.reaches.now.1 site.now.listed site.now.servlets.now (map (λ file. file.now) site.now.files.now))) constraints.now) }
 {
     for constraint in constraints {
         push_unserved_in(findings, alloc, site, constraint)?;
@@ -85,11 +137,11 @@ fn push_unserved_at(
 fn push_unserved_in(
     findings: &mut Vec<Finding>,
     alloc: Global,
-    site: &Site<'_>,
+    site: &Site<'_, '_, '_, '_, '_>,
     constraint: &Constraint,
 ) -> Result<(), NoMemory>
     ensures { OnOk result (findings.new.items ≡ findings.old.items
-        ++ spec.unserved_in (spec.is_unserved site.now.reaches.now.0 site.now.reaches.now.1 site.now.listed site.now.servlets.now site.now.files.now) constraint.now) }
+        ++ spec.unserved_in (spec.is_unserved site.now.reaches.now.0 site.now.reaches.now.1 site.now.listed site.now.servlets.now (map (λ file. file.now) site.now.files.now)) constraint.now) }
 {
     let patterns = patterns_in(alloc, constraint)?;
     push_unserved_of(
@@ -104,23 +156,37 @@ fn push_unserved_in(
 fn push_unserved_of(
     findings: &mut Vec<Finding>,
     alloc: Global,
-    site: &Site<'_>,
+    site: &Site<'_, '_, '_, '_, '_>,
     number: u64,
     patterns: &[&str],
 ) -> Result<(), NoMemory>
     ensures { OnOk result (findings.new.items ≡ findings.old.items
-        ++ map (finding.Unserved number) (filter (spec.is_unserved site.now.reaches.now.0 site.now.reaches.now.1 site.now.listed site.now.servlets.now site.now.files.now) (map (λ pattern. pattern.now) patterns.now))) }
+        ++ map (finding.Unserved number) (different (filter (spec.is_unserved site.now.reaches.now.0 site.now.reaches.now.1 site.now.listed site.now.servlets.now (map (λ file. file.now) site.now.files.now)) (map (λ pattern. pattern.now) patterns.now)))) }
 {
-    for pattern in patterns {
-        if is_unserved(alloc, site, pattern)? {
-            findings.push(Finding::Unserved(number, Text::copy_of(alloc, *pattern)?))?;
-        }
+    for pattern in unserved_of(alloc, site, patterns)?.as_slice() {
+        findings.push(Finding::Unserved(number, Text::copy_of(alloc, *pattern)?))?;
     }
     Ok(())
 }
 
-fn is_unserved(alloc: Global, site: &Site<'_>, pattern: &str) -> Result<bool, NoMemory>
-    ensures { GivesAnswer result (spec.is_unserved site.now.reaches.now.0 site.now.reaches.now.1 site.now.listed site.now.servlets.now site.now.files.now pattern.now) }
+fn unserved_of<'a>(
+    alloc: Global,
+    site: &Site<'_, '_, '_, '_, '_>,
+    patterns: &[&'a str],
+) -> Result<Vec<&'a str>, NoMemory>
+    ensures { IfOk result (λ kept. map (λ pattern. pattern.now) kept.items ≡ different (filter (spec.is_unserved site.now.reaches.now.0 site.now.reaches.now.1 site.now.listed site.now.servlets.now (map (λ file. file.now) site.now.files.now)) (map (λ pattern. pattern.now) patterns.now))) }
+{
+    let mut kept = Vec::new(alloc);
+    for pattern in patterns {
+        if is_unserved(alloc, site, pattern)? {
+            push_once(&mut kept, *pattern)?;
+        }
+    }
+    Ok(kept)
+}
+
+fn is_unserved(alloc: Global, site: &Site<'_, '_, '_, '_, '_>, pattern: &str) -> Result<bool, NoMemory>
+    ensures { GivesAnswer result (spec.is_unserved site.now.reaches.now.0 site.now.reaches.now.1 site.now.listed site.now.servlets.now (map (λ file. file.now) site.now.files.now) pattern.now) }
 {
     let is_reached = site.reaches.is_reached(alloc, pattern)?;
     Ok(
@@ -141,10 +207,16 @@ fn may_answer(form: Form<'_>, servlets: &[Text]) -> bool
 }
 
 /// Returns whether a file, or a folder that holds one, may be at a path of the form.
-fn may_be_among(form: Form<'_>, files: &[Text]) -> bool
-    ensures { result ≡ spec.may_be_among (form_seen form.entry) files.now }
+fn may_be_among(form: Form<'_>, files: &[&str]) -> bool
+    ensures { result ≡ spec.may_be_among (form_seen form.entry) (map (λ file. file.now) files.now) }
 {
-    files.iter().any(|file| may_hold(form, file.as_str()))
+    may_hold_one(form, files)
+}
+
+fn may_hold_one(form: Form<'_>, files: &[&str]) -> bool
+    ensures { result ≡ list_any (λ file. spec.may_hold (form_seen form.entry) file.now) files.now }
+{
+    files.iter().any(|file| may_hold(form, file))
 }
 
 /// Returns whether both forms may match a path.

@@ -1,8 +1,6 @@
 use Rattle.std.proofs.Common.{◌≡◌, ◌++◌, map, take}
-use Rattle.std.specs.Prelude.{filter}
-use Rattle.sv_findings.specs.Unreached.{is_unreached}
 use Rattle.sv_findings.specs.declared.finding.Finding.TheVariants as finding
 use Rattle.sv_findings.proofs.unreached.push_unreached_of.Given as goal
 
 abbrev pub invariant-loop-pattern : goal.invariant-loop-pattern
-invariant-loop-pattern l = l.findings.items ≡ l.initial.findings.items ++ map (finding.Unreached l.number) (filter (is_unreached l.reaches.0 l.reaches.1) (map (λ pattern. pattern.now) (take l.pattern-index l.patterns)))
+invariant-loop-pattern l = l.findings.items ≡ l.initial.findings.items ++ map (finding.Unreached l.number) (map (λ pattern. pattern.now) (take l.pattern-index l.pattern-items))
