@@ -3,6 +3,8 @@ use Rattle.std.specs.Prelude.{ℕ, Bool, List, [], ◌∷◌, codes, Some, if◌
 use Rattle.sv_constraints.specs.declared.constraint.Methods.{Methods}
 use Rattle.sv_findings.specs.declared.finding.Finding.{Finding}
 use Rattle.sv_findings.specs.declared.finding.Finding.TheVariants.{Opened, Uncovered, ReadOtherwise, HeadDiffers, Dead, DeadPattern, Overruled, Unreached, Unserved, Escaped, LoginNeeds, UnknownRole, UnheldRole, UnusedRole}
+use Rattle.sv_findings.specs.declared.unsearched.Unsearched.{Unsearched}
+use Rattle.sv_findings.specs.declared.unsearched.Unsearched.TheVariants as unsearched
 use Rattle.sv_report.specs.Escaped.{escaped}
 use Rattle.sv_report.specs.Parts.{joined}
 use Rattle.sv_report.specs.Places.{number_text}
@@ -100,3 +102,13 @@ remedy (UnusedRole role) = codes "Name it in a constraint, or remove its securit
 
 abbrev pub heading : Bool → List ℕ
 heading is_accepted = if is_accepted then codes "accepted" else codes "finding"
+
+-- The findings that are not looked for in a context that is too large, and why.
+abbrev pub unsearched_text : Unsearched → List ℕ
+unsearched_text unsearched.Overruled = codes "overruled constraints, since a pattern has more than 16 constraints or 16 named methods"
+unsearched_text unsearched.Unserved = codes "unserved patterns, since there are more than 2000 patterns"
+
+-- The name of their kind.
+abbrev pub unsearched_name : Unsearched → List ℕ
+unsearched_name unsearched.Overruled = codes "overruled"
+unsearched_name unsearched.Unserved = codes "unserved"
