@@ -1,5 +1,5 @@
 -- Each path has a representative that matches the same patterns.
-use Rattle.std.proofs.Common.{◌≡◌, ℕ, ◌+◌, ◌≤◌, zero, suc, Bool, true, false, ◌&&◌, ◌||◌, ltb, List, [], ◌∷◌, ◌++◌, length, map, codes, refl, sym, ◌∙◌, ap, ap₂, arith, append_assoc, length-append, inl, inr, Option, None, Some}
+use Rattle.std.proofs.Common.{◌≡◌, ℕ, ◌+◌, ◌≤◌, zero, suc, Bool, true, false, cond, not, ◌&&◌, ◌||◌, ltb, List, [], ◌∷◌, ◌++◌, length, map, codes, refl, sym, ◌∙◌, ap, ap₂, arith, append_assoc, length-append, inl, inr, Option, None, Some}
 use Rattle.std.specs.Prelude.{filter, fold, max}
 use Rattle.std.specs.List.{flat_map, list_any, repeat}
 use Rattle.std.specs.Option.{option_map_or, option_to_list}
@@ -20,7 +20,8 @@ use Rattle.sv_constraints.specs.Covering.{lists}
 use Rattle.sv_audit.proofs.Alike.{same_best}
 use Rattle.sv_mapping.proofs.TriedTexts.{form-empty, heads}
 use Rattle.sv_audit.proofs.Names.{at_or_below, below_above, below_path, below_shorter, cut, extension_of, no_extension}
-use Rattle.sv_audit.specs.Representatives.{EachPathIsRepresented, directories, directory_of, ending_of, endings, file_path, free_path, free_paths, long_name, longest, named_by, named_paths, representatives}
+use Rattle.sv_audit.specs.Representatives.{EachPathIsRepresented, directories, directory_of, ending_of, endings, file_path, free_path, free_paths, long_name, longest, named_by, named_paths, representatives, slashed_paths}
+use Rattle.sv_audit.specs.Shapes.{has_empty_folder}
 
 -- ---- Lists of texts.
 pub in_listed : (xs : List (List ℕ)) (x : List ℕ) → lists xs x ≡ true → In x xs
@@ -250,6 +251,36 @@ ending_for patterns front back plain =
     ]
 
 -- ---- Representatives.
+-- Each path comes first or last.
+in_parts : (test : List ℕ → Bool) (x : List ℕ) (xs : List (List ℕ)) → In x xs → In x (filter (λ one. not (test one)) xs ++ filter test xs)
+in_parts test x xs there =
+    elim (cases_Bool (test x)) [
+      | inl passes ↦ In-right x (filter (λ one. not (test one)) xs) (filter test xs) (in_kept test x xs there passes)
+      | inr fails ↦ In-left x (filter (λ one. not (test one)) xs) (filter test xs) (in_kept (λ one. not (test one)) x xs there (ap not fails))
+    ]
+
+kept_in : (test : List ℕ → Bool) (x : List ℕ) (xs : List (List ℕ)) → In x (filter test xs) → In x xs × (test x ≡ true)
+kept_in test x [] there = absurd there
+kept_in test x (y ∷ ys) there = at (test y) refl there
+  where
+    at : (passes : Bool) → test y ≡ passes → In x (cond passes (y ∷ filter test ys) (filter test ys)) → In x (y ∷ ys) × (test x ≡ true)
+    at true is (inl same) = (inl same, ap test same ∙ is)
+    at true is (inr later) = let it = kept_in test x ys later in (inr it.0, it.1)
+    at false is later = let it = kept_in test x ys later in (inr it.0, it.1)
+
+in_order : (patterns : List (List ℕ)) (path : List ℕ) → In path (slashed_paths patterns) → In path (representatives patterns)
+in_order patterns path there = in_parts has_empty_folder path (slashed_paths patterns) there
+
+pub representative_slashed : (patterns : List (List ℕ)) (path : List ℕ) → In path (representatives patterns) → is_slashed path ≡ true
+representative_slashed patterns path there =
+    elim (In-cases path (filter (λ one. not (has_empty_folder one)) (slashed_paths patterns)) (filter has_empty_folder (slashed_paths patterns)) there) [
+      | inl first ↦ slashed_one (kept_in (λ one. not (has_empty_folder one)) path (slashed_paths patterns) first).0
+      | inr last ↦ slashed_one (kept_in has_empty_folder path (slashed_paths patterns) last).0
+    ]
+  where
+    slashed_one : In path (slashed_paths patterns) → is_slashed path ≡ true
+    slashed_one among = (kept_in is_slashed path (free_paths (named_paths patterns) (endings patterns) (directories patterns) ++ named_paths patterns) among).1
+
 first_slash : (directory back other rest : List ℕ) → directory ++ 47 ∷ back ≡ 47 ∷ rest → (more : List ℕ) × (directory ++ 47 ∷ other ≡ 47 ∷ more)
 first_slash [] back other rest is = (other, refl)
 first_slash (b ∷ bs) back other rest is = (bs ++ 47 ∷ other, ap (λ c. c ∷ (bs ++ 47 ∷ other)) (heads b 47 (bs ++ 47 ∷ back) rest is))
@@ -262,10 +293,11 @@ new_path : (patterns : List (List ℕ)) (directory ending : List ℕ) → In dir
 new_path patterns directory ending there here rooted =
     let named = named_paths patterns in
     listed_in (representatives patterns) (free_path named directory ending)
+    (in_order patterns (free_path named directory ending)
     (in_kept is_slashed (free_path named directory ending) (free_paths named (endings patterns) (directories patterns) ++ named)
     (In-left (free_path named directory ending) (free_paths named (endings patterns) (directories patterns)) named
     (in_joined (λ one. map (free_path named one) (endings patterns)) directory (free_path named directory ending) (directories patterns) there (In-map (free_path named directory) ending (endings patterns) here)))
-    rooted)
+    rooted))
 
 -- The representative stands for the path.
 stands : (patterns : List (List ℕ)) (path directory ending representative : List ℕ) → IsFree (named_paths patterns) directory ending representative → lists (representatives patterns) representative ≡ true
@@ -352,8 +384,9 @@ slash_represented patterns path rest is =
       | inl named ↦ (
         path,
         listed_in (representatives patterns) path
+            (in_order patterns path
             (in_kept is_slashed path (free_paths (named_paths patterns) (endings patterns) (directories patterns) ++ named_paths patterns)
-            (In-right path (free_paths (named_paths patterns) (endings patterns) (directories patterns)) (named_paths patterns) (in_listed (named_paths patterns) path named)) (slashed path rest is)),
+            (In-right path (free_paths (named_paths patterns) (endings patterns) (directories patterns)) (named_paths patterns) (in_listed (named_paths patterns) path named)) (slashed path rest is))),
         λ part within. refl,
       )
       | inr new ↦

@@ -1,11 +1,12 @@
--- Paths that represent all others: each path matches the same patterns as one of them (Jakarta Servlet 6.0, sections 12.1 and 12.2).
-use Rattle.std.specs.Prelude.{◌≡◌, ℕ, List, [], ◌∷◌, ◌++◌, length, filter, fold, map, max, codes, if◌then◌else◌, Option, None, Some, IsTrue}
+-- Paths that represent all others: each path matches the same patterns as one of them (Jakarta Servlet 6.0, sections 3.5.2, 12.1 and 12.2).
+use Rattle.std.specs.Prelude.{◌≡◌, ℕ, List, [], ◌∷◌, ◌++◌, length, filter, fold, map, max, not, codes, if◌then◌else◌, Option, None, Some, IsTrue}
 use Rattle.std.specs.List.{flat_map, repeat}
 use Rattle.std.specs.Option.{option_to_list}
 use Rattle.sv_mapping.specs.BestMatch.{best_pattern}
 use Rattle.sv_mapping.specs.Pattern.{Form, Root, Default, Extension, Prefix, Exact, form}
 use Rattle.sv_mapping.specs.Segments.{is_rooted, is_slashed}
 use Rattle.sv_constraints.specs.Covering.{lists}
+use Rattle.sv_audit.specs.Shapes.{has_empty_folder}
 
 -- The path that the pattern names: its only path, or the directory of a prefix pattern.
 abbrev pub named_by : Form → Option (List ℕ)
@@ -61,9 +62,14 @@ free_path named directory ending =
 abbrev pub free_paths : List (List ℕ) → List (List ℕ) → List (List ℕ) → List (List ℕ)
 free_paths named its_endings its_directories = flat_map (λ directory. map (free_path named directory) its_endings) its_directories
 
--- The paths that represent all others: one for each directory and extension, and those that patterns name.
+-- A path for each directory and extension, and the paths that patterns name.
+abbrev pub slashed_paths : List (List ℕ) → List (List ℕ)
+slashed_paths patterns = filter is_slashed (free_paths (named_paths patterns) (endings patterns) (directories patterns) ++ named_paths patterns)
+
+-- The paths that represent all others. Those that no canonical path has, since they have an empty segment before the last
+-- (section 3.5.2), come last.
 abbrev pub representatives : List (List ℕ) → List (List ℕ)
-representatives patterns = filter is_slashed (free_paths (named_paths patterns) (endings patterns) (directories patterns) ++ named_paths patterns)
+representatives patterns = filter (λ path. not (has_empty_folder path)) (slashed_paths patterns) ++ filter has_empty_folder (slashed_paths patterns)
 
 -- Each path that is empty or begins with a slash has a representative with the same best match, among all of the
 -- patterns and among any part of them.

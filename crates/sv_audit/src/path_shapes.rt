@@ -49,7 +49,7 @@ fn is_misshapen(text: &[u8]) -> bool
 }
 
 /// Returns whether two slashes enclose an empty segment.
-fn has_empty_folder(text: &[u8]) -> bool
+pub fn has_empty_folder(text: &[u8]) -> bool
     ensures { result ≡ spec.has_empty_folder text.now }
 {
     match text.split_first() {

@@ -1,19 +1,22 @@
 //! Paths that represent all others.
 
-ghost use Rattle.std.specs.Prelude.{◌≡◌, ◌++◌, IfOk, OnOk, filter, map};
+ghost use Rattle.std.specs.Prelude.{◌≡◌, ◌++◌, IfOk, OnOk, filter, map, not};
 ghost use Rattle.std.specs.Option.{option_copied, option_to_list};
 ghost use Rattle.sv_mapping.specs.Pattern.{form};
 ghost use Rattle.sv_mapping.specs.Segments.{is_slashed};
 ghost use Rattle.sv_text.specs.Gives.{GivesAnswer};
 ghost use Rattle.sv_audit.specs.Representatives as spec;
+ghost use Rattle.sv_audit.specs.Shapes.{has_empty_folder};
 
+use crate::path_shapes::has_empty_folder;
 use std::alloc::Global;
 use sv_constraints::lists;
 use sv_mapping::{Form, Pattern};
 use sv_text::{NoMemory, Text};
 
 /// Returns paths of which one matches the same patterns as any path that is empty or begins with a slash: one for each
-/// directory of a prefix pattern and each extension, and the paths that the patterns name.
+/// directory of a prefix pattern and each extension, and the paths that the patterns name. Those with an empty segment
+/// before the last come last, since no canonical path has one (Jakarta Servlet 6.0, section 3.5.2).
 ///
 /// The time grows with the product of the numbers of prefix patterns, of extension patterns and of all patterns.
 ///
@@ -21,6 +24,41 @@ use sv_text::{NoMemory, Text};
 /// `NoMemory` if memory runs out.
 pub fn representative_paths(alloc: Global, patterns: &[Pattern]) -> Result<Vec<Text>, NoMemory>
     ensures { IfOk result (λ paths. paths.items ≡ spec.representatives patterns.now) }
+{
+    let slashed = slashed_paths(alloc, patterns)?;
+    let mut paths = Vec::new(alloc);
+    push_without_empty(&mut paths, alloc, slashed.as_slice())?;
+    push_with_empty(&mut paths, alloc, slashed.as_slice())?;
+    Ok(paths)
+}
+
+/// Appends the paths without an empty segment before the last.
+fn push_without_empty(paths: &mut Vec<Text>, alloc: Global, texts: &[Text]) -> Result<(), NoMemory>
+    ensures { OnOk result (paths.new.items ≡ paths.old.items ++ filter (λ path. not (has_empty_folder path)) texts.now) }
+{
+    for path in texts {
+        if !has_empty_folder(path.as_str().as_bytes()) {
+            paths.push(Text::copy_of(alloc, path.as_str())?)?;
+        }
+    }
+    Ok(())
+}
+
+/// Appends the paths with an empty segment before the last.
+fn push_with_empty(paths: &mut Vec<Text>, alloc: Global, texts: &[Text]) -> Result<(), NoMemory>
+    ensures { OnOk result (paths.new.items ≡ paths.old.items ++ filter has_empty_folder texts.now) }
+{
+    for path in texts {
+        if has_empty_folder(path.as_str().as_bytes()) {
+            paths.push(Text::copy_of(alloc, path.as_str())?)?;
+        }
+    }
+    Ok(())
+}
+
+/// Returns a path for each directory and extension, and the paths that the patterns name.
+fn slashed_paths(alloc: Global, patterns: &[Pattern]) -> Result<Vec<Text>, NoMemory>
+    ensures { IfOk result (λ paths. paths.items ≡ spec.slashed_paths patterns.now) }
 {
     let named = named_paths(alloc, patterns)?;
     let endings = endings(alloc, patterns)?;

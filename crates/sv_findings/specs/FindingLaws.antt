@@ -18,15 +18,17 @@ use Rattle.sv_policy.specs.Patterns.{lists_pattern}
 use Rattle.sv_policy.specs.Uncovered.{is_uncovered, rising}
 use Rattle.sv_audit.specs.Access.{roles_meant}
 use Rattle.sv_audit.specs.DifferenceLaws.{Configuration, fate_of}
-use Rattle.sv_audit.specs.Shapes.{IsServed}
+use Rattle.sv_audit.specs.Shapes.{IsServed, matches_nothing}
 use Rattle.sv_findings.specs.Dead.{decides_nothing, is_dead, is_escaped, is_tried_late}
 use Rattle.sv_overruled.specs.Overruled.{others}
+use Rattle.sv_findings.specs.Overruled.{compared}
+use Rattle.sv_findings.specs.Unsearched.{is_overruled_kind, is_unserved_kind, unsearched}
 use Rattle.sv_overruled.specs.declared.overruled.TheConstants.{MAX_COMPARED_AT_PATTERN}
 use Rattle.sv_findings.specs.Findings.{findings_of}
 use Rattle.sv_findings.specs.Reach.{is_reached}
 use Rattle.sv_findings.specs.MetRows.{is_met}
 use Rattle.sv_findings.specs.Readings.{is_prefix}
-use Rattle.sv_findings.specs.Unserved.{holds}
+use Rattle.sv_findings.specs.Unserved.{holds, is_unserved}
 use Rattle.sv_findings.specs.LoginNeeds.{needed_at, parts, references_after, target_of}
 use Rattle.sv_findings.specs.declared.surroundings.LoginPage.{LoginPage}
 use Rattle.sv_audit.specs.Reading.{Kind, Passes, kind_and_cause, said_to}
@@ -111,6 +113,11 @@ ChangesNothing constraints rules constraint pattern = IsTrue (lists (all_pattern
     × ((method : List ℕ) → (is_uncovered (others constraint.number constraints) pattern method ≡ is_uncovered constraints pattern method)
     × AreAlike rules constraint.number pattern (covering constraints (Some pattern) method))
 
+-- A constraint with this number changes nothing at each of its patterns that is the best match of the path of a request.
+abbrev pub IsOverruled : List Constraint → Rules → ℕ → Type 0
+IsOverruled constraints rules its_number = (constraint : Constraint) × Contains constraints constraint × (constraint.number ≡ its_number)
+    × ((path pattern : List ℕ) → IsServed path → best_pattern (all_patterns constraints) path ≡ Some pattern → IsTrue (lists (patterns_in constraint) pattern) → ChangesNothing constraints rules constraint pattern)
+
 -- Few constraints list the pattern, and they name few methods there.
 abbrev pub AreFew : List Constraint → List ℕ → Type 0
 AreFew constraints pattern = (length (filter (λ constraint. lists_pattern constraint pattern) constraints) ≤ MAX_COMPARED_AT_PATTERN) × (length (rising (named_methods constraints pattern)) ≤ MAX_COMPARED_AT_PATTERN)
@@ -120,8 +127,8 @@ AreFew constraints pattern = (length (filter (λ constraint. lists_pattern const
 -- each method is uncovered at a prefix pattern, but some constraint covers one of them at a pattern that is tried later,
 -- and a request without a caller does not pass with it if that pattern decides; the accesses are those of GET and HEAD,
 -- and some visitor fares differently with them at each path of the pattern; the constraint covers nothing; the constraint has the pattern, which is never best; the
--- constraint changes nothing at each of its patterns that is the best match of the path of a request; the constraint has
--- the pattern, which is not reached; the constraint has the pattern, the files are known, and at no path that it matches is there a servlet,
+-- constraint, with its transport requirements, changes nothing at each of its patterns that is the best match of the path
+-- of a request; the constraint has the pattern, which is not reached; the constraint has the pattern, the files are known, and at no path that it matches is there a servlet,
 -- a file or a folder that holds one; the constraint has the pattern, with a percent sign; the login page refers to the
 -- path, and a request without a caller does not pass there; the constraint names the role, which is not declared; a
 -- constraint means the role, which is declared if any is, and no user has it; the role is declared, and no constraint
@@ -139,8 +146,7 @@ IsRight constraints rules surroundings (HeadDiffers pattern get head) = IsAccess
 IsRight constraints rules surroundings (Dead its_number) = (constraint : Constraint) × Contains constraints constraint × (constraint.number ≡ its_number) × CoversNothing constraints constraint
 IsRight constraints rules surroundings (DeadPattern its_number pattern) = (constraint : Constraint) × Contains constraints constraint × (constraint.number ≡ its_number)
     × IsTrue (lists (patterns_in constraint) pattern) × IsNeverBest constraints pattern
-IsRight constraints rules surroundings (Overruled its_number) = (constraint : Constraint) × Contains constraints constraint × (constraint.number ≡ its_number)
-    × ((path pattern : List ℕ) → IsServed path → best_pattern (all_patterns constraints) path ≡ Some pattern → IsTrue (lists (patterns_in constraint) pattern) → ChangesNothing constraints rules constraint pattern)
+IsRight constraints rules surroundings (Overruled its_number) = IsOverruled (compared surroundings constraints) rules its_number
 IsRight constraints rules surroundings (Unreached its_number pattern) = (constraint : Constraint) × Contains constraints constraint × (constraint.number ≡ its_number)
     × IsTrue (lists (patterns_in constraint) pattern) × (is_reached surroundings.contexts surroundings.path pattern ≡ false)
 IsRight constraints rules surroundings (Unserved its_number pattern) = (constraint : Constraint) × Contains constraints constraint × (constraint.number ≡ its_number)
@@ -165,11 +171,11 @@ FindingsAreRight = (constraints : List Constraint) (rules : Rules) (surroundings
 -- A pattern that is the best match of the path of a request decides something.
 abbrev pub BestDecides : Type 0
 BestDecides = (constraints : List Constraint) (path pattern : List ℕ) → IsServed path → best_pattern (all_patterns constraints) path ≡ Some pattern →
-    decides_nothing (lists (all_patterns constraints) (codes "/*")) pattern ≡ false
+    decides_nothing (all_patterns constraints) pattern ≡ false
 
 -- Some requests may reach the pattern and have it as their best match.
 abbrev pub IsMet : List Constraint → Surroundings → List ℕ → Type 0
-IsMet constraints surroundings pattern = IsTrue (is_met surroundings.contexts surroundings.path (lists (all_patterns constraints) (codes "/*")) pattern)
+IsMet constraints surroundings pattern = IsTrue (is_met surroundings.contexts surroundings.path (all_patterns constraints) pattern)
 
 -- Whether the finding says that everyone may use the method at the pattern although it is restricted.
 abbrev pub says_opened : List ℕ → List ℕ → Finding → Bool
@@ -192,7 +198,7 @@ says_dead number pattern other = false
 -- Each pattern of a constraint that decides nothing is found.
 abbrev pub DeadIsFound : Type 0
 DeadIsFound = (constraints : List Constraint) (rules : Rules) (surroundings : Surroundings) (constraint : Constraint) (pattern : List ℕ) → Contains constraints constraint →
-    IsTrue (lists (patterns_in constraint) pattern) → IsTrue (decides_nothing (lists (all_patterns constraints) (codes "/*")) pattern) →
+    IsTrue (lists (patterns_in constraint) pattern) → IsTrue (decides_nothing (all_patterns constraints) pattern) →
     IsTrue (list_any (says_dead constraint.number pattern) (findings_of constraints rules (table_of constraints rules) surroundings))
 
 -- Whether the finding says that the constraint with this number changes nothing.
@@ -200,12 +206,23 @@ abbrev pub says_overruled : ℕ → Finding → Bool
 says_overruled number (Overruled its_number) = its_number == number
 says_overruled number other = false
 
--- Each constraint is found that has a pattern that may decide, and that changes nothing at all such patterns, if few
--- constraints list them and name few methods there.
+-- At each pattern of the constraint that may decide, something holds.
+abbrev pub AtEachThatDecides : List Constraint → Constraint → (List ℕ → Type 0) → Type 0
+AtEachThatDecides constraints constraint Holds = (pattern : List ℕ) → IsTrue (lists (patterns_in constraint) pattern) → decides_nothing (all_patterns constraints) pattern ≡ false → Holds pattern
+
+-- Each compared constraint is found that has a pattern that may decide, and that changes nothing at all such patterns, if
+-- few constraints list them and name few methods there.
 abbrev pub OverruledIsFound : Type 0
-OverruledIsFound = (constraints : List Constraint) (rules : Rules) (surroundings : Surroundings) (constraint : Constraint) → Contains constraints constraint →
-    is_dead (lists (all_patterns constraints) (codes "/*")) constraint ≡ false →
-    ((pattern : List ℕ) → IsTrue (lists (patterns_in constraint) pattern) → decides_nothing (lists (all_patterns constraints) (codes "/*")) pattern ≡ false → AreFew constraints pattern × ChangesNothing constraints rules constraint pattern) →
+OverruledIsFound = (constraints : List Constraint) (rules : Rules) (surroundings : Surroundings) (constraint : Constraint) →
+    let full = compared surroundings constraints in Contains full constraint → is_dead (all_patterns full) constraint ≡ false →
+    AtEachThatDecides full constraint (λ pattern. AreFew full pattern × ChangesNothing full rules constraint pattern) →
+    IsTrue (list_any (says_overruled constraint.number) (findings_of constraints rules (table_of constraints rules) surroundings))
+
+-- Each is found without a limit, if no overruled constraints are reported as not looked for.
+abbrev pub SearchedIsFound : Type 0
+SearchedIsFound = (constraints : List Constraint) (rules : Rules) (surroundings : Surroundings) (constraint : Constraint) → list_any is_overruled_kind (unsearched constraints surroundings) ≡ false →
+    let full = compared surroundings constraints in Contains full constraint → is_dead (all_patterns full) constraint ≡ false →
+    AtEachThatDecides full constraint (ChangesNothing full rules constraint) →
     IsTrue (list_any (says_overruled constraint.number) (findings_of constraints rules (table_of constraints rules) surroundings))
 
 -- Both decisions let a request pass, need a login, or deny it.
@@ -218,11 +235,11 @@ DecideAlikeWithout constraints rules number = (method path : List ℕ) (caller :
     IsSameKind (verdict constraints rules method path caller) (verdict (others number constraints) rules method path caller)
     × IsSameKind (verdict (secure constraints) rules method path caller) (verdict (secure (others number constraints)) rules method path caller)
 
--- Without an overruled constraint each request is decided alike, if no other constraint has its number.
+-- Without an overruled constraint each request is decided alike, if no other compared constraint has its number.
 abbrev pub OverruledIsRemovable : Type 0
-OverruledIsRemovable = (constraints : List Constraint) (rules : Rules) (surroundings : Surroundings) (constraint : Constraint) → Contains constraints constraint →
-    ((other : Constraint) → Contains constraints other → other.number ≡ constraint.number → other ≡ constraint) →
-    IsTrue (list_any (says_overruled constraint.number) (findings_of constraints rules (table_of constraints rules) surroundings)) → DecideAlikeWithout constraints rules constraint.number
+OverruledIsRemovable = (constraints : List Constraint) (rules : Rules) (surroundings : Surroundings) (constraint : Constraint) →
+    let full = compared surroundings constraints in Contains full constraint → ((other : Constraint) → Contains full other → other.number ≡ constraint.number → other ≡ constraint) →
+    IsTrue (list_any (says_overruled constraint.number) (findings_of constraints rules (table_of constraints rules) surroundings)) → DecideAlikeWithout full rules constraint.number
 
 -- Whether the finding says that the method is uncovered at the pattern.
 abbrev pub says_uncovered : List ℕ → List ℕ → Finding → Bool
@@ -254,9 +271,9 @@ says_read pattern method other = false
 
 -- Unless uncovered methods are denied, each method is found that no constraint covers at a prefix pattern of the
 -- constraints that requests meet, if a request with it and without a caller does not pass where such a pattern decides that
--- is tried later.
+-- is tried later and matches some canonical path.
 abbrev pub ReadingIsFound : Type 0
-ReadingIsFound = (constraints : List Constraint) (rules : Rules) (surroundings : Surroundings) (pattern method other : List ℕ) → IsMet constraints surroundings pattern → IsMet constraints surroundings other →
+ReadingIsFound = (constraints : List Constraint) (rules : Rules) (surroundings : Surroundings) (pattern method other : List ℕ) → IsMet constraints surroundings pattern → matches_nothing other ≡ false →
     rules.deny_uncovered ≡ false → IsTrue (lists (all_patterns constraints) pattern) → IsTrue (lists (all_patterns constraints) other) → IsTrue (is_prefix (form pattern)) → IsTrue (is_tried_late other) →
     IsTrue (is_uncovered constraints pattern method) → IsShut constraints rules other method → IsTrue (list_any (says_read pattern method) (findings_of constraints rules (table_of constraints rules) surroundings))
 
@@ -270,3 +287,16 @@ abbrev pub UnreachedIsFound : Type 0
 UnreachedIsFound = (constraints : List Constraint) (rules : Rules) (surroundings : Surroundings) (constraint : Constraint) (pattern : List ℕ) → Contains constraints constraint →
     IsTrue (lists (patterns_in constraint) pattern) → is_reached surroundings.contexts surroundings.path pattern ≡ false →
     IsTrue (list_any (says_unreached constraint.number pattern) (findings_of constraints rules (table_of constraints rules) surroundings))
+
+-- Whether the finding says that nothing answers at the pattern of the constraint with this number.
+abbrev pub says_unserved : ℕ → List ℕ → Finding → Bool
+says_unserved number pattern (Unserved its_number its_pattern) = its_number == number && bytes_eq its_pattern pattern
+says_unserved number pattern other = false
+
+-- If the files are known, each pattern of a constraint at which nothing answers is found, unless such patterns are reported
+-- as not looked for.
+abbrev pub UnservedIsFound : Type 0
+UnservedIsFound = (constraints : List Constraint) (rules : Rules) (surroundings : Surroundings) (constraint : Constraint) (pattern : List ℕ) (files : List (List ℕ)) → surroundings.files ≡ Some files →
+    list_any is_unserved_kind (unsearched constraints surroundings) ≡ false → Contains constraints constraint → IsTrue (lists (patterns_in constraint) pattern) →
+    IsTrue (is_unserved surroundings.contexts surroundings.path (all_patterns constraints) surroundings.servlets files pattern) →
+    IsTrue (list_any (says_unserved constraint.number pattern) (findings_of constraints rules (table_of constraints rules) surroundings))

@@ -8,6 +8,7 @@ pub mod Readings
 pub mod Heads
 pub mod Unreached
 pub mod Unserved
+pub mod Unsearched
 pub mod LoginNeeds
 pub mod RoleFindings
 pub mod Findings

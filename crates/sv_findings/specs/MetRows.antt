@@ -7,17 +7,17 @@ use Rattle.sv_findings.specs.Reach.{is_reached, reach_of}
 use Rattle.sv_findings.specs.declared.reach.Reach.{Reach}
 use Rattle.sv_findings.specs.declared.reach.Reach.TheVariants.{Unmatched}
 
--- Whether some requests may reach the pattern and have it as their best match, given whether `/*` is among the patterns.
-abbrev pub is_met : List (List ℕ) → List ℕ → Bool → List ℕ → Bool
-is_met contexts context has_prefix pattern = not (decides_nothing has_prefix pattern) && is_reached contexts context pattern
+-- Whether some requests may reach the pattern and have it as their best match, given the patterns of all constraints.
+abbrev pub is_met : List (List ℕ) → List ℕ → List (List ℕ) → List ℕ → Bool
+is_met contexts context patterns pattern = not (decides_nothing patterns pattern) && is_reached contexts context pattern
 
 -- Whether requests meet the pattern: they may reach it, and have it as their best match.
-abbrev pub row_reach : List (List ℕ) → List ℕ → Bool → List ℕ → Reach
-row_reach contexts context has_prefix pattern = if decides_nothing has_prefix pattern then Unmatched else reach_of contexts context pattern
+abbrev pub row_reach : List (List ℕ) → List ℕ → List (List ℕ) → List ℕ → Reach
+row_reach contexts context patterns pattern = if decides_nothing patterns pattern then Unmatched else reach_of contexts context pattern
 
 -- Whether there is a pattern, and some requests may meet it.
-abbrev pub is_pattern_met : List (List ℕ) → List ℕ → Bool → Option (List ℕ) → Bool
-is_pattern_met contexts context has_prefix pattern = option_map_or (is_met contexts context has_prefix) pattern false
+abbrev pub is_pattern_met : List (List ℕ) → List ℕ → List (List ℕ) → Option (List ℕ) → Bool
+is_pattern_met contexts context patterns pattern = option_map_or (is_met contexts context patterns) pattern false
 
-abbrev pub is_row_met : List (List ℕ) → List ℕ → Bool → Row → Bool
-is_row_met contexts context has_prefix row = is_pattern_met contexts context has_prefix row.pattern
+abbrev pub is_row_met : List (List ℕ) → List ℕ → List (List ℕ) → Row → Bool
+is_row_met contexts context patterns row = is_pattern_met contexts context patterns row.pattern

@@ -1,12 +1,12 @@
 -- Constraints without which each request is decided alike (Jakarta Servlet 6.0, sections 13.8.1 and 13.8.3).
-use Rattle.std.specs.Prelude.{◌≡◌, ℕ, Bool, not, ◌&&◌, ◌==◌, List, [], ◌∷◌, length, codes, filter, if◌then◌else◌, Vec}
+use Rattle.std.specs.Prelude.{◌≡◌, ℕ, Bool, not, ◌&&◌, ◌==◌, List, [], ◌∷◌, length, filter, if◌then◌else◌, Vec}
 use Rattle.std.specs.Borrow.{Bor}
 use Rattle.std.proofs.Common.{Global}
 use Rattle.std.specs.HashMap.{HashMap, get_by}
 use Rattle.std.specs.List.{flat_map, list_all, list_any}
-use Rattle.std.specs.Option.{option_map_or}
+use Rattle.std.specs.Option.{option_map_or, unwrap_or}
 use Rattle.std.specs.Str.{bytes_eq}
-use Rattle.sv_constraints.specs.Covering.{all_patterns, lists, patterns_in}
+use Rattle.sv_constraints.specs.Covering.{all_patterns, patterns_in}
 use Rattle.sv_constraints.specs.declared.constraint.Constraint.{Constraint}
 use Rattle.sv_constraints.specs.declared.constraint.Rules.{Rules}
 use Rattle.sv_policy.specs.Patterns.{lists_pattern}
@@ -15,6 +15,7 @@ use Rattle.sv_findings.specs.Dead.{decides_nothing}
 use Rattle.sv_findings.specs.declared.finding.Finding.{Finding}
 use Rattle.sv_findings.specs.declared.finding.Finding.TheVariants as finding
 use Rattle.sv_findings.specs.declared.overruled.OverruledByPattern.{OverruledByPattern}
+use Rattle.sv_findings.specs.declared.surroundings.Surroundings.{Surroundings}
 
 -- The numbers of the constraints that change nothing at the pattern.
 abbrev pub numbers_at : Rules → List Constraint → List ℕ → List ℕ
@@ -32,17 +33,21 @@ abbrev pub AreOverruled : Rules → List Constraint → OverruledByPattern → T
 AreOverruled rules constraints overruled = (pattern : List ℕ) → numbers_in overruled.numbers pattern ≡ numbers_at rules constraints pattern
 
 -- The patterns of the constraint that may decide.
-abbrev pub deciding_patterns : Bool → Constraint → List (List ℕ)
-deciding_patterns has_prefix constraint = filter (λ pattern. not (decides_nothing has_prefix pattern)) (patterns_in constraint)
+abbrev pub deciding_patterns : List (List ℕ) → Constraint → List (List ℕ)
+deciding_patterns patterns constraint = filter (λ pattern. not (decides_nothing patterns pattern)) (patterns_in constraint)
 
 -- Whether the constraint has patterns that may decide, and changes nothing at any of them.
-abbrev pub is_overruled : Rules → List Constraint → Bool → Constraint → Bool
-is_overruled rules constraints has_prefix constraint =
-    let patterns = deciding_patterns has_prefix constraint in
-    not (length patterns == 0) && list_all (is_overruled_at rules constraints constraint.number) patterns
+abbrev pub is_overruled : Rules → List Constraint → List (List ℕ) → Constraint → Bool
+is_overruled rules constraints patterns constraint =
+    let deciding = deciding_patterns patterns constraint in
+    not (length deciding == 0) && list_all (is_overruled_at rules constraints constraint.number) deciding
 
-abbrev pub overruled_in : Rules → List Constraint → Bool → Constraint → List Finding
-overruled_in rules constraints has_prefix constraint = if is_overruled rules constraints has_prefix constraint then finding.Overruled constraint.number ∷ [] else []
+abbrev pub overruled_in : Rules → List Constraint → List (List ℕ) → Constraint → List Finding
+overruled_in rules constraints patterns constraint = if is_overruled rules constraints patterns constraint then finding.Overruled constraint.number ∷ [] else []
+
+-- The constraints that are compared with each other: those with their transport requirements.
+abbrev pub compared : Surroundings → List Constraint → List Constraint
+compared surroundings constraints = unwrap_or surroundings.with_transport constraints
 
 abbrev pub overruled : Rules → List Constraint → List Finding
-overruled rules constraints = flat_map (overruled_in rules constraints (lists (all_patterns constraints) (codes "/*"))) constraints
+overruled rules constraints = flat_map (overruled_in rules constraints (all_patterns constraints)) constraints

@@ -8,6 +8,7 @@ use Rattle.sv_constraints.specs.declared.constraint.Methods.{Methods}
 use Rattle.sv_constraints.specs.declared.constraint.Methods.TheVariants.{All, Only, Except}
 use Rattle.sv_mapping.specs.Pattern.{Form, Root, Default, Extension, Prefix, Exact, form}
 use Rattle.sv_audit.specs.Callers.{is_open}
+use Rattle.sv_audit.specs.Shapes.{matches_nothing}
 use Rattle.sv_audit.specs.declared.rows.Group.{Group}
 use Rattle.sv_audit.specs.declared.rows.Row.{Row}
 use Rattle.sv_findings.specs.Dead.{is_tried_late}
@@ -34,8 +35,12 @@ restricts_part methods group = not (is_open group.cell.access) && share_method m
 abbrev pub restricts_one : Methods → Row → Bool
 restricts_one methods row = list_any (restricts_part methods) row.groups
 
+-- Whether the pattern is tried late and matches some canonical path.
+abbrev pub is_late_match : List ℕ → Bool
+is_late_match pattern = is_tried_late pattern && not (matches_nothing pattern)
+
 abbrev pub is_late : Row → Bool
-is_late row = option_map_or is_tried_late row.pattern false
+is_late row = option_map_or is_late_match row.pattern false
 
 abbrev pub is_prefix : Form → Bool
 is_prefix Root = false
@@ -56,6 +61,8 @@ abbrev pub read_at : List Row → Option (List ℕ) → List Group → List Find
 read_at late None groups = []
 read_at late (Some pattern) groups = if is_prefix (form pattern) then flat_map (λ group. read_as late pattern group.methods) (filter is_left_out groups) else []
 
--- The prefix patterns with uncovered methods of which one is not open to everyone at an extension pattern or `/`.
-abbrev pub read_otherwise : List Row → List Finding
-read_otherwise rows = flat_map (λ row. read_at (filter is_late rows) row.pattern row.groups) rows
+-- The prefix patterns of met rows with uncovered methods of which one is not open to everyone at an extension pattern or
+-- `/` of all rows. Requests need not meet that one: `/*` takes all paths from it here (section 12.1), but not on a server
+-- that takes only patterns which cover the method.
+abbrev pub read_otherwise : List Row → List Row → List Finding
+read_otherwise all_rows met_rows = flat_map (λ row. read_at (filter is_late all_rows) row.pattern row.groups) met_rows

@@ -3,7 +3,7 @@ use Rattle.std.specs.Prelude.{ℕ, Bool, true, not, ◌&&◌, ◌||◌, nat_eq, 
 use Rattle.std.specs.List.{ends_with, flat_map, list_any, starts_with}
 use Rattle.std.specs.Option.{option_map_or}
 use Rattle.std.specs.Str.{bytes_eq}
-use Rattle.sv_constraints.specs.Covering.{all_patterns, lists, patterns_in}
+use Rattle.sv_constraints.specs.Covering.{all_patterns, patterns_in}
 use Rattle.sv_constraints.specs.declared.constraint.Constraint.{Constraint}
 use Rattle.sv_mapping.specs.Pattern.{Form, Root, Default, Extension, Prefix, Exact, form, form_matches, has_extension, is_at_or_below}
 use Rattle.sv_mapping.specs.Segments.{between_slashes}
@@ -64,9 +64,9 @@ abbrev pub may_be_among : Form → List (List ℕ) → Bool
 may_be_among its_form files = list_any (may_hold its_form) files
 
 -- Whether requests reach the pattern and it may decide one, but no servlet and no file answers at its paths.
-abbrev pub is_unserved : List (List ℕ) → List ℕ → Bool → List (List ℕ) → List (List ℕ) → List ℕ → Bool
-is_unserved contexts context has_prefix servlets files pattern =
-    is_reached contexts context pattern && not (decides_nothing has_prefix pattern) && not (may_answer (form pattern) servlets) && not (may_be_among (form pattern) files)
+abbrev pub is_unserved : List (List ℕ) → List ℕ → List (List ℕ) → List (List ℕ) → List (List ℕ) → List ℕ → Bool
+is_unserved contexts context patterns servlets files pattern =
+    is_reached contexts context pattern && not (decides_nothing patterns pattern) && not (may_answer (form pattern) servlets) && not (may_be_among (form pattern) files)
 
 abbrev pub unserved_in : (List ℕ → Bool) → Constraint → List Finding
 unserved_in test constraint = map (finding.Unserved constraint.number) (filter test (patterns_in constraint))
@@ -78,7 +78,7 @@ are_many constraints = nat_lt MAX_SERVED_PATTERNS (length (all_patterns constrai
 abbrev pub unserved_among : List (List ℕ) → List ℕ → List (List ℕ) → List Constraint → List (List ℕ) → List Finding
 unserved_among contexts context servlets constraints files =
     if are_many constraints then []
-    else flat_map (unserved_in (is_unserved contexts context (lists (all_patterns constraints) (codes "/*")) servlets files)) constraints
+    else flat_map (unserved_in (is_unserved contexts context (all_patterns constraints) servlets files)) constraints
 
 -- The patterns of constraints at which nothing answers, if the files are known, given the paths of all contexts and that
 -- of this one.

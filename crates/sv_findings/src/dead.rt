@@ -1,16 +1,19 @@
 //! Patterns that decide nothing, and constraints with only such patterns.
 
-ghost use Rattle.std.specs.Prelude.{◌≡◌, ◌++◌, IfOk, OnOk, codes, filter, map};
+ghost use Rattle.std.specs.Prelude.{◌≡◌, ◌++◌, IfOk, OnOk, filter, map};
 ghost use Rattle.std.specs.List.{list_all, list_any};
 ghost use Rattle.sv_constraints.specs.Covering as covering;
+ghost use Rattle.sv_mapping.specs.Form.{form_seen};
 ghost use Rattle.sv_uri.specs.Segment.{begins_with_digits};
 ghost use Rattle.sv_findings.specs.Dead as spec;
 ghost use Rattle.sv_findings.specs.declared.finding.Finding.TheVariants as finding;
 
 use crate::finding::Finding;
+use crate::listed_patterns::ListedPatterns;
 use std::alloc::Global;
-use sv_audit::{all_patterns, is_among, is_extension_pattern, matches_nothing, patterns_in};
+use sv_audit::{form_of, is_extension_pattern, matches_nothing, patterns_in};
 use sv_constraints::Constraint;
+use sv_mapping::Form;
 use sv_text::{NoMemory, Text};
 
 /// Appends the dead constraints, and the dead patterns of others.
@@ -20,72 +23,91 @@ pub fn push_ineffective(
     constraints: &[Constraint],
 ) -> Result<(), NoMemory>
     ensures { OnOk result (findings.new.items ≡ findings.old.items
-        ++ spec.dead_among (covering.lists (covering.all_patterns constraints.now) (codes "/*")) constraints.now
-        ++ spec.dead_patterns (covering.lists (covering.all_patterns constraints.now) (codes "/*")) constraints.now) }
+        ++ spec.dead_among (covering.all_patterns constraints.now) constraints.now
+        ++ spec.dead_patterns (covering.all_patterns constraints.now) constraints.now) }
 {
-    let has_prefix = lists_prefix(alloc, constraints)?;
-    push_dead(findings, alloc, has_prefix, constraints)?;
-    push_dead_patterns(findings, alloc, has_prefix, constraints)
+    let listed = ListedPatterns::of(alloc, constraints)?;
+    push_dead(findings, alloc, &listed, constraints)?;
+    push_dead_patterns(findings, alloc, &listed, constraints)
 }
 
-/// Returns whether `/*` is among the patterns of the constraints.
-pub fn lists_prefix(alloc: Global, constraints: &[Constraint]) -> Result<bool, NoMemory>
-    ensures { IfOk result (λ found. found ≡ covering.lists (covering.all_patterns constraints.now) (codes "/*")) }
-{
-    let patterns = all_patterns(alloc, constraints)?;
-    Ok(is_among(patterns.as_slice(), "/*"))
-}
-
-/// Appends the dead constraints, given whether `/*` is among the patterns of all constraints.
+/// Appends the dead constraints, given the patterns of all constraints.
 fn push_dead(
     findings: &mut Vec<Finding>,
     alloc: Global,
-    has_prefix: bool,
+    listed: &ListedPatterns<'_>,
     constraints: &[Constraint],
 ) -> Result<(), NoMemory>
-    ensures { OnOk result (findings.new.items ≡ findings.old.items ++ spec.dead_among has_prefix constraints.now) }
+    ensures { OnOk result (findings.new.items ≡ findings.old.items ++ spec.dead_among listed.now constraints.now) }
 {
     for constraint in constraints {
-        if is_dead(alloc, has_prefix, constraint)? {
+        if is_dead(alloc, listed, constraint)? {
             findings.push(Finding::Dead(constraint.number))?;
         }
     }
     Ok(())
 }
 
-fn is_dead(alloc: Global, has_prefix: bool, constraint: &Constraint) -> Result<bool, NoMemory>
-    ensures { IfOk result (λ dead. dead ≡ spec.is_dead has_prefix constraint.now) }
+fn is_dead(alloc: Global, listed: &ListedPatterns<'_>, constraint: &Constraint) -> Result<bool, NoMemory>
+    ensures { IfOk result (λ dead. dead ≡ spec.is_dead listed.now constraint.now) }
 {
     let patterns = patterns_in(alloc, constraint)?;
-    Ok(are_dead(has_prefix, patterns.as_slice()))
+    Ok(are_dead(listed, patterns.as_slice()))
 }
 
-fn are_dead(has_prefix: bool, patterns: &[&str]) -> bool
-    ensures { result ≡ list_all (spec.decides_nothing has_prefix) (map (λ pattern. pattern.now) patterns.now) }
+fn are_dead(listed: &ListedPatterns<'_>, patterns: &[&str]) -> bool
+    ensures { result ≡ list_all (spec.decides_nothing listed.now) (map (λ pattern. pattern.now) patterns.now) }
 {
-    decide_nothing(has_prefix, patterns)
+    decide_nothing(listed, patterns)
 }
 
-fn decide_nothing(has_prefix: bool, patterns: &[&str]) -> bool
-    ensures { result ≡ list_all (λ pattern. spec.decides_nothing has_prefix pattern.now) patterns.now }
+fn decide_nothing(listed: &ListedPatterns<'_>, patterns: &[&str]) -> bool
+    ensures { result ≡ list_all (λ pattern. spec.decides_nothing listed.now pattern.now) patterns.now }
 {
     patterns
         .iter()
-        .all(|pattern| decides_nothing(has_prefix, pattern))
+        .all(|pattern| decides_nothing(listed, pattern))
 }
 
-/// Returns whether the pattern is the best match of no canonical path, given whether `/*` is among the patterns.
-pub fn decides_nothing(has_prefix: bool, pattern: &str) -> bool
-    ensures { result ≡ spec.decides_nothing has_prefix pattern.now }
+/// Returns whether the pattern is the best match of no canonical path, given the patterns of all constraints.
+pub fn decides_nothing(listed: &ListedPatterns<'_>, pattern: &str) -> bool
+    ensures { result ≡ spec.decides_nothing listed.now pattern.now }
 {
-    is_beaten(has_prefix, pattern) || matches_nothing(pattern)
+    is_beaten(listed, pattern) || matches_nothing(pattern)
 }
 
-/// Returns whether `/*`, if it is among the patterns, is chosen before this pattern for each path.
-fn is_beaten(has_prefix: bool, pattern: &str) -> bool
-    ensures { result ≡ spec.is_beaten has_prefix pattern.now }
+/// Returns whether another of the patterns is chosen before this one for each path.
+fn is_beaten(listed: &ListedPatterns<'_>, pattern: &str) -> bool
+    ensures { result ≡ spec.is_beaten listed.now pattern.now }
 {
-    has_prefix && is_tried_late(pattern)
+    (listed.has_prefix() && is_tried_late(pattern)) || is_beaten_folder(listed, form_of(pattern))
+}
+
+/// Returns whether the pattern of this form has only the path of a folder, with a slash at its end, and the exact pattern
+/// of that path is among the patterns.
+fn is_beaten_folder(listed: &ListedPatterns<'_>, form: Form<'_>) -> bool
+    ensures { result ≡ spec.is_beaten_folder listed.now (form_seen form.entry) }
+{
+    match form {
+        Form::Root => false,
+        Form::Default => false,
+        Form::Extension(_) => false,
+        Form::Prefix(prefix) => is_beaten_prefix(listed, prefix),
+        Form::Exact(_) => false,
+    }
+}
+
+fn is_beaten_prefix(listed: &ListedPatterns<'_>, prefix: &str) -> bool
+    ensures { result ≡ spec.is_beaten_prefix listed.now prefix.now }
+{
+    prefix.as_bytes().ends_with(b"/") && listed.has(exact_pattern(prefix))
+}
+
+/// Returns the exact pattern of a path (Jakarta Servlet 6.0, section 12.2).
+fn exact_pattern(path: &str) -> &str
+    ensures { result.now ≡ spec.exact_pattern path.now }
+{
+    if path == "/" { "" } else { path }
 }
 
 /// Returns whether the pattern is `/` or an extension pattern, which are tried after all others (Jakarta Servlet 6.0,
@@ -99,13 +121,13 @@ pub fn is_tried_late(pattern: &str) -> bool
 fn push_dead_patterns(
     findings: &mut Vec<Finding>,
     alloc: Global,
-    has_prefix: bool,
+    listed: &ListedPatterns<'_>,
     constraints: &[Constraint],
 ) -> Result<(), NoMemory>
-    ensures { OnOk result (findings.new.items ≡ findings.old.items ++ spec.dead_patterns has_prefix constraints.now) }
+    ensures { OnOk result (findings.new.items ≡ findings.old.items ++ spec.dead_patterns listed.now constraints.now) }
 {
     for constraint in constraints {
-        push_dead_patterns_in(findings, alloc, has_prefix, constraint)?;
+        push_dead_patterns_in(findings, alloc, listed, constraint)?;
     }
     Ok(())
 }
@@ -114,19 +136,19 @@ fn push_dead_patterns(
 fn push_dead_patterns_in(
     findings: &mut Vec<Finding>,
     alloc: Global,
-    has_prefix: bool,
+    listed: &ListedPatterns<'_>,
     constraint: &Constraint,
 ) -> Result<(), NoMemory>
-    ensures { OnOk result (findings.new.items ≡ findings.old.items ++ spec.dead_patterns_in has_prefix constraint.now) }
+    ensures { OnOk result (findings.new.items ≡ findings.old.items ++ spec.dead_patterns_in listed.now constraint.now) }
 {
     let patterns = patterns_in(alloc, constraint)?;
-    if are_dead(has_prefix, patterns.as_slice()) {
+    if are_dead(listed, patterns.as_slice()) {
         return Ok(());
     }
     push_dead_of(
         findings,
         alloc,
-        has_prefix,
+        listed,
         constraint.number,
         patterns.as_slice(),
     )
@@ -135,15 +157,15 @@ fn push_dead_patterns_in(
 fn push_dead_of(
     findings: &mut Vec<Finding>,
     alloc: Global,
-    has_prefix: bool,
+    listed: &ListedPatterns<'_>,
     number: u64,
     patterns: &[&str],
 ) -> Result<(), NoMemory>
     ensures { OnOk result (findings.new.items ≡ findings.old.items
-        ++ map (finding.DeadPattern number) (filter (spec.decides_nothing has_prefix) (map (λ pattern. pattern.now) patterns.now))) }
+        ++ map (finding.DeadPattern number) (filter (spec.decides_nothing listed.now) (map (λ pattern. pattern.now) patterns.now))) }
 {
     for pattern in patterns {
-        if decides_nothing(has_prefix, pattern) {
+        if decides_nothing(listed, pattern) {
             findings.push(Finding::DeadPattern(number, Text::copy_of(alloc, *pattern)?))?;
         }
     }

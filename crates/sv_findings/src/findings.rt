@@ -7,9 +7,10 @@ ghost use Rattle.sv_findings.specs.Findings as spec;
 ghost use Rattle.sv_findings.specs.Uncovered as uncovered;
 ghost use Rattle.sv_findings.specs.declared.finding.Finding.TheVariants as finding;
 
-use crate::dead::{lists_prefix, push_escaped, push_ineffective};
+use crate::dead::{push_escaped, push_ineffective};
 use crate::finding::Finding;
 use crate::heads::push_heads;
+use crate::listed_patterns::ListedPatterns;
 use crate::login_needs::push_login_needs;
 use crate::met_rows::met_rows;
 use crate::opened::push_opened;
@@ -17,7 +18,7 @@ use crate::overruled::push_overruled;
 use crate::reach::Reaches;
 use crate::readings::push_read_otherwise;
 use crate::role_findings::push_by_role;
-use crate::surroundings::Surroundings;
+use crate::surroundings::{Surroundings, compared};
 use crate::unreached::push_unreached;
 use crate::unserved::push_unserved;
 use std::alloc::Global;
@@ -28,7 +29,8 @@ use sv_text::{Listed, NoMemory, Text};
 
 /// Returns the findings of constraints, their rules, their access table and what surrounds them, in the order of the
 /// variants of [`Finding`]. What a row opens is looked for only at patterns that requests meet: they may reach
-/// them, and have them as their best match.
+/// them, and have them as their best match. Constraints without which each request is decided alike are looked for among
+/// those with their transport requirements.
 ///
 /// # Errors
 /// `NoMemory` if memory runs out.
@@ -47,15 +49,18 @@ pub fn findings_of(
         surroundings.path.as_str(),
     )?;
     let mut findings = Vec::new(alloc);
-    let has_prefix = lists_prefix(alloc, constraints)?;
-    let rows = met_rows(alloc, &reaches, has_prefix, table.rows.as_slice())?;
+    let listed = ListedPatterns::of(alloc, constraints)?;
+    let rows = TableRows {
+        all: table.rows.as_slice(),
+        met: met_rows(alloc, &reaches, &listed, table.rows.as_slice())?,
+    };
     push_by_row(
         &mut findings,
         alloc,
         constraints,
         rules,
         surroundings.has_login,
-        rows.as_slice(),
+        &rows,
     )?;
     push_by_pattern(
         &mut findings,
@@ -83,6 +88,13 @@ pub fn findings_of(
     Ok(Listed::from_vec(findings))
 }
 
+/// The rows of an access table, and those of them that requests meet.
+#[derive(Drop)]
+struct TableRows<'a> {
+    all: &'a [Row],
+    met: Vec<&'a Row>,
+}
+
 /// Appends the findings of rows of the table, given whether there is a login configuration.
 fn push_by_row(
     findings: &mut Vec<Finding>,
@@ -90,14 +102,15 @@ fn push_by_row(
     constraints: &[Constraint],
     rules: &Rules,
     has_login: bool,
-    rows: &[&Row],
+    rows: &TableRows<'_>,
 ) -> Result<(), NoMemory>
-    ensures { OnOk result (findings.new.items ≡ findings.old.items ++ spec.row_findings constraints.now has_login (map (λ row. row.now) rows.now)) }
+    ensures { OnOk result (findings.new.items ≡ findings.old.items
+        ++ spec.row_findings constraints.now has_login rows.now.all.now (map (λ row. row.now) rows.now.met.items)) }
 {
-    push_opened(findings, alloc, constraints, rules, rows)?;
-    push_uncovered(findings, alloc, rows)?;
-    push_read_otherwise(findings, alloc, rows)?;
-    push_heads(findings, alloc, has_login, rows)
+    push_opened(findings, alloc, constraints, rules, rows.met.as_slice())?;
+    push_uncovered(findings, alloc, rows.met.as_slice())?;
+    push_read_otherwise(findings, alloc, rows.all, rows.met.as_slice())?;
+    push_heads(findings, alloc, has_login, rows.met.as_slice())
 }
 
 /// Appends the findings of the patterns of the constraints.
@@ -112,7 +125,7 @@ fn push_by_pattern(
     ensures { OnOk result (findings.new.items ≡ findings.old.items ++ spec.pattern_findings constraints.now rules.now reaches.now.0 reaches.now.1 surroundings.now) }
 {
     push_ineffective(findings, alloc, constraints)?;
-    push_overruled(findings, alloc, constraints, rules)?;
+    push_overruled(findings, alloc, compared(surroundings, constraints), rules)?;
     push_unreached(findings, alloc, reaches, constraints)?;
     push_unserved(findings, alloc, reaches, surroundings, constraints)?;
     push_escaped(findings, alloc, constraints)

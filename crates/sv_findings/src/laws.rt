@@ -3,7 +3,7 @@
 ghost use Rattle.std.specs.Prelude.{◌≡◌};
 ghost use Rattle.sv_findings.specs.declared.unserved.TheConstants.{MAX_SERVED_PATTERNS};
 ghost use Rattle.sv_findings.specs.Reach.{ElsewhereIsForeign, HiddenIsProtected, ServedIsReached};
-ghost use Rattle.sv_findings.specs.FindingLaws.{BestDecides, DeadIsFound, FindingsAreRight, HeadIsFound, OpenedIsFound, OverruledIsFound, OverruledIsRemovable, ReadingIsFound, UncoveredIsFound, UnreachedIsFound};
+ghost use Rattle.sv_findings.specs.FindingLaws.{BestDecides, DeadIsFound, FindingsAreRight, HeadIsFound, OpenedIsFound, OverruledIsFound, OverruledIsRemovable, ReadingIsFound, SearchedIsFound, UncoveredIsFound, UnreachedIsFound, UnservedIsFound};
 
 use sv_mapping::laws::{best_exists, best_is_a_match, best_is_unique};
 use sv_uri::laws::canonical_has_shape;
@@ -15,7 +15,8 @@ use sv_uri::laws::canonical_has_shape;
 /// pattern decides. If GET and HEAD differ, their accesses are as reported, and there is a visitor whose fate differs
 /// with them: whether requests pass, lead to a login or are denied. Without a login configuration nobody can log in. A
 /// dead constraint covers no request, and a dead pattern is the best match of no canonical path. Without an overruled
-/// constraint each request at one of its patterns is decided alike, over a plain and over a secure connection. An
+/// constraint each request at one of its patterns is decided alike, over a plain and over a secure connection, by the
+/// constraints with their transport requirements. An
 /// unreached pattern is hidden or belongs to another context, and at no path that an unserved one matches is there a
 /// servlet, a file or a folder that holds one. The login page refers to what it needs, and a request without a caller
 /// does not pass there. An unknown role is named and not declared, an unheld one is named and no user has it, and an
@@ -28,7 +29,8 @@ pub fn findings_are_right()
 
 /// No method is missed that a constraint opens to everyone at a pattern that requests meet, and another one restricts.
 /// Unless uncovered methods are denied, none is missed at such a pattern of the constraints at which another method is
-/// covered, and none at such a prefix pattern that is not open to everyone at a pattern that is tried later. No
+/// covered, and none at such a prefix pattern that is not open to everyone at a pattern that is tried later and matches
+/// some canonical path. No
 /// difference between GET and HEAD for some visitor at such a pattern is missed, no pattern that decides nothing, and
 /// none that no request reaches. No constraint is missed without which each request at its patterns is decided alike, if
 /// few constraints and methods are at each of them.
@@ -43,6 +45,13 @@ pub fn findings_are_complete()
 {
     best_is_a_match();
 }
+
+/// Of what [`unsearched`](crate::unsearched) does not report none is missed: no constraint without which each request at
+/// its patterns is decided alike, and no pattern at which nothing answers.
+pub fn searched_findings_are_complete()
+    ensures overruled { SearchedIsFound }
+    ensures unserved { UnservedIsFound }
+{}
 
 /// Without an overruled constraint, whose number no other one has, each request is decided alike: it passes, needs a
 /// login or is denied, over a plain and over a secure connection.

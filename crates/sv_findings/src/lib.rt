@@ -7,6 +7,7 @@ mod finding;
 mod findings;
 mod heads;
 mod laws;
+mod listed_patterns;
 mod login_needs;
 mod met_rows;
 mod opened;
@@ -16,16 +17,18 @@ mod readings;
 mod role_findings;
 mod surroundings;
 mod unreached;
+mod unsearched;
 mod unserved;
 
-pub use dead::lists_prefix;
 pub use finding::Finding;
 pub use findings::findings_of;
 pub use laws::{
     best_patterns_decide, findings_are_complete, findings_are_right, limits_are_as_stated,
-    overruled_constraints_change_nothing, reach_is_right,
+    overruled_constraints_change_nothing, reach_is_right, searched_findings_are_complete,
 };
+pub use listed_patterns::ListedPatterns;
 pub use met_rows::{is_met, row_reach};
 pub use reach::{Reach, Reaches, reach_of};
 pub use surroundings::{LoginPage, Surroundings};
+pub use unsearched::{Unsearched, unsearched};
 pub use unserved::MAX_SERVED_PATTERNS;

@@ -9,8 +9,9 @@ ghost use Rattle.sv_text.specs.Gives.{GivesAnswer};
 ghost use Rattle.sv_overruled.specs.Overruled.{overruled_at};
 ghost use Rattle.sv_findings.specs.Overruled as spec;
 
-use crate::dead::{decides_nothing, lists_prefix};
+use crate::dead::decides_nothing;
 use crate::finding::Finding;
+use crate::listed_patterns::ListedPatterns;
 use std::alloc::Global;
 use std::collections::HashMap;
 use sv_audit::patterns_in;
@@ -31,11 +32,11 @@ pub fn push_overruled(
 ) -> Result<(), NoMemory>
     ensures { OnOk result (findings.new.items ≡ findings.old.items ++ spec.overruled rules.now constraints.now) }
 {
-    let has_prefix = lists_prefix(alloc, constraints)?;
+    let listed = ListedPatterns::of(alloc, constraints)?;
     let groups = grouped(alloc, constraints)?;
     let overruled = OverruledByPattern::of(alloc, rules, &groups)?;
     for constraint in constraints {
-        push_overruled_in(findings, alloc, &overruled, has_prefix, constraint)?;
+        push_overruled_in(findings, alloc, &overruled, &listed, constraint)?;
     }
     Ok(())
 }
@@ -114,13 +115,13 @@ fn push_overruled_in(
     findings: &mut Vec<Finding>,
     alloc: Global,
     overruled: &OverruledByPattern<'_>,
-    has_prefix: bool,
+    listed: &ListedPatterns<'_>,
     constraint: &Constraint,
 ) -> Result<(), NoMemory>
     ensures { (rules : Rules) (constraints : List Constraint) → spec.AreOverruled rules constraints overruled.now →
-        OnOk result (findings.new.items ≡ findings.old.items ++ spec.overruled_in rules constraints has_prefix constraint.now) }
+        OnOk result (findings.new.items ≡ findings.old.items ++ spec.overruled_in rules constraints listed.now constraint.now) }
 {
-    if is_overruled(alloc, overruled, has_prefix, constraint)? {
+    if is_overruled(alloc, overruled, listed, constraint)? {
         findings.push(Finding::Overruled(constraint.number))?;
     }
     Ok(())
@@ -129,13 +130,13 @@ fn push_overruled_in(
 fn is_overruled(
     alloc: Global,
     overruled: &OverruledByPattern<'_>,
-    has_prefix: bool,
+    listed: &ListedPatterns<'_>,
     constraint: &Constraint,
 ) -> Result<bool, NoMemory>
     ensures { (rules : Rules) (constraints : List Constraint) → spec.AreOverruled rules constraints overruled.now →
-        GivesAnswer result (spec.is_overruled rules constraints has_prefix constraint.now) }
+        GivesAnswer result (spec.is_overruled rules constraints listed.now constraint.now) }
 {
-    let patterns = deciding_patterns(alloc, has_prefix, constraint)?;
+    let patterns = deciding_patterns(alloc, listed, constraint)?;
     if patterns.is_empty() {
         return Ok(false);
     }
@@ -145,15 +146,15 @@ fn is_overruled(
 /// Returns the patterns of a constraint that may decide.
 fn deciding_patterns(
     alloc: Global,
-    has_prefix: bool,
+    listed: &ListedPatterns<'_>,
     constraint: &Constraint,
 ) -> Result<Vec<&str>, NoMemory>
-    ensures { IfOk result (λ patterns. map (λ pattern. pattern.now) patterns.items ≡ spec.deciding_patterns has_prefix constraint.now) }
+    ensures { IfOk result (λ patterns. map (λ pattern. pattern.now) patterns.items ≡ spec.deciding_patterns listed.now constraint.now) }
 {
     let patterns = patterns_in(alloc, constraint)?;
     let mut deciding = Vec::new(alloc);
     for pattern in patterns.as_slice() {
-        if !decides_nothing(has_prefix, *pattern) {
+        if !decides_nothing(listed, *pattern) {
             deciding.push(*pattern)?;
         }
     }

@@ -6,7 +6,6 @@ ghost use Rattle.std.specs.Option.{option_copied};
 ghost use Rattle.sv_constraints.specs.Covering.{covers_method};
 ghost use Rattle.sv_mapping.specs.Form.{form_seen};
 ghost use Rattle.sv_text.specs.Gives.{GivesAnswer};
-ghost use Rattle.sv_findings.specs.Dead.{is_tried_late};
 ghost use Rattle.sv_findings.specs.Readings as spec;
 ghost use Rattle.sv_findings.specs.Uncovered.{is_left_out};
 ghost use Rattle.sv_findings.specs.declared.finding.Finding.TheVariants as finding;
@@ -16,33 +15,35 @@ use crate::finding::Finding;
 use crate::findings::is_left_out;
 use crate::heads::covers_method;
 use std::alloc::Global;
-use sv_audit::{Group, Row, form_of, is_open};
+use sv_audit::{Group, Row, form_of, is_open, matches_nothing};
 use sv_constraints::Methods;
 use sv_mapping::Form;
 use sv_policy::copied_methods;
 use sv_text::{NoMemory, Text};
 
-/// Appends the prefix patterns with methods that no constraint covers there, although one of them is not open to everyone
-/// at an extension pattern or `/`.
+/// Appends the prefix patterns of met rows with methods that no constraint covers there, although one of them is not open
+/// to everyone at an extension pattern or `/` of all rows. Such a pattern counts if it matches some canonical path: where
+/// `/*` does not cover the method, another server asks it next.
 pub fn push_read_otherwise(
     findings: &mut Vec<Finding>,
     alloc: Global,
-    rows: &[&Row],
+    all: &[Row],
+    met: &[&Row],
 ) -> Result<(), NoMemory>
-    ensures { OnOk result (findings.new.items ≡ findings.old.items ++ spec.read_otherwise (map (λ row. row.now) rows.now)) }
+    ensures { OnOk result (findings.new.items ≡ findings.old.items ++ spec.read_otherwise all.now (map (λ row. row.now) met.now)) }
 {
-    let late = late_rows(alloc, rows)?;
-    push_read_before(findings, alloc, late.as_slice(), rows)
+    let late = late_rows(alloc, all)?;
+    push_read_before(findings, alloc, late.as_slice(), met)
 }
 
-/// Returns the rows of extension patterns and of `/`.
-fn late_rows<'a>(alloc: Global, rows: &[&'a Row]) -> Result<Vec<&'a Row>, NoMemory>
-    ensures { IfOk result (λ late. map (λ row. row.now) late.items ≡ filter spec.is_late (map (λ row. row.now) rows.now)) }
+/// Returns the rows of extension patterns and of `/` that match some canonical path.
+fn late_rows(alloc: Global, rows: &[Row]) -> Result<Vec<&Row>, NoMemory>
+    ensures { IfOk result (λ late. map (λ row. row.now) late.items ≡ filter spec.is_late rows.now) }
 {
     let mut late = Vec::new(alloc);
     for row in rows {
         if is_late(row) {
-            late.push(*row)?;
+            late.push(row)?;
         }
     }
     Ok(late)
@@ -52,9 +53,15 @@ fn is_late(row: &Row) -> bool
     ensures { result ≡ spec.is_late row.now }
 {
     match &row.pattern {
-        Some(pattern) => is_tried_late(pattern.as_str()),
+        Some(pattern) => is_late_match(pattern.as_str()),
         None => false,
     }
+}
+
+fn is_late_match(pattern: &str) -> bool
+    ensures { result ≡ spec.is_late_match pattern.now }
+{
+    is_tried_late(pattern) && !matches_nothing(pattern)
 }
 
 fn push_read_before(

@@ -1,5 +1,9 @@
 //! What surrounds the constraints of a context.
 
+ghost use Rattle.std.specs.Prelude.{◌≡◌};
+ghost use Rattle.sv_findings.specs.Overruled as spec;
+
+use sv_constraints::Constraint;
 use sv_text::{Listed, Text};
 
 /// What the findings of a context take into account beside its constraints.
@@ -19,6 +23,22 @@ pub struct Surroundings {
     pub files: Option<Listed<Text>>,
     /// The login page, if there is one and its text is known.
     pub login_page: Option<LoginPage>,
+    /// The constraints with their transport requirements, if these were dropped from the constraints whose findings are
+    /// returned.
+    pub with_transport: Option<Listed<Constraint>>,
+}
+
+/// Returns the constraints that are compared with each other: those with their transport requirements.
+pub fn compared<'a>(
+    surroundings: &'a Surroundings,
+    constraints: &'a [Constraint],
+) -> &'a [Constraint]
+    ensures { result.now ≡ spec.compared surroundings.now constraints.now }
+{
+    match &surroundings.with_transport {
+        Some(full) => full.as_slice(),
+        None => constraints,
+    }
 }
 
 /// The login page of a context.

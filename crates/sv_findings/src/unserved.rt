@@ -8,8 +8,9 @@ ghost use Rattle.sv_text.specs.Gives.{GivesAnswer};
 ghost use Rattle.sv_findings.specs.Unserved as spec;
 ghost use Rattle.sv_findings.specs.declared.finding.Finding.TheVariants as finding;
 
-use crate::dead::{decides_nothing, lists_prefix};
+use crate::dead::decides_nothing;
 use crate::finding::Finding;
+use crate::listed_patterns::ListedPatterns;
 use crate::reach::Reaches;
 use crate::surroundings::Surroundings;
 use std::alloc::Global;
@@ -25,8 +26,8 @@ pub const MAX_SERVED_PATTERNS: usize = 2_000;
 #[derive(Drop)]
 struct Site<'a> {
     reaches: &'a Reaches<'a>,
-    /// Whether `/*` is among the patterns.
-    has_prefix: bool,
+    /// The patterns of all constraints.
+    listed: &'a ListedPatterns<'a>,
     servlets: &'a [Text],
     files: &'a [Text],
 }
@@ -49,16 +50,18 @@ pub fn push_unserved(
     if are_many(alloc, constraints)? {
         return Ok(());
     }
+    let listed = ListedPatterns::of(alloc, constraints)?;
     let site = Site {
         reaches,
-        has_prefix: lists_prefix(alloc, constraints)?,
+        listed: &listed,
         servlets: surroundings.servlets.as_slice(),
         files: files.as_slice(),
     };
     push_unserved_at(findings, alloc, &site, constraints)
 }
 
-fn are_many(alloc: Global, constraints: &[Constraint]) -> Result<bool, NoMemory>
+/// Returns whether there are too many patterns to compare them with servlets and files.
+pub fn are_many(alloc: Global, constraints: &[Constraint]) -> Result<bool, NoMemory>
     ensures { GivesAnswer result (spec.are_many constraints.now) }
 {
     let patterns = all_patterns(alloc, constraints)?;
@@ -72,7 +75,7 @@ fn push_unserved_at(
     constraints: &[Constraint],
 ) -> Result<(), NoMemory>
     ensures { OnOk result (findings.new.items ≡ findings.old.items
-        ++ flat_map (spec.unserved_in (spec.is_unserved site.now.reaches.now.0 site.now.reaches.now.1 site.now.has_prefix site.now.servlets.now site.now.files.now)) constraints.now) }
+        ++ flat_map (spec.unserved_in (spec.is_unserved site.now.reaches.now.0 site.now.reaches.now.1 site.now.listed.now site.now.servlets.now site.now.files.now)) constraints.now) }
 {
     for constraint in constraints {
         push_unserved_in(findings, alloc, site, constraint)?;
@@ -87,7 +90,7 @@ fn push_unserved_in(
     constraint: &Constraint,
 ) -> Result<(), NoMemory>
     ensures { OnOk result (findings.new.items ≡ findings.old.items
-        ++ spec.unserved_in (spec.is_unserved site.now.reaches.now.0 site.now.reaches.now.1 site.now.has_prefix site.now.servlets.now site.now.files.now) constraint.now) }
+        ++ spec.unserved_in (spec.is_unserved site.now.reaches.now.0 site.now.reaches.now.1 site.now.listed.now site.now.servlets.now site.now.files.now) constraint.now) }
 {
     let patterns = patterns_in(alloc, constraint)?;
     push_unserved_of(
@@ -107,7 +110,7 @@ fn push_unserved_of(
     patterns: &[&str],
 ) -> Result<(), NoMemory>
     ensures { OnOk result (findings.new.items ≡ findings.old.items
-        ++ map (finding.Unserved number) (filter (spec.is_unserved site.now.reaches.now.0 site.now.reaches.now.1 site.now.has_prefix site.now.servlets.now site.now.files.now) (map (λ pattern. pattern.now) patterns.now))) }
+        ++ map (finding.Unserved number) (filter (spec.is_unserved site.now.reaches.now.0 site.now.reaches.now.1 site.now.listed.now site.now.servlets.now site.now.files.now) (map (λ pattern. pattern.now) patterns.now))) }
 {
     for pattern in patterns {
         if is_unserved(alloc, site, pattern)? {
@@ -118,12 +121,12 @@ fn push_unserved_of(
 }
 
 fn is_unserved(alloc: Global, site: &Site<'_>, pattern: &str) -> Result<bool, NoMemory>
-    ensures { GivesAnswer result (spec.is_unserved site.now.reaches.now.0 site.now.reaches.now.1 site.now.has_prefix site.now.servlets.now site.now.files.now pattern.now) }
+    ensures { GivesAnswer result (spec.is_unserved site.now.reaches.now.0 site.now.reaches.now.1 site.now.listed.now site.now.servlets.now site.now.files.now pattern.now) }
 {
     let is_reached = site.reaches.is_reached(alloc, pattern)?;
     Ok(
         is_reached
-            && !decides_nothing(site.has_prefix, pattern)
+            && !decides_nothing(site.listed, pattern)
             && !may_answer(form_of(pattern), site.servlets)
             && !may_be_among(form_of(pattern), site.files),
     )

@@ -1,0 +1,7 @@
+use Rattle.std.proofs.Common.{◌≡◌, ◌++◌, not, take}
+use Rattle.std.specs.Prelude.{filter}
+use Rattle.sv_audit.specs.Shapes.{has_empty_folder}
+use Rattle.sv_audit.proofs.representatives.push_without_empty.Given as goal
+
+abbrev pub invariant-loop-path : goal.invariant-loop-path
+invariant-loop-path l = l.paths.items ≡ l.initial.paths.items ++ filter (λ path. not (has_empty_folder path)) (take l.path-index l.texts)
