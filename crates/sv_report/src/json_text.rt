@@ -122,11 +122,7 @@ fn push_end(text: &mut String, alloc: Global, context: &ContextReport) -> Result
     Ok(text.push_str("}")?)
 }
 
-fn push_unsearched(
-    text: &mut String,
-    alloc: Global,
-    kinds: &[Unsearched],
-) -> Result<(), NoMemory>
+fn push_unsearched(text: &mut String, alloc: Global, kinds: &[Unsearched]) -> Result<(), NoMemory>
     ensures { OnOk result (string_bytes text.new ≡ string_bytes text.old ++ compact_text (spec.unsearched_value kinds.now)) }
 {
     let value = unsearched_names(alloc, kinds)?;
