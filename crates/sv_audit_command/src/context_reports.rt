@@ -19,7 +19,7 @@ use sv_audit::{Row, Table, table_of};
 use sv_audited_contexts::{AuditedContext, Source};
 use sv_descriptor::Names;
 use sv_findings::{
-    Finding, ListedPatterns, Reaches, Surroundings, Unsearched, findings_of, unsearched,
+    Finding, ListedPatterns, Reaches, Surroundings, Unsearched, findings_of, unsearched_of,
 };
 use sv_mapping::{PatternTable, is_at_or_below, path_within};
 use sv_policy::{Groups, grouped};
@@ -119,7 +119,7 @@ fn audit_with(
     Ok(Audit {
         viewer: viewer_in(alloc, asking.viewer, &context.realm)?,
         findings: findings_in(alloc, context, &patterns.constraints, accepted, &table)?,
-        unsearched: unsearched(alloc, constraints, &context.surroundings)?,
+        unsearched: unsearched_of(alloc, constraints, &context.surroundings)?,
         rows: rows_in(alloc, context, patterns, others.as_slice(), table.rows)?,
         others,
     })
