@@ -37,7 +37,7 @@ filled_rest : (b : ℕ) (text : List ℕ) → has_empty_folder (b ∷ text) ≡ 
 filled_rest b [] is = refl
 filled_rest b (c ∷ text) is = (or_parts (is_slash b && is_slash c) (has_empty_folder (c ∷ text)) is).1
 
-filled_end : (front text : List ℕ) → has_empty_folder (front ++ text) ≡ false → has_empty_folder text ≡ false
+pub filled_end : (front text : List ℕ) → has_empty_folder (front ++ text) ≡ false → has_empty_folder text ≡ false
 filled_end [] text is = is
 filled_end (b ∷ front) text is = filled_end front text (filled_rest b (front ++ text) is)
 

@@ -5,13 +5,13 @@ use Rattle.std.proofs.lemmas.List.Elements.{All-append, All-cons, All-contains, 
 use Rattle.std.proofs.lemmas.List.Sums.{AllPass-from_list_all}
 use Rattle.std.proofs.lemmas.Slice.Eq.{bytes_eq-Decides, starts_is}
 use Rattle.std.proofs.Common.{◌≡◌, ℕ, ◌<◌, Bool, true, false, not, ◌||◌, ◌&&◌, List, [], ◌∷◌, ◌++◌, map, length, drop, codes, refl, ap, sym, ◌∙◌, cond, Option, None, Some, inl, inr, ◌==◌, ◌⊎◌}
-use Rattle.std.specs.Prelude.{All, Contains, Err, IsTrue, Ok, Result, filter, find, slice_index_or}
-use Rattle.std.specs.List.{flat_map, list_all, list_any}
+use Rattle.std.specs.Prelude.{All, Contains, Err, IsTrue, Ok, Result, filter, find, nat_eq, slice_index_or}
+use Rattle.std.specs.List.{ends_with, flat_map, list_all, list_any}
 use Rattle.std.specs.Option.{option_and_then, option_map_or, option_to_list}
 use Rattle.std.specs.Str.{bytes_eq}
 use Rattle.sv_mapping.specs.Protected.{is_protected}
 use Rattle.sv_mapping.specs.BestMatch.{best_pattern, is_best, outranks}
-use Rattle.sv_mapping.specs.Pattern.{form, is_at_or_below, is_extension_pattern, matches}
+use Rattle.sv_mapping.specs.Pattern.{Form, Root, Default, Extension, Prefix, Exact, form, is_at_or_below, is_extension_pattern, matches}
 use Rattle.sv_mapping.specs.Segments.{is_rooted}
 use Rattle.sv_realm.specs.declared.caller.Caller.{Caller}
 use Rattle.sv_constraints.specs.Covering.{all_patterns, covering, covers, covers_method, lists, patterns_in}
@@ -43,20 +43,21 @@ use Rattle.sv_audit.proofs.Witness.{found}
 use Rattle.sv_audit.specs.Access.{cell_at, roles_meant}
 use Rattle.sv_findings.proofs.OpenedLemmas.{AreOpen, AreOpenFor, are_open, fresh, is_fresh, kept_all, kept_any, opened_exact, some_open}
 use Rattle.sv_audit.proofs.Shapes.{IsShaped, nothing_matches, served_shaped}
-use Rattle.sv_findings.specs.Dead.{is_tried_late, dead_among, dead_patterns, dead_patterns_in, decides_nothing, escaped, escaped_in, is_beaten, is_dead, is_escaped}
+use Rattle.sv_findings.specs.Dead.{is_tried_late, dead_among, dead_patterns, dead_patterns_in, decides_nothing, escaped, escaped_in, exact_pattern, is_beaten, is_beaten_folder, is_dead, is_escaped}
 use Rattle.sv_audit.specs.Shapes.{matches_nothing}
-use Rattle.sv_findings.specs.FindingLaws.{BestDecides, ChangesNothing, FindingsAreRight, IsMeant, IsNeverBest, IsOpen, IsRestricted, IsRight, IsShut, configuration_of, names_in}
+use Rattle.sv_findings.specs.FindingLaws.{BestDecides, ChangesNothing, FindingsAreRight, IsMeant, IsNeverBest, IsOpen, IsOverruled, IsRestricted, IsRight, IsShut, configuration_of, names_in}
 use Rattle.sv_audit.specs.Shapes.{IsServed}
 use Rattle.sv_findings.specs.Opened.{opened_at, opened_for, opened_methods, opened_pair}
 use Rattle.sv_findings.specs.RoleFindings.{is_role, is_unheld, is_unknown, is_unused, named_roles, role_findings, unheld_roles, unknown_among, unknown_roles, unused_roles}
 use Rattle.sv_audit.specs.Callers.{has_method, is_open, same_callers}
 use Rattle.sv_findings.specs.Findings.{findings_of, met_rows, pattern_findings, row_findings}
+use Rattle.sv_findings.proofs.FolderLemmas.{taken}
 use Rattle.sv_findings.proofs.OverruledLemmas.{changes_nothing, not_at}
-use Rattle.sv_findings.specs.Overruled.{is_overruled, overruled, overruled_in}
+use Rattle.sv_findings.specs.Overruled.{compared, is_overruled, overruled, overruled_in}
 use Rattle.sv_findings.specs.Uncovered.{is_left_open, is_left_out, uncovered_at}
 use Rattle.sv_findings.specs.MetRows.{is_row_met}
 use Rattle.sv_findings.specs.Reach.{is_reached}
-use Rattle.sv_findings.specs.Readings.{first_restricting, is_late, is_prefix, read_as, read_at, read_otherwise, restricts_one, restricts_part, share_method}
+use Rattle.sv_findings.specs.Readings.{first_restricting, is_late, is_late_match, is_prefix, read_as, read_at, read_otherwise, restricts_one, restricts_part, share_method}
 use Rattle.sv_findings.proofs.MeetingForms.{none_held, none_meets}
 use Rattle.sv_findings.specs.LoginNeeds.{bars, is_barred, is_loaded, login_needs, needed_at, needed_of, needed_paths, parts, references_after, target_of}
 use Rattle.sv_findings.specs.declared.surroundings.LoginPage.{LoginPage}
@@ -218,25 +219,40 @@ module _ (shapes : CanonicalHasShape) (constraints : List Constraint) where
   abbrev patterns : List (List ℕ)
   patterns = all_patterns constraints
 
-  abbrev has_prefix : Bool
-  has_prefix = lists (all_patterns constraints) (codes "/*")
-
-  never_beaten : (path pattern : List ℕ) → is_rooted path ≡ true → has_prefix ≡ true → (bytes_eq pattern (codes "/") || is_extension_pattern pattern) ≡ true → best_pattern patterns path ≡ Some pattern → ⊥
-  never_beaten path pattern rooted there beaten best =
+  -- A pattern that is chosen before another one takes its paths.
+  never_below : (path pattern taking : List ℕ) → lists patterns taking ≡ true → matches taking path ≡ true → outranks taking pattern ≡ true → best_pattern patterns path ≡ Some pattern → ⊥
+  never_below path pattern taking there matched above best =
       let none : list_any (λ other. matches other path && outranks other pattern) patterns ≡ false =
       not-true (list_any (λ other. matches other path && outranks other pattern) patterns) (and_right (matches pattern path) (not (list_any (λ other. matches other path && outranks other pattern) patterns)) (found_in (is_best patterns path) patterns pattern best).0) in
-      false≢true (sym (any_of (λ other. matches other path && outranks other pattern) patterns (codes "/*") none
-      (both (matches (codes "/*") path) (outranks (codes "/*") pattern) (root_matches path rooted) (below_at pattern (bytes_eq pattern (codes "/")) refl beaten))) ∙ there)
+      false≢true (sym (any_of (λ other. matches other path && outranks other pattern) patterns taking none (both (matches taking path) (outranks taking pattern) matched above)) ∙ there)
 
-  never_best : (pattern : List ℕ) → decides_nothing has_prefix pattern ≡ true → IsNeverBest constraints pattern
+  best_matches : (path pattern : List ℕ) → best_pattern patterns path ≡ Some pattern → matches pattern path ≡ true
+  best_matches path pattern best = and_left (matches pattern path) (not (list_any (λ other. matches other path && outranks other pattern) patterns)) (found_in (is_best patterns path) patterns pattern best).0
+
+  folder_never : (path pattern : List ℕ) (its_form : Form) → form pattern ≡ its_form → IsShaped path → is_beaten_folder patterns its_form ≡ true → best_pattern patterns path ≡ Some pattern → ⊥
+  folder_never path pattern Root is shaped beaten best = false≢true beaten
+  folder_never path pattern Default is shaped beaten best = false≢true beaten
+  folder_never path pattern (Extension wanted) is shaped beaten best = false≢true beaten
+  folder_never path pattern (Prefix prefix) is shaped beaten best =
+      let ended : Bool = ends_with nat_eq prefix (codes "/") in
+      let it : (matches (exact_pattern prefix) path ≡ true) × (outranks (exact_pattern prefix) pattern ≡ true) =
+      taken pattern path prefix shaped is (and_left ended (lists patterns (exact_pattern prefix)) beaten) (best_matches path pattern best) in
+      never_below path pattern (exact_pattern prefix) (and_right ended (lists patterns (exact_pattern prefix)) beaten) it.0 it.1 best
+  folder_never path pattern (Exact text) is shaped beaten best = false≢true beaten
+
+  never_best : (pattern : List ℕ) → decides_nothing patterns pattern ≡ true → IsNeverBest constraints pattern
   never_best pattern nothing path served best =
       let shaped : IsShaped path = served_shaped shapes path served in
-      elim (or_cases (is_beaten has_prefix pattern) (matches_nothing pattern) nothing) [
+      let late : Bool = bytes_eq pattern (codes "/") || is_extension_pattern pattern in
+      let everywhere : Bool = lists patterns (codes "/*") in
+      elim (or_cases (is_beaten patterns pattern) (matches_nothing pattern) nothing) [
         | inl beaten ↦
-            never_beaten path pattern shaped.rooted (and_left has_prefix (bytes_eq pattern (codes "/") || is_extension_pattern pattern) beaten)
-            (and_right has_prefix (bytes_eq pattern (codes "/") || is_extension_pattern pattern) beaten) best
-        | inr unmatched ↦
-            false≢true (sym (nothing_matches pattern path shaped (and_left (matches pattern path) (not (list_any (λ other. matches other path && outranks other pattern) patterns)) (found_in (is_best patterns path) patterns pattern best).0)) ∙ unmatched)
+            elim (or_cases (everywhere && late) (is_beaten_folder patterns (form pattern)) beaten) [
+              | inl tried ↦
+                  never_below path pattern (codes "/*") (and_left everywhere late tried) (root_matches path shaped.rooted) (below_at pattern (bytes_eq pattern (codes "/")) refl (and_right everywhere late tried)) best
+              | inr folder ↦ folder_never path pattern (form pattern) refl shaped folder best
+            ]
+        | inr unmatched ↦ false≢true (sym (nothing_matches pattern path shaped (best_matches path pattern best)) ∙ unmatched)
       ]
 
   -- A pattern among those that pass a test passes it.
@@ -245,19 +261,19 @@ module _ (shapes : CanonicalHasShape) (constraints : List Constraint) where
       found (test text ≡ true) (λ listed. bytes_eq listed text) texts there
       (λ k d within same. ap test (sym ((bytes_eq-Decides (slice_index_or texts k d) text).0 same)) ∙ AllPass-from_list_all test texts all k d within)
 
-  covers_nothing_at : (c : Constraint) (method path pattern : List ℕ) (b : Bool) → covers c pattern method ≡ b → is_dead has_prefix c ≡ true → IsServed path → best_pattern patterns path ≡ Some pattern → b ≡ false
+  covers_nothing_at : (c : Constraint) (method path pattern : List ℕ) (b : Bool) → covers c pattern method ≡ b → is_dead patterns c ≡ true → IsServed path → best_pattern patterns path ≡ Some pattern → b ≡ false
   covers_nothing_at c method path pattern true is dead served best =
-      absurd (never_best pattern (passes_in (decides_nothing has_prefix) (patterns_in c) pattern dead (listed_by pattern c ∙ covers_listed pattern method c is)) path served best)
+      absurd (never_best pattern (passes_in (decides_nothing patterns) (patterns_in c) pattern dead (listed_by pattern c ∙ covers_listed pattern method c is)) path served best)
   covers_nothing_at c method path pattern false is dead served best = refl
 
   module _ (rules : Rules) (surroundings : Surroundings) where
     abbrev Right : Finding → Type 0
     Right = IsRight constraints rules surroundings
 
-    dead_right : All Right (dead_among has_prefix constraints)
+    dead_right : All Right (dead_among patterns constraints)
     dead_right =
-        All-map Right (λ (c : Constraint). finding.Dead c.number) (filter (is_dead has_prefix) constraints)
-        (kept_all (λ (c : Constraint). Right (finding.Dead c.number)) (is_dead has_prefix) constraints
+        All-map Right (λ (c : Constraint). finding.Dead c.number) (filter (is_dead patterns) constraints)
+        (kept_all (λ (c : Constraint). Right (finding.Dead c.number)) (is_dead patterns) constraints
         (λ k d within dead. (
           slice_index_or constraints k d,
           All-contains_itself constraints k d within,
@@ -265,32 +281,25 @@ module _ (shapes : CanonicalHasShape) (constraints : List Constraint) where
           λ method path pattern served best. covers_nothing_at (slice_index_or constraints k d) method path pattern (covers (slice_index_or constraints k d) pattern method) refl dead served best,
         )))
 
-    patterns_right : (c : Constraint) → Contains constraints c → (dead : Bool) → All Right (cond dead [] (map (finding.DeadPattern c.number) (filter (decides_nothing has_prefix) (patterns_in c))))
+    patterns_right : (c : Constraint) → Contains constraints c → (dead : Bool) → All Right (cond dead [] (map (finding.DeadPattern c.number) (filter (decides_nothing patterns) (patterns_in c))))
     patterns_right c there true = All-nil Right
     patterns_right c there false =
-        All-map Right (finding.DeadPattern c.number) (filter (decides_nothing has_prefix) (patterns_in c))
-        (kept_all (λ pattern. Right (finding.DeadPattern c.number pattern)) (decides_nothing has_prefix) (patterns_in c)
+        All-map Right (finding.DeadPattern c.number) (filter (decides_nothing patterns) (patterns_in c))
+        (kept_all (λ pattern. Right (finding.DeadPattern c.number pattern)) (decides_nothing patterns) (patterns_in c)
         (λ k d within nothing. (c, there, refl, in_texts (patterns_in c) (slice_index_or (patterns_in c) k d) (All-contains_itself (patterns_in c) k d within), never_best (slice_index_or (patterns_in c) k d) nothing)))
 
-    dead_patterns_right : All Right (dead_patterns has_prefix constraints)
+    dead_patterns_right : All Right (dead_patterns patterns constraints)
     dead_patterns_right =
-        joined Right (dead_patterns_in has_prefix) constraints
-        (λ k d within. patterns_right (slice_index_or constraints k d) (All-contains_itself constraints k d within) (is_dead has_prefix (slice_index_or constraints k d)))
+        joined Right (dead_patterns_in patterns) constraints
+        (λ k d within. patterns_right (slice_index_or constraints k d) (All-contains_itself constraints k d within) (is_dead patterns (slice_index_or constraints k d)))
 
-    overruled_at : (c : Constraint) → is_overruled rules constraints has_prefix c ≡ true → (path pattern : List ℕ) (nothing : Bool) → decides_nothing has_prefix pattern ≡ nothing → IsServed path
+    overruled_at : (c : Constraint) → is_overruled rules constraints patterns c ≡ true → (path pattern : List ℕ) (nothing : Bool) → decides_nothing patterns pattern ≡ nothing → IsServed path
         → best_pattern patterns path ≡ Some pattern → lists (patterns_in c) pattern ≡ true → ChangesNothing constraints rules c pattern
     overruled_at c over path pattern true is served best listed = absurd (never_best pattern is path served best)
-    overruled_at c over path pattern false is served best listed = changes_nothing constraints rules c pattern (not_at constraints rules has_prefix c over pattern listed is)
+    overruled_at c over path pattern false is served best listed = changes_nothing constraints rules c pattern (not_at constraints rules patterns c over pattern listed is)
 
-    overruled_from : (c : Constraint) → Contains constraints c → (over : Bool) → is_overruled rules constraints has_prefix c ≡ over → All Right (cond over (finding.Overruled c.number ∷ []) [])
-    overruled_from c there true is =
-        All-cons Right (finding.Overruled c.number) [] (c, there, refl, λ path pattern served best listed. overruled_at c is path pattern (decides_nothing has_prefix pattern) refl served best listed) (All-nil Right)
-    overruled_from c there false is = All-nil Right
-
-    overruled_right : All Right (overruled rules constraints)
-    overruled_right =
-        joined Right (overruled_in rules constraints has_prefix) constraints
-        (λ k d within. overruled_from (slice_index_or constraints k d) (All-contains_itself constraints k d within) (is_overruled rules constraints has_prefix (slice_index_or constraints k d)) refl)
+    overruled_one : (c : Constraint) → Contains constraints c → is_overruled rules constraints patterns c ≡ true → IsOverruled constraints rules c.number
+    overruled_one c there is = (c, there, refl, λ path pattern served best listed. overruled_at c is path pattern (decides_nothing patterns pattern) refl served best listed)
 
     escaped_at : (c : Constraint) → Contains constraints c → All Right (escaped_in c)
     escaped_at c there =
@@ -300,6 +309,21 @@ module _ (shapes : CanonicalHasShape) (constraints : List Constraint) where
 
     escaped_right : All Right (escaped constraints)
     escaped_right = joined Right escaped_in constraints (λ k d within. escaped_at (slice_index_or constraints k d) (All-contains_itself constraints k d within))
+
+-- ---- The compared constraints.
+module _ (shapes : CanonicalHasShape) (constraints : List Constraint) (rules : Rules) (surroundings : Surroundings) where
+  abbrev full : List Constraint
+  full = compared surroundings constraints
+
+  overruled_from : (c : Constraint) → Contains full c → (over : Bool) → is_overruled rules full (all_patterns full) c ≡ over → All (IsRight constraints rules surroundings) (cond over (finding.Overruled c.number ∷ []) [])
+  overruled_from c there true is =
+      All-cons (IsRight constraints rules surroundings) (finding.Overruled c.number) [] (overruled_one shapes full rules surroundings c there is) (All-nil (IsRight constraints rules surroundings))
+  overruled_from c there false is = All-nil (IsRight constraints rules surroundings)
+
+  overruled_right : All (IsRight constraints rules surroundings) (overruled rules full)
+  overruled_right =
+      joined (IsRight constraints rules surroundings) (overruled_in rules full (all_patterns full)) full
+      (λ k d within. overruled_from (slice_index_or full k d) (All-contains_itself full k d within) (is_overruled rules full (all_patterns full) (slice_index_or full k d)) refl)
 
 -- ---- Roles.
 module _ (constraints : List Constraint) (rules : Rules) (surroundings : Surroundings) where
@@ -391,7 +415,7 @@ module _ (constraints : List Constraint) (rules : Rules) (surroundings : Surroun
   kept_made test rows all = kept_all IsMade test rows (λ k d within passing. all k d within)
 
   reached_made : All IsMade the_rows
-  reached_made = kept_made (is_row_met surroundings.contexts surroundings.path (lists (all_patterns constraints) (codes "/*"))) (table_of constraints rules).rows all_made
+  reached_made = kept_made (is_row_met surroundings.contexts surroundings.path (all_patterns constraints)) (table_of constraints rules).rows all_made
 
   module _ (at : Option (List ℕ) → List Group → List Finding) (each : (pattern : List ℕ) → All (IsRight constraints rules surroundings) (at (Some pattern) (row_at constraints rules pattern).groups)) (none : (groups : List Group) → All (IsRight constraints rules surroundings) (at None groups)) where
     row_right : (pattern : Option (List ℕ)) (groups : List Group) → ((text : List ℕ) → pattern ≡ Some text → groups ≡ (row_at constraints rules text).groups) → All (IsRight constraints rules surroundings) (at pattern groups)
@@ -458,7 +482,7 @@ module _ (constraints : List Constraint) (rules : Rules) (pattern : List ℕ) wh
 
 module _ (constraints : List Constraint) (rules : Rules) (surroundings : Surroundings) where
   abbrev pub late : List Row
-  late = filter is_late (the_rows constraints rules surroundings)
+  late = filter is_late (table_of constraints rules).rows
 
   -- One of the methods is not open to everyone at the pattern.
   abbrev HasRestricted : Methods → List ℕ → Type 0
@@ -482,7 +506,7 @@ module _ (constraints : List Constraint) (rules : Rules) (surroundings : Surroun
 
   row_restricts : (row : Row) (pattern : Option (List ℕ)) (other : List ℕ) (methods : Methods) → row.pattern ≡ pattern → pattern ≡ Some other → IsMade constraints rules surroundings row → is_late row ≡ true → restricts_one methods row ≡ true → Restricts methods other
   row_restricts row pattern other methods is at made tried it =
-      (sym (ap (λ p. option_map_or is_tried_late p false) (is ∙ at)) ∙ tried, part_restricts other methods row.groups (made other (is ∙ at)) it)
+      (and_left (is_tried_late other) (not (matches_nothing other)) (sym (ap (λ p. option_map_or is_late_match p false) (is ∙ at)) ∙ tried), part_restricts other methods row.groups (made other (is ∙ at)) it)
 
   found_at : (test : Row → Bool) (P : Row → Type 0) (x row : Row) (rows : List Row) (b : Bool) → test x ≡ b → P x → cond b (Some x) (find test rows) ≡ Some row → (find test rows ≡ Some row → P row × (test row ≡ true)) → P row × (test row ≡ true)
   found_at test P x row rows true passes holds is rest = let same : row ≡ x = cc in rw same (holds, passes)
@@ -501,8 +525,8 @@ module _ (constraints : List Constraint) (rules : Rules) (surroundings : Surroun
 
   late_made : All (λ (row : Row). IsMade constraints rules surroundings row × (is_late row ≡ true)) late
   late_made =
-      kept_all (λ (row : Row). IsMade constraints rules surroundings row × (is_late row ≡ true)) is_late (the_rows constraints rules surroundings)
-      (λ k d within tried. (reached_made constraints rules surroundings k d within, tried))
+      kept_all (λ (row : Row). IsMade constraints rules surroundings row × (is_late row ≡ true)) is_late (table_of constraints rules).rows
+      (λ k d within tried. (all_made constraints rules surroundings k d within, tried))
 
   module _ (pattern : List ℕ) (prefixed : is_prefix (form pattern) ≡ true) where
     abbrev its : List Group
@@ -611,7 +635,7 @@ module _ (constraints : List Constraint) (rules : Rules) (surroundings : Surroun
 -- ---- Unserved patterns.
 module _ (constraints : List Constraint) (rules : Rules) (surroundings : Surroundings) where
   abbrev is_out : List (List ℕ) → List ℕ → Bool
-  is_out files = is_unserved surroundings.contexts surroundings.path (lists (all_patterns constraints) (codes "/*")) surroundings.servlets files
+  is_out files = is_unserved surroundings.contexts surroundings.path (all_patterns constraints) surroundings.servlets files
 
   unserved_at : (files : List (List ℕ)) → surroundings.files ≡ Some files → (c : Constraint) → Contains constraints c → All (IsRight constraints rules surroundings) (unserved_in (is_out files) c)
   unserved_at files known c there =
@@ -619,8 +643,8 @@ module _ (constraints : List Constraint) (rules : Rules) (surroundings : Surroun
       (kept_all (λ pattern. IsRight constraints rules surroundings (finding.Unserved c.number pattern)) (is_out files) (patterns_in c)
       (λ k d within out.
       let pattern : List ℕ = slice_index_or (patterns_in c) k d in
-      let left : ((is_reached surroundings.contexts surroundings.path pattern && not (decides_nothing (lists (all_patterns constraints) (codes "/*")) pattern) && not (may_answer (form pattern) surroundings.servlets)) ≡ true) × (not (may_be_among (form pattern) files) ≡ true) =
-      and_parts (is_reached surroundings.contexts surroundings.path pattern && not (decides_nothing (lists (all_patterns constraints) (codes "/*")) pattern) && not (may_answer (form pattern) surroundings.servlets)) (not (may_be_among (form pattern) files)) out in (
+      let left : ((is_reached surroundings.contexts surroundings.path pattern && not (decides_nothing (all_patterns constraints) pattern) && not (may_answer (form pattern) surroundings.servlets)) ≡ true) × (not (may_be_among (form pattern) files) ≡ true) =
+      and_parts (is_reached surroundings.contexts surroundings.path pattern && not (decides_nothing (all_patterns constraints) pattern) && not (may_answer (form pattern) surroundings.servlets)) (not (may_be_among (form pattern) files)) out in (
         c,
         there,
         refl,
@@ -628,7 +652,7 @@ module _ (constraints : List Constraint) (rules : Rules) (surroundings : Surroun
         files,
         known,
         λ path matched. (
-          none_meets pattern path surroundings.servlets matched (not-true (may_answer (form pattern) surroundings.servlets) (and_right (is_reached surroundings.contexts surroundings.path pattern && not (decides_nothing (lists (all_patterns constraints) (codes "/*")) pattern)) (not (may_answer (form pattern) surroundings.servlets)) left.0)),
+          none_meets pattern path surroundings.servlets matched (not-true (may_answer (form pattern) surroundings.servlets) (and_right (is_reached surroundings.contexts surroundings.path pattern && not (decides_nothing (all_patterns constraints) pattern)) (not (may_answer (form pattern) surroundings.servlets)) left.0)),
           none_held pattern path files matched (not-true (may_be_among (form pattern) files) left.1),
         ),
       )))
@@ -648,6 +672,9 @@ module _ (constraints : List Constraint) (rules : Rules) (surroundings : Surroun
   abbrev rows : List Row
   rows = the_rows constraints rules surroundings
 
+  abbrev every : List Row
+  every = (table_of constraints rules).rows
+
   abbrev pub opened : List Finding
   opened = flat_map (λ (row : Row). opened_at constraints row.pattern) rows
 
@@ -655,12 +682,12 @@ module _ (constraints : List Constraint) (rules : Rules) (surroundings : Surroun
   uncovered = flat_map (λ (row : Row). uncovered_at row.pattern row.groups) rows
 
   abbrev pub readings : List Finding
-  readings = read_otherwise rows
+  readings = read_otherwise every rows
 
   abbrev pub heads : List Finding
   heads = flat_map (λ (row : Row). head_at surroundings.has_login row.pattern row.groups) rows
 
-  by_row_right : All The (row_findings constraints surroundings.has_login rows)
+  by_row_right : All The (row_findings constraints surroundings.has_login every rows)
   by_row_right =
       All-append The (opened ++ uncovered ++ readings) heads
       (All-append The (opened ++ uncovered) readings
@@ -671,13 +698,13 @@ module _ (constraints : List Constraint) (rules : Rules) (surroundings : Surroun
       (rows_right constraints rules surroundings (head_at surroundings.has_login) (λ pattern. head_right constraints rules surroundings pattern) (λ groups. All-nil The))
 
   abbrev pub dead : List Finding
-  dead = dead_among (lists (all_patterns constraints) (codes "/*")) constraints
+  dead = dead_among (all_patterns constraints) constraints
 
   abbrev pub partly_dead : List Finding
-  partly_dead = dead_patterns (lists (all_patterns constraints) (codes "/*")) constraints
+  partly_dead = dead_patterns (all_patterns constraints) constraints
 
   abbrev pub changing_nothing : List Finding
-  changing_nothing = overruled rules constraints
+  changing_nothing = overruled rules (compared surroundings constraints)
 
   abbrev pub not_reached : List Finding
   not_reached = unreached surroundings.contexts surroundings.path constraints
@@ -711,22 +738,22 @@ module _ (constraints : List Constraint) (rules : Rules) (surroundings : Surroun
 
   all_right : CanonicalHasShape → All The (findings_of constraints rules (table_of constraints rules) surroundings)
   all_right shapes =
-      All-append The (row_findings constraints surroundings.has_login rows ++ by_pattern ++ by_page) (role_findings rules.declared surroundings.held constraints)
-      (All-append The (row_findings constraints surroundings.has_login rows ++ by_pattern) by_page
-      (All-append The (row_findings constraints surroundings.has_login rows) by_pattern by_row_right (by_pattern_right shapes))
+      All-append The (row_findings constraints surroundings.has_login every rows ++ by_pattern ++ by_page) (role_findings rules.declared surroundings.held constraints)
+      (All-append The (row_findings constraints surroundings.has_login every rows ++ by_pattern) by_page
+      (All-append The (row_findings constraints surroundings.has_login every rows) by_pattern by_row_right (by_pattern_right shapes))
       (page_right constraints rules surroundings surroundings.login_page refl)) by_role_right
 
-decides_at : (constraints : List Constraint) (path pattern : List ℕ) (b : Bool) → decides_nothing (lists (all_patterns constraints) (codes "/*")) pattern ≡ b → IsNeverBest constraints pattern ⊎ (b ≡ false) → IsServed path → best_pattern (all_patterns constraints) path ≡ Some pattern → b ≡ false
+decides_at : (constraints : List Constraint) (path pattern : List ℕ) (b : Bool) → decides_nothing (all_patterns constraints) pattern ≡ b → IsNeverBest constraints pattern ⊎ (b ≡ false) → IsServed path → best_pattern (all_patterns constraints) path ≡ Some pattern → b ≡ false
 decides_at constraints path pattern b is (inl never) served best = absurd (never path served best)
 decides_at constraints path pattern b is (inr none) served best = none
 
-decides_or : (shapes : CanonicalHasShape) (constraints : List Constraint) (pattern : List ℕ) (b : Bool) → decides_nothing (lists (all_patterns constraints) (codes "/*")) pattern ≡ b → IsNeverBest constraints pattern ⊎ (b ≡ false)
+decides_or : (shapes : CanonicalHasShape) (constraints : List Constraint) (pattern : List ℕ) (b : Bool) → decides_nothing (all_patterns constraints) pattern ≡ b → IsNeverBest constraints pattern ⊎ (b ≡ false)
 decides_or shapes constraints pattern true is = inl (never_best shapes constraints pattern is)
 decides_or shapes constraints pattern false is = inr refl
 
 pub best_decides : CanonicalHasShape → BestDecides
 best_decides shapes constraints path pattern served best =
-    let nothing : Bool = decides_nothing (lists (all_patterns constraints) (codes "/*")) pattern in
+    let nothing : Bool = decides_nothing (all_patterns constraints) pattern in
     decides_at constraints path pattern nothing refl (decides_or shapes constraints pattern nothing refl) served best
 
 pub findings_right : CanonicalHasShape → FindingsAreRight

@@ -35,11 +35,12 @@ use Rattle.sv_findings.specs.Findings.{findings_of, pattern_findings}
 use Rattle.sv_findings.specs.LoginNeeds.{login_needs}
 use Rattle.sv_findings.specs.RoleFindings.{role_findings}
 use Rattle.sv_findings.specs.Uncovered.{is_left_open, is_left_out, uncovered_at}
+use Rattle.sv_audit.specs.Shapes.{matches_nothing}
 use Rattle.sv_findings.specs.Dead.{is_tried_late}
 use Rattle.sv_findings.specs.MetRows.{is_met, is_row_met}
-use Rattle.sv_findings.specs.Readings.{first_restricting, holds_one, is_late, is_prefix, read_as, read_at, restricts_one, restricts_part, share_method}
+use Rattle.sv_findings.specs.Readings.{first_restricting, holds_one, is_late, is_late_match, is_prefix, read_as, read_at, restricts_one, restricts_part, share_method}
 use Rattle.sv_findings.proofs.OverruledLemmas.{is_over, matters_not}
-use Rattle.sv_findings.specs.Overruled.{is_overruled, overruled_in}
+use Rattle.sv_findings.specs.Overruled.{compared, is_overruled, overruled_in}
 use Rattle.sv_findings.specs.Unreached.{is_unreached, unreached_in}
 use Rattle.sv_findings.specs.declared.surroundings.Surroundings.{Surroundings}
 use Rattle.sv_mapping.specs.Pattern.{form}
@@ -121,15 +122,20 @@ module _ (constraints : List Constraint) (rules : Rules) (pattern : List ℕ) wh
       (λ (group : Group). ap (λ b. is_left_out group && (b && has_method method group)) (same_text pattern)) groups
       ∙ left_out method none open_to_all
 
-  -- A row that passes is found among the reached rows.
+  -- A row that passes is found among the rows.
+  row_listed : (test : Row → Bool) → lists (all_patterns constraints) pattern ≡ true → test (row_at constraints rules pattern) ≡ true → list_any test (table_of constraints rules).rows ≡ true
+  row_listed test there some =
+      any_first test (map (row_at constraints rules) (in_row_order (all_patterns constraints))) (cond (match_every_path (all_patterns constraints)) [] (other_paths ∷ []))
+      (any_seen test (row_at constraints rules) (in_row_order (all_patterns constraints))
+      ∙ any_in (λ p. test (row_at constraints rules p)) (in_row_order (all_patterns constraints)) pattern (ordered_lists (all_patterns constraints) pattern ∙ there) some)
+
+  -- It is found among the rows that requests meet, if they meet it.
   row_found : (surroundings : Surroundings) (test : Row → Bool) → lists (all_patterns constraints) pattern ≡ true → IsMet constraints surroundings pattern → test (row_at constraints rules pattern) ≡ true
       → list_any test (the_rows constraints rules surroundings) ≡ true
   row_found surroundings test there reached some =
-      kept_any test (is_row_met surroundings.contexts surroundings.path (lists (all_patterns constraints) (codes "/*"))) (table_of constraints rules).rows
-      ∙ any_first (λ (row : Row). is_row_met surroundings.contexts surroundings.path (lists (all_patterns constraints) (codes "/*")) row && test row) (map (row_at constraints rules) (in_row_order (all_patterns constraints))) (cond (match_every_path (all_patterns constraints)) [] (other_paths ∷ []))
-      (any_seen (λ (row : Row). is_row_met surroundings.contexts surroundings.path (lists (all_patterns constraints) (codes "/*")) row && test row) (row_at constraints rules) (in_row_order (all_patterns constraints))
-      ∙ any_in (λ p. is_met surroundings.contexts surroundings.path (lists (all_patterns constraints) (codes "/*")) p && test (row_at constraints rules p)) (in_row_order (all_patterns constraints)) pattern (ordered_lists (all_patterns constraints) pattern ∙ there)
-      (both (is_met surroundings.contexts surroundings.path (lists (all_patterns constraints) (codes "/*")) pattern) (test (row_at constraints rules pattern)) reached some))
+      kept_any test (is_row_met surroundings.contexts surroundings.path (all_patterns constraints)) (table_of constraints rules).rows
+      ∙ row_listed (λ (row : Row). is_row_met surroundings.contexts surroundings.path (all_patterns constraints) row && test row) there
+      (both (is_met surroundings.contexts surroundings.path (all_patterns constraints) pattern) (test (row_at constraints rules pattern)) reached some)
 
   -- What is found at the row of a reached pattern is found in the table.
   in_table : (surroundings : Surroundings) (test : Finding → Bool) (at : Option (List ℕ) → List Group → List Finding) → lists (all_patterns constraints) pattern ≡ true → IsMet constraints surroundings pattern → list_any test (at (Some pattern) groups) ≡ true
@@ -212,6 +218,9 @@ module _ (constraints : List Constraint) (rules : Rules) (surroundings : Surroun
   among_changing_nothing : list_any test c ≡ true → IsAmong
   among_changing_nothing some = among_first (any_first test (d ++ p ++ c) n (any_last test (d ++ p) c some))
 
+  pub among_not_served : list_any test s ≡ true → IsAmong
+  among_not_served some = among_patterns (any_first test (d ++ p ++ c ++ n ++ s) (escaped constraints) (any_last test (d ++ p ++ c ++ n) s some))
+
   among_not_reached : list_any test n ≡ true → IsAmong
   among_not_reached some = among_first (any_last test (d ++ p ++ c) n some)
 
@@ -234,31 +243,31 @@ opened_found best_is_a_match constraints rules surroundings pattern method path 
     (reported_pair constraints pattern method (opened_pair constraints pattern) (some_pair constraints pattern method opens) (opened_exact constraints pattern method ∙ opens)))
 
 -- ---- Dead patterns.
-same_number : (n : ℕ) → (n == n) ≡ true
+pub same_number : (n : ℕ) → (n == n) ≡ true
 same_number n = grind arith
 
 module _ (constraints : List Constraint) (rules : Rules) (surroundings : Surroundings) (c : Constraint) (pattern : List ℕ) (there : Contains constraints c) (listed : lists (patterns_in c) pattern ≡ true) where
-  abbrev has_prefix : Bool
-  has_prefix = lists (all_patterns constraints) (codes "/*")
+  abbrev patterns : List (List ℕ)
+  patterns = all_patterns constraints
 
-  dead_found_at : decides_nothing has_prefix pattern ≡ true → (all_dead : Bool) → is_dead has_prefix c ≡ all_dead → list_any (says_dead c.number pattern) (findings_of constraints rules (table_of constraints rules) surroundings) ≡ true
+  dead_found_at : decides_nothing patterns pattern ≡ true → (all_dead : Bool) → is_dead patterns c ≡ all_dead → list_any (says_dead c.number pattern) (findings_of constraints rules (table_of constraints rules) surroundings) ≡ true
   dead_found_at nothing true is =
       among_dead constraints rules surroundings (says_dead c.number pattern)
-      (any_seen (says_dead c.number pattern) (λ (x : Constraint). finding.Dead x.number) (filter (is_dead has_prefix) constraints)
-      ∙ kept_any (λ (x : Constraint). x.number == c.number) (is_dead has_prefix) constraints
-      ∙ contained (λ (x : Constraint). is_dead has_prefix x && (x.number == c.number)) constraints c there (both (is_dead has_prefix c) (c.number == c.number) is (same_number c.number)))
+      (any_seen (says_dead c.number pattern) (λ (x : Constraint). finding.Dead x.number) (filter (is_dead patterns) constraints)
+      ∙ kept_any (λ (x : Constraint). x.number == c.number) (is_dead patterns) constraints
+      ∙ contained (λ (x : Constraint). is_dead patterns x && (x.number == c.number)) constraints c there (both (is_dead patterns c) (c.number == c.number) is (same_number c.number)))
   dead_found_at nothing false is =
       among_partly_dead constraints rules surroundings (says_dead c.number pattern)
-      (any_of_joined (says_dead c.number pattern) (dead_patterns_in has_prefix) constraints
-      ∙ contained (λ (x : Constraint). list_any (says_dead c.number pattern) (dead_patterns_in has_prefix x)) constraints c there
-      (ap (λ b. list_any (says_dead c.number pattern) (cond b [] (map (finding.DeadPattern c.number) (filter (decides_nothing has_prefix) (patterns_in c))))) is
-      ∙ any_seen (says_dead c.number pattern) (finding.DeadPattern c.number) (filter (decides_nothing has_prefix) (patterns_in c))
-      ∙ kept_any (λ text. (c.number == c.number) && bytes_eq text pattern) (decides_nothing has_prefix) (patterns_in c)
-      ∙ any_in (λ text. decides_nothing has_prefix text && ((c.number == c.number) && bytes_eq text pattern)) (patterns_in c) pattern listed
-      (both (decides_nothing has_prefix pattern) ((c.number == c.number) && bytes_eq pattern pattern) nothing (both (c.number == c.number) (bytes_eq pattern pattern) (same_number c.number) (same_text pattern)))))
+      (any_of_joined (says_dead c.number pattern) (dead_patterns_in patterns) constraints
+      ∙ contained (λ (x : Constraint). list_any (says_dead c.number pattern) (dead_patterns_in patterns x)) constraints c there
+      (ap (λ b. list_any (says_dead c.number pattern) (cond b [] (map (finding.DeadPattern c.number) (filter (decides_nothing patterns) (patterns_in c))))) is
+      ∙ any_seen (says_dead c.number pattern) (finding.DeadPattern c.number) (filter (decides_nothing patterns) (patterns_in c))
+      ∙ kept_any (λ text. (c.number == c.number) && bytes_eq text pattern) (decides_nothing patterns) (patterns_in c)
+      ∙ any_in (λ text. decides_nothing patterns text && ((c.number == c.number) && bytes_eq text pattern)) (patterns_in c) pattern listed
+      (both (decides_nothing patterns pattern) ((c.number == c.number) && bytes_eq pattern pattern) nothing (both (c.number == c.number) (bytes_eq pattern pattern) (same_number c.number) (same_text pattern)))))
 
 pub dead_found : DeadIsFound
-dead_found constraints rules surroundings c pattern there listed nothing = dead_found_at constraints rules surroundings c pattern there listed nothing (is_dead (lists (all_patterns constraints) (codes "/*")) c) refl
+dead_found constraints rules surroundings c pattern there listed nothing = dead_found_at constraints rules surroundings c pattern there listed nothing (is_dead (all_patterns constraints) c) refl
 
 -- ---- The same callers fare alike.
 module _ (constraints : List Constraint) (rules : Rules) (surroundings : Surroundings) (pattern path : List ℕ) (visitor : Option Caller) (best : best_pattern (all_patterns constraints) path ≡ Some pattern) (apart : FaresDifferently (configuration_of constraints rules surroundings) path visitor) where
@@ -340,7 +349,7 @@ module _ (constraints : List Constraint) (rules : Rules) (other : List ℕ) wher
 found_pattern : (methods : Methods) (rows : List Row) → list_any (restricts_one methods) (filter is_late rows) ≡ true → is_some (first_restricting (filter is_late rows) methods) ≡ true
 found_pattern methods rows some = by_rows rows some
   where
-    has_pattern : (pattern : Option (List ℕ)) → option_map_or is_tried_late pattern false ≡ true → is_some pattern ≡ true
+    has_pattern : (pattern : Option (List ℕ)) → option_map_or is_late_match pattern false ≡ true → is_some pattern ≡ true
     has_pattern None none = absurd (false≢true none)
     has_pattern (Some text) tried = refl
 
@@ -362,18 +371,18 @@ reported_reading : (pattern method : List ℕ) (methods : Methods) (other : Opti
 reported_reading pattern method methods None some has = absurd (false≢true some)
 reported_reading pattern method methods (Some other) some has = ap (λ b. b || false) (both (bytes_eq pattern pattern) (covers_method methods method) (same_text pattern) has)
 
-module _ (constraints : List Constraint) (rules : Rules) (surroundings : Surroundings) (pattern method other : List ℕ) (its_reached : IsMet constraints surroundings other) (listed : lists (all_patterns constraints) other ≡ true) (tried : is_tried_late other ≡ true) (shut : IsShut constraints rules other method) where
+module _ (constraints : List Constraint) (rules : Rules) (surroundings : Surroundings) (pattern method other : List ℕ) (met : matches_nothing other ≡ false) (listed : lists (all_patterns constraints) other ≡ true) (tried : is_tried_late other ≡ true) (shut : IsShut constraints rules other method) where
   abbrev late_ones : List Row
   late_ones = late constraints rules surroundings
 
   restricting_some : (methods : Methods) → covers_method methods method ≡ true → list_any (restricts_one methods) late_ones ≡ true
   restricting_some methods has =
-      kept_any (restricts_one methods) is_late (the_rows constraints rules surroundings)
-      ∙ row_found constraints rules other surroundings (λ (row : Row). is_late row && restricts_one methods row) listed its_reached
-      (both (is_late (row_at constraints rules other)) (restricts_one methods (row_at constraints rules other)) tried (row_restricts constraints rules other methods method has shut))
+      kept_any (restricts_one methods) is_late (table_of constraints rules).rows
+      ∙ row_listed constraints rules other (λ (row : Row). is_late row && restricts_one methods row) listed
+      (both (is_late (row_at constraints rules other)) (restricts_one methods (row_at constraints rules other)) (both (is_tried_late other) (not (matches_nothing other)) tried (ap not met)) (row_restricts constraints rules other methods method has shut))
 
   read_group : (group : Group) → has_method method group ≡ true → list_any (says_read pattern method) (read_as late_ones pattern group.methods) ≡ true
-  read_group group has = reported_reading pattern method group.methods (first_restricting late_ones group.methods) (found_pattern group.methods (the_rows constraints rules surroundings) (restricting_some group.methods has)) has
+  read_group group has = reported_reading pattern method group.methods (first_restricting late_ones group.methods) (found_pattern group.methods (table_of constraints rules).rows (restricting_some group.methods has)) has
 
   reading_reported : is_prefix (form pattern) ≡ true → rules.deny_uncovered ≡ false → is_uncovered_at constraints pattern method ≡ true → list_any (says_read pattern method) (read_at late_ones (Some pattern) (groups constraints rules pattern)) ≡ true
   reading_reported prefixed open_to_all none =
@@ -387,20 +396,20 @@ module _ (constraints : List Constraint) (rules : Rules) (surroundings : Surroun
       (both (is_left_out group) (list_any (says_read pattern method) (read_as late_ones pattern group.methods)) (and_left (is_left_out group) (has_method method group) it) (read_group group (and_right (is_left_out group) (has_method method group) it))))
 
 pub reading_found : ReadingIsFound
-reading_found constraints rules surroundings pattern method other reached its_reached open_to_all there listed prefixed tried none shut =
+reading_found constraints rules surroundings pattern method other reached met open_to_all there listed prefixed tried none shut =
     among_readings constraints rules surroundings (says_read pattern method)
     (in_table constraints rules pattern surroundings (says_read pattern method) (read_at (late constraints rules surroundings)) there reached
-    (reading_reported constraints rules surroundings pattern method other its_reached listed tried shut prefixed open_to_all none))
+    (reading_reported constraints rules surroundings pattern method other met listed tried shut prefixed open_to_all none))
 
 -- ---- Overruled constraints.
 pub overruled_found : OverruledIsFound
 overruled_found constraints rules surroundings c there alive each =
-    let has_prefix : Bool = lists (all_patterns constraints) (codes "/*") in
-    let over : is_overruled rules constraints has_prefix c ≡ true =
-    is_over constraints rules has_prefix c there alive (λ pattern listed some. let it : AreFew constraints pattern × ChangesNothing constraints rules c pattern = each pattern listed some in matters_not constraints rules c pattern it.0 it.1) in
+    let full : List Constraint = compared surroundings constraints in
+    let over : is_overruled rules full (all_patterns full) c ≡ true =
+    is_over full rules (all_patterns full) c there alive (λ pattern listed some. let it : AreFew full pattern × ChangesNothing full rules c pattern = each pattern listed some in matters_not full rules c pattern it.0 it.1) in
     among_changing_nothing constraints rules surroundings (says_overruled c.number)
-    (any_of_joined (says_overruled c.number) (overruled_in rules constraints has_prefix) constraints
-    ∙ contained (λ (x : Constraint). list_any (says_overruled c.number) (overruled_in rules constraints has_prefix x)) constraints c there
+    (any_of_joined (says_overruled c.number) (overruled_in rules full (all_patterns full)) full
+    ∙ contained (λ (x : Constraint). list_any (says_overruled c.number) (overruled_in rules full (all_patterns full) x)) full c there
     (ap (λ b. list_any (says_overruled c.number) (cond b (finding.Overruled c.number ∷ []) [])) over ∙ ap (λ b. b || false) (same_number c.number)))
 
 -- ---- Unreached patterns.

@@ -1,3 +1,4 @@
+pub mod FolderLemmas
 pub mod ReachLemmas
 pub mod OpenedLemmas
 pub mod OpenedSteps
@@ -6,5 +7,7 @@ pub mod OverruledSteps
 pub mod OverruledLemmas
 pub mod FindingLemmas
 pub mod FoundFindings
+pub mod SearchedFindings
+pub mod UncomparedSteps
 pub mod RemovedLemmas
 pub mod Joined

@@ -619,12 +619,12 @@ any_not : {X : Type 0} (test : X → Bool) (xs : List X) → list_any (λ x. not
 any_not test [] = refl
 any_not test (x ∷ xs) = not_at_one (test x) (list_any (λ y. not (test y)) xs) (list_all test xs) (any_not test xs)
 
-module _ (constraints : List Constraint) (rules : Rules) (has_prefix : Bool) (constraint : Constraint) where
+module _ (constraints : List Constraint) (rules : Rules) (patterns : List (List ℕ)) (constraint : Constraint) where
   abbrev decides : List ℕ → Bool
-  decides pattern = not (decides_nothing has_prefix pattern)
+  decides pattern = not (decides_nothing patterns pattern)
 
   abbrev deciding : List (List ℕ)
-  deciding = deciding_patterns has_prefix constraint
+  deciding = deciding_patterns patterns constraint
 
   abbrev on : List ℕ → List Constraint
   on pattern = filter (λ c. lists_pattern c pattern) constraints
@@ -635,7 +635,7 @@ module _ (constraints : List Constraint) (rules : Rules) (has_prefix : Bool) (co
   abbrev changes_none : List ℕ → Bool
   changes_none pattern = is_overruled_at rules constraints constraint.number pattern
 
-  pub not_at : is_overruled rules constraints has_prefix constraint ≡ true → (pattern : List ℕ) → lists (patterns_in constraint) pattern ≡ true → decides_nothing has_prefix pattern ≡ false → matters pattern ≡ false
+  pub not_at : is_overruled rules constraints patterns constraint ≡ true → (pattern : List ℕ) → lists (patterns_in constraint) pattern ≡ true → decides_nothing patterns pattern ≡ false → matters pattern ≡ false
   not_at over pattern listed some =
       not-true (matters pattern)
       (kept_passes (λ number. not (matters_by rules number pattern (on pattern))) constraint.number (numbers_of (on pattern))
@@ -654,13 +654,13 @@ module _ (constraints : List Constraint) (rules : Rules) (has_prefix : Bool) (co
     none_at pattern listing none =
         passing_kept (λ number. not (matters_by rules number pattern (on pattern))) constraint.number (numbers_of (on pattern)) (ap not none) (numbered pattern listing)
 
-    pub is_over : is_dead has_prefix constraint ≡ false → ((pattern : List ℕ) → lists (patterns_in constraint) pattern ≡ true → decides_nothing has_prefix pattern ≡ false → matters pattern ≡ false) → is_overruled rules constraints has_prefix constraint ≡ true
+    pub is_over : is_dead patterns constraint ≡ false → ((pattern : List ℕ) → lists (patterns_in constraint) pattern ≡ true → decides_nothing patterns pattern ≡ false → matters pattern ≡ false) → is_overruled rules constraints patterns constraint ≡ true
     is_over alive none =
-        both (not (length deciding == 0)) (list_all changes_none deciding) (some_filtered decides (patterns_in constraint) ∙ any_not (decides_nothing has_prefix) (patterns_in constraint) ∙ ap not alive)
+        both (not (length deciding == 0)) (list_all changes_none deciding) (some_filtered decides (patterns_in constraint) ∙ any_not (decides_nothing patterns) (patterns_in constraint) ∙ ap not alive)
         (list_all-from_AllPass changes_none deciding
         (λ k d within.
         let pattern : List ℕ = slice_index_or deciding k d in
         let kept : (lists (patterns_in constraint) pattern && decides pattern) ≡ true = sym (passing_lists decides (patterns_in constraint) pattern) ∙ in_texts deciding pattern (All-contains_itself deciding k d within) in
         let listed : lists (patterns_in constraint) pattern ≡ true = and_left (lists (patterns_in constraint) pattern) (decides pattern) kept in
         none_at pattern (sym (listed_by pattern constraint) ∙ listed)
-        (none pattern listed (not-true (decides_nothing has_prefix pattern) (and_right (lists (patterns_in constraint) pattern) (decides pattern) kept)))))
+        (none pattern listed (not-true (decides_nothing patterns pattern) (and_right (lists (patterns_in constraint) pattern) (decides pattern) kept)))))

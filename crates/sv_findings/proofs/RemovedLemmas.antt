@@ -28,8 +28,9 @@ use Rattle.sv_audit.specs.Shapes.{IsServed}
 use Rattle.sv_findings.proofs.FindingLemmas.{findings_right}
 use Rattle.sv_findings.proofs.OpenedLemmas.{kept_any}
 use Rattle.sv_findings.proofs.OverruledLemmas.{all_others, no_from, swapped}
-use Rattle.sv_findings.specs.FindingLaws.{ChangesNothing, DecideAlikeWithout, IsRight, OverruledIsRemovable, says_overruled}
+use Rattle.sv_findings.specs.FindingLaws.{ChangesNothing, DecideAlikeWithout, IsOverruled, IsRight, OverruledIsRemovable, says_overruled}
 use Rattle.sv_findings.specs.Findings.{findings_of}
+use Rattle.sv_findings.specs.Overruled.{compared}
 use Rattle.sv_overruled.specs.Overruled.{has_number, others}
 use Rattle.sv_findings.specs.declared.finding.Finding.{Finding}
 use Rattle.sv_findings.specs.declared.finding.Finding.TheVariants.{Opened, Uncovered, ReadOtherwise, HeadDiffers, Dead, DeadPattern, Overruled, Unreached, Unserved, Escaped, LoginNeeds, UnknownRole, UnheldRole, UnusedRole}
@@ -207,12 +208,11 @@ same_from_test : (a b : ℕ) → (a == b) ≡ true → a ≡ b
 same_from_test a b is = grind (arith, is)
 
 module _ (constraints : List Constraint) (rules : Rules) (surroundings : Surroundings) (number : ℕ) where
-  abbrev IsOverruled : Constraint → Type 0
-  IsOverruled constraint = Contains constraints constraint × (constraint.number ≡ number)
-      × ((path pattern : List ℕ) → IsServed path → best_pattern (all_patterns constraints) path ≡ Some pattern → lists (patterns_in constraint) pattern ≡ true → ChangesNothing constraints rules constraint pattern)
+  abbrev full : List Constraint
+  full = compared surroundings constraints
 
-  said_by : (f : Finding) → IsRight constraints rules surroundings f → says_overruled number f ≡ true → (constraint : Constraint) × IsOverruled constraint
-  said_by (Overruled other) right is = (right.0, (right.1, right.2 ∙ same_from_test other number is, right.3))
+  said_by : (f : Finding) → IsRight constraints rules surroundings f → says_overruled number f ≡ true → IsOverruled full rules number
+  said_by (Overruled other) right is = (right.0, right.1, right.2 ∙ same_from_test other number is, right.3)
   said_by (Opened pattern methods one two) right is = absurd (false≢true is)
   said_by (Uncovered pattern methods) right is = absurd (false≢true is)
   said_by (ReadOtherwise pattern methods other) right is = absurd (false≢true is)
@@ -227,14 +227,15 @@ module _ (constraints : List Constraint) (rules : Rules) (surroundings : Surroun
   said_by (UnheldRole role) right is = absurd (false≢true is)
   said_by (UnusedRole role) right is = absurd (false≢true is)
 
-  said : CanonicalHasShape → list_any (says_overruled number) (findings_of constraints rules (table_of constraints rules) surroundings) ≡ true → (constraint : Constraint) × IsOverruled constraint
+  said : CanonicalHasShape → list_any (says_overruled number) (findings_of constraints rules (table_of constraints rules) surroundings) ≡ true → IsOverruled full rules number
   said shapes some =
       let all : List Finding = findings_of constraints rules (table_of constraints rules) surroundings in
-      found ((constraint : Constraint) × IsOverruled constraint) (says_overruled number) all some (λ k d within says. said_by (slice_index_or all k d) (findings_right shapes constraints rules surroundings k d within) says)
+      found (IsOverruled full rules number) (says_overruled number) all some (λ k d within says. said_by (slice_index_or all k d) (findings_right shapes constraints rules surroundings k d within) says)
 
 pub removable : CanonicalHasShape → BestExists → BestIsUnique → OverruledIsRemovable
 removable shapes best_exists unique constraints rules surroundings constraint there alone some =
-    let it : (other : Constraint) × IsOverruled constraints rules surroundings constraint.number other = said constraints rules surroundings constraint.number shapes some in
-    let same : it.0 ≡ constraint = alone it.0 it.1.0 it.1.1 in
-    without_it best_exists unique constraints rules constraint alone
-    (λ path pattern served best listed. subst (λ c. ChangesNothing constraints rules c pattern) same (it.1.2 path pattern served best (ap (λ c. lists (patterns_in c) pattern) same ∙ listed)))
+    let full : List Constraint = compared surroundings constraints in
+    let it : IsOverruled full rules constraint.number = said constraints rules surroundings constraint.number shapes some in
+    let same : it.0 ≡ constraint = alone it.0 it.1 it.2 in
+    without_it best_exists unique full rules constraint alone
+    (λ path pattern served best listed. subst (λ c. ChangesNothing full rules c pattern) same (it.3 path pattern served best (ap (λ c. lists (patterns_in c) pattern) same ∙ listed)))

@@ -1,9 +1,11 @@
 //! The findings of constraints and their access table.
 
-ghost use Rattle.std.specs.Prelude.{◌≡◌, ◌++◌, OnOk, filter, map};
+ghost use Rattle.std.specs.Prelude.{◌≡◌, ◌++◌, IfOk, OnOk, filter, map};
 ghost use Rattle.std.specs.List.{flat_map, list_all};
 ghost use Rattle.sv_text.specs.Gives.{GivesAnswer};
+ghost use Rattle.sv_constraints.specs.Covering.{all_patterns};
 ghost use Rattle.sv_findings.specs.Findings as spec;
+ghost use Rattle.sv_findings.specs.MetRows.{is_row_met};
 ghost use Rattle.sv_findings.specs.Uncovered as uncovered;
 ghost use Rattle.sv_findings.specs.declared.finding.Finding.TheVariants as finding;
 
@@ -49,11 +51,7 @@ pub fn findings_of(
         surroundings.path.as_str(),
     )?;
     let mut findings = Vec::new(alloc);
-    let listed = ListedPatterns::of(alloc, constraints)?;
-    let rows = TableRows {
-        all: table.rows.as_slice(),
-        met: met_rows(alloc, &reaches, &listed, table.rows.as_slice())?,
-    };
+    let rows = table_rows(alloc, &reaches, constraints, table.rows.as_slice())?;
     push_by_row(
         &mut findings,
         alloc,
@@ -93,6 +91,20 @@ pub fn findings_of(
 struct TableRows<'a> {
     all: &'a [Row],
     met: Vec<&'a Row>,
+}
+
+fn table_rows<'a>(
+    alloc: Global,
+    reaches: &Reaches<'_>,
+    constraints: &[Constraint],
+    rows: &'a [Row],
+) -> Result<TableRows<'a>, NoMemory>
+    ensures { IfOk result (λ its. (its.all.now ≡ rows.now)
+        × (map (λ row. row.now) its.met.items ≡ filter (is_row_met reaches.now.0 reaches.now.1 (all_patterns constraints.now)) rows.now)) }
+{
+    let listed = ListedPatterns::of(alloc, constraints)?;
+    let met = met_rows(alloc, reaches, &listed, rows)?;
+    Ok(TableRows { all: rows, met })
 }
 
 /// Appends the findings of rows of the table, given whether there is a login configuration.

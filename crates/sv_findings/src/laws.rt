@@ -46,7 +46,7 @@ pub fn findings_are_complete()
     best_is_a_match();
 }
 
-/// Of what [`unsearched`](crate::unsearched) does not report none is missed: no constraint without which each request at
+/// Of what [`unsearched_of`](crate::unsearched_of) does not report none is missed: no constraint without which each request at
 /// its patterns is decided alike, and no pattern at which nothing answers.
 pub fn searched_findings_are_complete()
     ensures overruled { SearchedIsFound }

@@ -30,5 +30,5 @@ pub use listed_patterns::ListedPatterns;
 pub use met_rows::{is_met, row_reach};
 pub use reach::{Reach, Reaches, reach_of};
 pub use surroundings::{LoginPage, Surroundings};
-pub use unsearched::{Unsearched, unsearched};
+pub use unsearched::{Unsearched, unsearched_of};
 pub use unserved::MAX_SERVED_PATTERNS;

@@ -144,11 +144,11 @@ fn is_overruled(
 }
 
 /// Returns the patterns of a constraint that may decide.
-fn deciding_patterns(
+fn deciding_patterns<'a>(
     alloc: Global,
     listed: &ListedPatterns<'_>,
-    constraint: &Constraint,
-) -> Result<Vec<&str>, NoMemory>
+    constraint: &'a Constraint,
+) -> Result<Vec<&'a str>, NoMemory>
     ensures { IfOk result (λ patterns. map (λ pattern. pattern.now) patterns.items ≡ spec.deciding_patterns listed.now constraint.now) }
 {
     let patterns = patterns_in(alloc, constraint)?;

@@ -37,7 +37,7 @@ pub enum Unsearched {
 ///
 /// # Errors
 /// `NoMemory` if memory runs out.
-pub fn unsearched(
+pub fn unsearched_of(
     alloc: Global,
     constraints: &[Constraint],
     surroundings: &Surroundings,
@@ -84,7 +84,8 @@ fn has_uncompared(alloc: Global, constraints: &[Constraint]) -> Result<bool, NoM
 {
     let listed = ListedPatterns::of(alloc, constraints)?;
     let groups = grouped(alloc, constraints)?;
-    has_uncompared_among(alloc, &groups, &listed)
+    let is_found = has_uncompared_among(alloc, &groups, &listed)?;
+    Ok(is_found)
 }
 
 fn has_uncompared_among(

@@ -27,7 +27,7 @@ pub const MAX_SERVED_PATTERNS: usize = 2_000;
 struct Site<'a> {
     reaches: &'a Reaches<'a>,
     /// The patterns of all constraints.
-    listed: &'a ListedPatterns<'a>,
+    listed: ListedPatterns<'a>,
     servlets: &'a [Text],
     files: &'a [Text],
 }
@@ -50,10 +50,9 @@ pub fn push_unserved(
     if are_many(alloc, constraints)? {
         return Ok(());
     }
-    let listed = ListedPatterns::of(alloc, constraints)?;
     let site = Site {
         reaches,
-        listed: &listed,
+        listed: ListedPatterns::of(alloc, constraints)?,
         servlets: surroundings.servlets.as_slice(),
         files: files.as_slice(),
     };
@@ -75,7 +74,7 @@ fn push_unserved_at(
     constraints: &[Constraint],
 ) -> Result<(), NoMemory>
     ensures { OnOk result (findings.new.items ≡ findings.old.items
-        ++ flat_map (spec.unserved_in (spec.is_unserved site.now.reaches.now.0 site.now.reaches.now.1 site.now.listed.now site.now.servlets.now site.now.files.now)) constraints.now) }
+        ++ flat_map (spec.unserved_in (spec.is_unserved site.now.reaches.now.0 site.now.reaches.now.1 site.now.listed site.now.servlets.now site.now.files.now)) constraints.now) }
 {
     for constraint in constraints {
         push_unserved_in(findings, alloc, site, constraint)?;
@@ -90,7 +89,7 @@ fn push_unserved_in(
     constraint: &Constraint,
 ) -> Result<(), NoMemory>
     ensures { OnOk result (findings.new.items ≡ findings.old.items
-        ++ spec.unserved_in (spec.is_unserved site.now.reaches.now.0 site.now.reaches.now.1 site.now.listed.now site.now.servlets.now site.now.files.now) constraint.now) }
+        ++ spec.unserved_in (spec.is_unserved site.now.reaches.now.0 site.now.reaches.now.1 site.now.listed site.now.servlets.now site.now.files.now) constraint.now) }
 {
     let patterns = patterns_in(alloc, constraint)?;
     push_unserved_of(
@@ -110,7 +109,7 @@ fn push_unserved_of(
     patterns: &[&str],
 ) -> Result<(), NoMemory>
     ensures { OnOk result (findings.new.items ≡ findings.old.items
-        ++ map (finding.Unserved number) (filter (spec.is_unserved site.now.reaches.now.0 site.now.reaches.now.1 site.now.listed.now site.now.servlets.now site.now.files.now) (map (λ pattern. pattern.now) patterns.now))) }
+        ++ map (finding.Unserved number) (filter (spec.is_unserved site.now.reaches.now.0 site.now.reaches.now.1 site.now.listed site.now.servlets.now site.now.files.now) (map (λ pattern. pattern.now) patterns.now))) }
 {
     for pattern in patterns {
         if is_unserved(alloc, site, pattern)? {
@@ -121,12 +120,12 @@ fn push_unserved_of(
 }
 
 fn is_unserved(alloc: Global, site: &Site<'_>, pattern: &str) -> Result<bool, NoMemory>
-    ensures { GivesAnswer result (spec.is_unserved site.now.reaches.now.0 site.now.reaches.now.1 site.now.listed.now site.now.servlets.now site.now.files.now pattern.now) }
+    ensures { GivesAnswer result (spec.is_unserved site.now.reaches.now.0 site.now.reaches.now.1 site.now.listed site.now.servlets.now site.now.files.now pattern.now) }
 {
     let is_reached = site.reaches.is_reached(alloc, pattern)?;
     Ok(
         is_reached
-            && !decides_nothing(site.listed, pattern)
+            && !decides_nothing(&site.listed, pattern)
             && !may_answer(form_of(pattern), site.servlets)
             && !may_be_among(form_of(pattern), site.files),
     )

@@ -4,4 +4,4 @@ use Rattle.sv_findings.specs.Dead.{decides_nothing}
 use Rattle.sv_findings.proofs.overruled.deciding_patterns.Given as goal
 
 abbrev pub invariant-loop-pattern : goal.invariant-loop-pattern
-invariant-loop-pattern l = map (λ pattern. pattern.now) l.deciding.items ≡ filter (λ pattern. not (decides_nothing l.has_prefix pattern)) (map (λ pattern. pattern.now) (take l.pattern-index l.pattern-items))
+invariant-loop-pattern l = map (λ pattern. pattern.now) l.deciding.items ≡ filter (λ pattern. not (decides_nothing l.listed pattern)) (map (λ pattern. pattern.now) (take l.pattern-index l.pattern-items))

@@ -4,4 +4,4 @@ use Rattle.sv_findings.specs.Overruled.{overruled_in}
 use Rattle.sv_findings.proofs.overruled.push_overruled.Given as goal
 
 abbrev pub invariant-loop-constraint : goal.invariant-loop-constraint
-invariant-loop-constraint l = l.findings.items ≡ l.initial.findings.items ++ flat_map (overruled_in l.rules l.constraints l.has_prefix) (take l.constraint-index l.constraints)
+invariant-loop-constraint l = l.findings.items ≡ l.initial.findings.items ++ flat_map (overruled_in l.rules l.constraints l.listed) (take l.constraint-index l.constraints)
