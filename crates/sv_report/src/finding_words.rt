@@ -250,10 +250,10 @@ pub fn remedy(finding: &Finding) -> &'static str
         }
         Finding::HeadDiffers(_, _, _) => "Name both GET and HEAD, or neither, in each collection.",
         Finding::Dead(_) => {
-            "No path matches its patterns, or /* is chosen before them. Change them, or remove it."
+            "No path matches its patterns, or others are chosen before them. Change them, or remove it."
         }
         Finding::DeadPattern(_, _) => {
-            "No path matches it, or /* is chosen before it. Change it, or remove it."
+            "No path matches it, or another pattern is chosen before it. Change it, or remove it."
         }
         Finding::Overruled(_) => {
             "Remove it alone and audit again, or say what it should restrict."
