@@ -111,15 +111,24 @@ listed value x xs all old one two three new of_all p q r s =
     four old one two three new (codes "[") (compact_text (value x)) (flat_map (λ y. codes "," ++ compact_text (value y)) xs) (codes "]") p q r s
     ∙ ap (λ text. old ++ text) (sym (ap (λ ys. compact_text (array (items_of (map value ys)))) of_all ∙ list_text value x xs))
 
+five_parts : (t0 t1 t2 t3 t4 t5 a b c d e : List ℕ) → t1 ≡ t0 ++ a → t2 ≡ t1 ++ b → t3 ≡ t2 ++ c → t4 ≡ t3 ++ d → t5 ≡ t4 ++ e
+    → t5 ≡ t0 ++ (a ++ b ++ c ++ d ++ e)
+five_parts t0 t1 t2 t3 t4 t5 a b c d e p q r s t = search (rules, append_assoc)
+
 -- The places of a context, whose parts were appended one by one.
 pub places_of_parts : (path file t0 t1 t2 t3 t4 t5 : List ℕ) → t1 ≡ t0 ++ codes "{\"context\":" → t2 ≡ t1 ++ compact_text (string path)
     → t3 ≡ t2 ++ codes ",\"file\":" → t4 ≡ t3 ++ compact_text (string file) → t5 ≡ t4 ++ codes ",\"findings\":"
     → t5 ≡ t0 ++ (codes "{\"context\":" ++ compact_text (string path) ++ codes ",\"file\":" ++ compact_text (string file) ++ codes ",\"findings\":")
 places_of_parts path file t0 t1 t2 t3 t4 t5 p q r s t =
-    in_order (codes "{\"context\":") (compact_text (string path)) (codes ",\"file\":") (compact_text (string file)) (codes ",\"findings\":") p q r s t
-  where
-    in_order : (a b c d e : List ℕ) → t1 ≡ t0 ++ a → t2 ≡ t1 ++ b → t3 ≡ t2 ++ c → t4 ≡ t3 ++ d → t5 ≡ t4 ++ e → t5 ≡ t0 ++ (a ++ b ++ c ++ d ++ e)
-    in_order a b c d e p q r s t = search (rules, append_assoc)
+    five_parts t0 t1 t2 t3 t4 t5 (codes "{\"context\":") (compact_text (string path)) (codes ",\"file\":") (compact_text (string file)) (codes ",\"findings\":") p q r s t
+
+-- The end of a context, whose parts were appended one by one.
+pub end_of_parts : (context : ContextReport) (t0 t1 t2 t3 t4 t5 kinds : List ℕ) → kinds ≡ compact_text (unsearched_value context.unsearched)
+    → t1 ≡ t0 ++ codes ",\"unsearched\":" → t2 ≡ t1 ++ kinds → t3 ≡ t2 ++ codes ",\"viewer\":" → t4 ≡ t3 ++ compact_text (viewer_value context.viewer)
+    → t5 ≡ t4 ++ codes "}" → t5 ≡ t0 ++ end_text context
+end_of_parts context t0 t1 t2 t3 t4 t5 kinds k p q r s t =
+    five_parts t0 t1 t2 t3 t4 t5 (codes ",\"unsearched\":") (compact_text (unsearched_value context.unsearched)) (codes ",\"viewer\":") (compact_text (viewer_value context.viewer)) (codes "}")
+    p (q ∙ ap (λ text. t1 ++ text) k) r s t
 
 -- What is known of a context, whose parts were appended one by one.
 pub facts_of_parts : (context : ContextReport) (t0 t1 t2 t3 t4 t5 t6 t7 login post others : List ℕ)
