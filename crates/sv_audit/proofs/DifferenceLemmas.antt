@@ -8,7 +8,7 @@ use Rattle.std.specs.Prelude.{◌≢◌, All, filter}
 use Rattle.std.specs.List.{flat_map, list_any}
 use Rattle.std.specs.Str.{bytes_eq}
 use Rattle.sv_mapping.specs.BestMatch.{best_pattern}
-use Rattle.sv_mapping.specs.Segments.{is_rooted, is_slashed}
+use Rattle.sv_mapping.specs.Segments.{is_rooted}
 use Rattle.sv_mapping.proofs.Tried.{In, In-cases, In-left, In-right}
 use Rattle.sv_realm.specs.declared.caller.Caller.{Caller}
 use Rattle.sv_constraints.specs.Covering.{covers_method, lists}
@@ -28,10 +28,10 @@ use Rattle.sv_audit.specs.declared.rows.Row.{Row}
 use Rattle.sv_audit.proofs.Alikes.{differ_at}
 use Rattle.sv_audit.proofs.DifferentCells.{all_from, any_found, best_url, found_any, groups_say, in_along, joined_from, only_all, only_some}
 use Rattle.sv_audit.proofs.MeetingLemmas.{of_each, path_met, same_decides, same_itself}
-use Rattle.sv_audit.proofs.Represented.{in_joined, in_listed, longer, represented}
+use Rattle.sv_audit.proofs.Represented.{in_joined, in_listed, longer, representative_slashed, represented}
 use Rattle.sv_audit.specs.DifferenceLaws.{Configuration, DifferencesAreComplete, DifferencesAreRight, HasUrlPatterns, HaveSameFates, IsOf, IsOfKind, IsRight, LetsIn, LetsNobodyIn, NoneExactlyIfSame, best_of, differences_of, fate_of, is_of, said_by}
 use Rattle.sv_audit.specs.Differences.{between, by_kind, difference_of, differences_at, groups_at, meet, meeting_of, meetings, met_after, met_before, of_kind, same_kind, same_rows, url_patterns}
-use Rattle.sv_audit.specs.Representatives.{free_paths, directories, endings, file_path, long_name, named_paths, representatives}
+use Rattle.sv_audit.specs.Representatives.{file_path, long_name, representatives}
 use Rattle.sv_audit.proofs.VisitorLemmas.{Letting, effective_is_met, letting_at, letting_in_exact}
 use Rattle.sv_audit.specs.Visitors.{answered, decided_by, effective, known, lets_in}
 use Rattle.sv_audit.specs.declared.access.Access.{Access}
@@ -251,20 +251,11 @@ module _ (right : TablesAreRight) (best_same : BestIsOfTexts) (one other : Confi
     before : best_of one meeting.path ≡ meeting.before
     after : best_of other meeting.path ≡ meeting.after
 
-  kept_passes : (test : List ℕ → Bool) (x : List ℕ) (xs : List (List ℕ)) → In x (filter test xs) → test x ≡ true
-  kept_passes test x [] there = absurd there
-  kept_passes test x (y ∷ ys) there = go (test y) refl there (λ later. kept_passes test x ys later)
-    where
-      go : (b : Bool) → test y ≡ b → In x (cond b (y ∷ filter test ys) (filter test ys)) → (In x (filter test ys) → test x ≡ true) → test x ≡ true
-      go true is (inl same) below = ap test same ∙ is
-      go true is (inr later) below = below later
-      go false is later below = below later
-
   are_met : (meeting : Meeting) → In meeting (meetings (url_patterns befores) (url_patterns afters)) → IsMet meeting
   are_met =
       of_each (url_patterns befores) (url_patterns afters) IsMet (representatives patterns) [] (λ meeting none. absurd none)
       (λ path there. record {
-        rooted = or_right _ _ (kept_passes is_slashed path (free_paths (named_paths patterns) (endings patterns) (directories patterns) ++ named_paths patterns) there);
+        rooted = or_right _ _ (representative_slashed patterns path there);
         before = sym (best_url one best_same one_url path);
         after = sym (best_url other best_same other_url path);
       })

@@ -261,12 +261,12 @@ in_parts test x xs there =
 
 kept_in : (test : List ℕ → Bool) (x : List ℕ) (xs : List (List ℕ)) → In x (filter test xs) → In x xs × (test x ≡ true)
 kept_in test x [] there = absurd there
-kept_in test x (y ∷ ys) there = at (test y) refl there
+kept_in test x (y ∷ ys) there = at (test y) refl there (λ later. kept_in test x ys later)
   where
-    at : (passes : Bool) → test y ≡ passes → In x (cond passes (y ∷ filter test ys) (filter test ys)) → In x (y ∷ ys) × (test x ≡ true)
-    at true is (inl same) = (inl same, ap test same ∙ is)
-    at true is (inr later) = let it = kept_in test x ys later in (inr it.0, it.1)
-    at false is later = let it = kept_in test x ys later in (inr it.0, it.1)
+    at : (passes : Bool) → test y ≡ passes → In x (cond passes (y ∷ filter test ys) (filter test ys)) → (In x (filter test ys) → In x ys × (test x ≡ true)) → In x (y ∷ ys) × (test x ≡ true)
+    at true is (inl same) below = (inl same, ap test same ∙ is)
+    at true is (inr later) below = (inr (below later).0, (below later).1)
+    at false is later below = (inr (below later).0, (below later).1)
 
 in_order : (patterns : List (List ℕ)) (path : List ℕ) → In path (slashed_paths patterns) → In path (representatives patterns)
 in_order patterns path there = in_parts has_empty_folder path (slashed_paths patterns) there

@@ -19,7 +19,7 @@ no_end : (other : List ℕ) → [] ≡ other ++ 47 ∷ 42 ∷ [] → ⊥
 no_end other is = absurd (omega (arith, ap length is, length-append other (47 ∷ 42 ∷ [])))
 
 no_front : (front : List ℕ) → front ++ 47 ∷ [] ≡ 42 ∷ [] → ⊥
-no_front [] is = let same : 47 ≡ 42 = cc in absurd (omega (arith, same))
+no_front [] is = let same : ◌≡◌ {A = ℕ} 47 42 = cc in absurd (omega (arith, same))
 no_front (b ∷ front) is = absurd (omega (arith, ap length is, length-append front (47 ∷ [])))
 
 slash_or_star : (front other : List ℕ) → front ++ 47 ∷ [] ≡ other ++ 47 ∷ 42 ∷ [] → ⊥

@@ -1,8 +1,7 @@
 -- The patterns whose constraints are not compared are among those that have a group.
-use Rattle.std.proofs.lemmas.Bool.{false≢true, or_parts}
-use Rattle.std.proofs.lemmas.List.Elements.{All-contains_itself}
-use Rattle.std.proofs.Common.{arith, ◌≡◌, ℕ, Bool, true, false, not, ◌||◌, ◌&&◌, ◌==◌, List, [], ◌∷◌, Global, length, map, refl, ap, ap₂, sym, ◌∙◌, Option, None, Some, is_some}
-use Rattle.std.specs.Prelude.{Vec, filter, nat_lt, slice_index_or}
+use Rattle.std.proofs.lemmas.Bool.{false≢true}
+use Rattle.std.proofs.Common.{arith, ◌≡◌, ◌<◌, ℕ, zero, suc, Bool, true, false, not, ◌||◌, ◌&&◌, ◌==◌, List, [], ◌∷◌, Global, get_or, length, map, refl, ap, sym, ◌∙◌, Option, None, Some, is_some}
+use Rattle.std.specs.Prelude.{Err, IfOk, Ok, Result, Vec, filter, slice_index_or}
 use Rattle.std.specs.Borrow.{Bor}
 use Rattle.std.specs.List.{list_any}
 use Rattle.std.specs.Option.{option_map_or}
@@ -10,15 +9,11 @@ use Rattle.sv_constraints.specs.Covering.{all_patterns, lists}
 use Rattle.sv_constraints.specs.declared.constraint.Constraint.{Constraint}
 use Rattle.sv_policy.proofs.Best.{any_in}
 use Rattle.sv_policy.proofs.Listed.{listed_any, some_filtered}
-use Rattle.sv_policy.specs.Covering.{named_methods}
 use Rattle.sv_policy.specs.Groups.{IsGrouped}
 use Rattle.sv_policy.specs.Patterns.{lists_pattern}
-use Rattle.sv_policy.specs.Uncovered.{rising}
 use Rattle.sv_policy.specs.declared.groups.Groups.{Groups}
 use Rattle.sv_audit.proofs.Equal.{and_right}
-use Rattle.sv_audit.proofs.Found.{in_texts}
 use Rattle.sv_audit.proofs.Witness.{found}
-use Rattle.sv_overruled.specs.declared.overruled.TheConstants.{MAX_COMPARED_AT_PATTERN}
 use Rattle.sv_findings.specs.Dead.{decides_nothing}
 use Rattle.sv_findings.specs.Unsearched.{are_too_many, has_uncompared, is_uncompared}
 
@@ -28,9 +23,29 @@ same_truth true false one two = sym (one refl)
 same_truth false true one two = two refl
 same_truth false false one two = refl
 
+or_true : (a : Bool) → (a || true) ≡ true
+or_true true = refl
+or_true false = refl
+
+-- If one item passes, some do.
+pub some_passes : {A X : Type 0} (now : A → X) (test : X → Bool) (xs : List A) (i : ℕ) (x : A) → i < length xs → test (now (get_or xs i x)) ≡ true → true ≡ list_any test (map now xs)
+some_passes now test [] i x within passes = let impossible : ⊥ = omega (arith, within) in absurd impossible
+some_passes now test (y ∷ xs) zero x within passes = sym (ap (λ b. b || list_any test (map now xs)) passes)
+some_passes now test (y ∷ xs) (suc i) x within passes = sym (ap (λ b. test (now y) || b) (sym (some_passes now test xs i x (omega (arith, within)) passes)) ∙ or_true (test (now y)))
+
+-- What follows from an answer follows from the result.
+pub if_ok_map : {A E : Type 0} {P Q : A → Type 0} (result : Result A E) → ((a : A) → P a → Q a) → IfOk result P → IfOk result Q
+if_ok_map (Ok a) step holds = step a holds
+if_ok_map (Err e) step holds = holds
+
+-- If a pattern may decide, its constraints decide whether they are compared.
+pub may_decide : (nothing many : Bool) → nothing ≡ false → many ≡ (not nothing && many)
+may_decide true many is = absurd (false≢true (sym is))
+may_decide false many is = refl
+
 -- Too many constraints are some.
 none_are_few : (pattern : List ℕ) → are_too_many [] pattern ≡ false
-none_are_few pattern = ap₂ (λ a b. a || b) (grind arith) (grind arith)
+none_are_few pattern = refl
 
 some_members : (members : List Constraint) (pattern : List ℕ) → are_too_many members pattern ≡ true → (length members == 0) ≡ false
 some_members [] pattern many = absurd (false≢true (sym (none_are_few pattern) ∙ many))

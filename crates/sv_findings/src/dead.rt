@@ -48,7 +48,11 @@ fn push_dead(
     Ok(())
 }
 
-fn is_dead(alloc: Global, listed: &ListedPatterns<'_>, constraint: &Constraint) -> Result<bool, NoMemory>
+fn is_dead(
+    alloc: Global,
+    listed: &ListedPatterns<'_>,
+    constraint: &Constraint,
+) -> Result<bool, NoMemory>
     ensures { IfOk result (λ dead. dead ≡ spec.is_dead listed.now constraint.now) }
 {
     let patterns = patterns_in(alloc, constraint)?;

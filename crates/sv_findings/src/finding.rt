@@ -22,8 +22,9 @@ pub enum Finding {
     /// A pattern at which some visitor fares differently with GET and with HEAD, with the access of GET and that of HEAD.
     /// Without a login configuration nobody can log in (section 13.6).
     HeadDiffers(Text, Access, Access),
-    /// The number of a constraint that covers no request: `/*` is chosen before each of its patterns (section 12.1), or
-    /// no canonical path matches it (section 3.5.2).
+    /// The number of a constraint that covers no request: another pattern is chosen before each of its patterns (section
+    /// 12.1), as `/*` before `/` and the exact pattern `/v/` before `/v//*`, or no canonical path matches it (section
+    /// 3.5.2).
     Dead(u64),
     /// The number of a constraint, and one of its patterns that decides no request. Others of its patterns may.
     DeadPattern(u64, Text),

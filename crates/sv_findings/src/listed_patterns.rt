@@ -35,10 +35,7 @@ impl<'a> ListedPatterns<'a> {
     ///
     /// # Errors
     /// `NoMemory` if memory runs out.
-    pub fn of(
-        alloc: Global,
-        constraints: &'a [Constraint],
-    ) -> Result<ListedPatterns<'a>, NoMemory>
+    pub fn of(alloc: Global, constraints: &'a [Constraint]) -> Result<ListedPatterns<'a>, NoMemory>
         ensures { GivesAnswer result (covering.all_patterns constraints.now) }
     {
         let patterns = all_patterns(alloc, constraints)?;

@@ -122,11 +122,7 @@ fn is_uncompared(
     }
 }
 
-fn are_too_many(
-    alloc: Global,
-    members: &[&Constraint],
-    pattern: &str,
-) -> Result<bool, NoMemory>
+fn are_too_many(alloc: Global, members: &[&Constraint], pattern: &str) -> Result<bool, NoMemory>
     ensures { GivesAnswer result (spec.are_too_many (map (λ member. member.now) members.now) pattern.now) }
 {
     if members.len() > MAX_COMPARED_AT_PATTERN {
