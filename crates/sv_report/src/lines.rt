@@ -43,8 +43,9 @@ struct Columns<'a> {
 
 /// Returns the text of the access tables of contexts: a line for each group of methods, one for an example, the answers
 /// and the exceptions of each row, lines for the folders that are never served, for the login post and for other contexts, a
-/// line if some requests need TLS, two lines for each finding, and one for each kind of findings that is not looked for. A row that no request meets has one line. Control
-/// characters are escaped, and no line has more than 100 characters (see `folded`).
+/// line if some requests need TLS, two lines for each finding, and one for each kind of findings that is not looked for.
+/// A row that no request meets has one line. Control characters are escaped, and no line has more than 100 characters
+/// (see `folded`).
 ///
 /// # Errors
 /// `NoMemory` if memory runs out.
