@@ -14,5 +14,5 @@ finding_lines context reported = joined (
     ∷ codes "\n  " ∷ remedy reported.finding ∷ codes "\n" ∷ [])
 
 -- The line on findings that are not looked for.
-abbrev pub unsearched_line : Unsearched → List ℕ
+unfoldable pub unsearched_line : Unsearched → List ℕ
 unsearched_line kind = joined (codes "not looked for: " ∷ unsearched_text kind ∷ codes "\n" ∷ [])

@@ -61,6 +61,7 @@ pub fn push_unsearched(text: &mut String, kinds: &[Unsearched]) -> Result<(), No
     Ok(())
 }
 
+#[tactic(auto, unfolding(crate::specs::FindingText::unsearched_line))]
 fn push_unsearched_kind(text: &mut String, kind: &Unsearched) -> Result<(), NoMemory>
     ensures { OnOk result (string_bytes text.new ≡ string_bytes text.old ++ spec.unsearched_line kind.now) }
 {

@@ -9,7 +9,7 @@ ghost use Rattle.sv_uri.specs.ContextPath.{shown_context};
 ghost use Rattle.sv_text.specs.Gives.{GivesAnswer};
 ghost use Rattle.sv_report.specs.FindingJson.{finding_value as value_of};
 ghost use Rattle.sv_report.specs.Json as spec;
-ghost use Rattle.sv_report.specs.JsonParts.{strings as strings_of};
+ghost use Rattle.sv_report.specs.JsonParts.{strings as strings_of, unsearched_value};
 
 use crate::finding_values::finding_value;
 use crate::members::{strings, unsearched_names};
@@ -112,7 +112,7 @@ fn push_strings(text: &mut String, alloc: Global, texts: &[Text]) -> Result<(), 
 
 /// Appends the members of a context after its rows.
 fn push_end(text: &mut String, alloc: Global, context: &ContextReport) -> Result<(), NoMemory>
-    ensures { OnOk result (string_bytes text.new ≡ string_bytes text.old ++ (codes ",\"unsearched\":" ++ compact_text (spec.unsearched_value context.now.unsearched)
+    ensures { OnOk result (string_bytes text.new ≡ string_bytes text.old ++ (codes ",\"unsearched\":" ++ compact_text (unsearched_value context.now.unsearched)
         ++ codes ",\"viewer\":" ++ compact_text (spec.viewer_value context.now.viewer) ++ codes "}")) }
 {
     text.push_str(",\"unsearched\":")?;
@@ -123,7 +123,7 @@ fn push_end(text: &mut String, alloc: Global, context: &ContextReport) -> Result
 }
 
 fn push_unsearched(text: &mut String, alloc: Global, kinds: &[Unsearched]) -> Result<(), NoMemory>
-    ensures { OnOk result (string_bytes text.new ≡ string_bytes text.old ++ compact_text (spec.unsearched_value kinds.now)) }
+    ensures { OnOk result (string_bytes text.new ≡ string_bytes text.old ++ compact_text (unsearched_value kinds.now)) }
 {
     let value = unsearched_names(alloc, kinds)?;
     push_value(text, alloc, &value)
