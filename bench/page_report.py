@@ -30,6 +30,11 @@ FINDINGS = (
     "unheld-role",
     "unused-role",
 )
+# Why a kind of findings is not looked for, by its name in `unsearched`.
+UNSEARCHED = {
+    "overruled": "overruled constraints, since a pattern has more than 16 constraints or 16 named methods",
+    "unserved": "unserved patterns, since there are more than 2000 patterns",
+}
 # What names a finding, by the first of its members that is there.
 SUBJECTS = "pattern", "role", "path", "constraint"
 
@@ -179,4 +184,5 @@ def finding_notes(contexts):
             notes.append(f"None of the {count} findings of {path} are listed: {limit}.")
         elif listed < count:
             notes.append(f"Only the first {listed} of {count} findings of {path} are listed.")
-    return notes if any(it["findings"] for it in contexts) else ["There are no findings."]
+        notes += [f"Not looked for in {path}: {UNSEARCHED[kind]}." for kind in it["unsearched"]]
+    return notes + ["There are no findings."] * (not any(it["findings"] for it in contexts))

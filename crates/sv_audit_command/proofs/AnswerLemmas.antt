@@ -11,7 +11,7 @@ use Rattle.std.proofs.lemmas.List.Folds.{list_any-append}
 use Rattle.std.proofs.lemmas.Slice.Eq.{bytes_eq-Decides}
 use Rattle.sv_mapping.proofs.Tried.{In, In-map, In-map_from}
 use Rattle.sv_mapping.specs.BestMatch.{BestIsAMatch, BestStandsFirst, best, best_pattern}
-use Rattle.sv_mapping.specs.Segments.{is_rooted, is_slashed}
+use Rattle.sv_mapping.specs.Segments.{is_rooted}
 use Rattle.sv_uri.specs.Shape.{CanonicalHasShape}
 use Rattle.sv_constraints.specs.Covering.{all_patterns, lists}
 use Rattle.sv_constraints.specs.declared.constraint.Constraint.{Constraint}
@@ -21,10 +21,10 @@ use Rattle.sv_policy.proofs.Steps.{passing_lists}
 use Rattle.sv_policy.specs.Uncovered.{rising}
 use Rattle.sv_audit.proofs.DifferenceLemmas.{in_kept}
 use Rattle.sv_audit.proofs.MeetingLemmas.{same_decides, same_itself}
-use Rattle.sv_audit.proofs.Represented.{in_listed}
+use Rattle.sv_audit.proofs.Represented.{in_listed, representative_slashed}
 use Rattle.sv_audit.proofs.Shapes.{IsShaped, nothing_matches, served_shaped}
 use Rattle.sv_audit.specs.Reading.{is_same}
-use Rattle.sv_audit.specs.Representatives.{EachPathIsRepresented, directories, endings, free_paths, named_paths, representatives}
+use Rattle.sv_audit.specs.Representatives.{EachPathIsRepresented, representatives}
 use Rattle.sv_report.specs.declared.report.Answers.{Answers}
 use Rattle.sv_audited_contexts.specs.ServletPatterns.{mapped_patterns}
 use Rattle.sv_audit_command.specs.ContextPatterns.{context_patterns, name_at, servlet_at}
@@ -188,7 +188,7 @@ module _ (constraints : List Constraint) (mappings : List ServletMapping) where
       ∙ included_by patterns _ (servlet_at patterns path) (λ name its. named_at patterns (best (mapped_patterns mappings) path) name its) has
 
   slashed_at : (path : List ℕ) → In path (representatives all) → is_rooted path ≡ true
-  slashed_at path there = or_right _ _ (kept_in is_slashed path (free_paths (named_paths all) (endings all) (directories all) ++ named_paths all) there).1
+  slashed_at path there = or_right _ _ (representative_slashed all path there)
 
   not_pathless : (pattern : Option (List ℕ)) (answers : Answers) (pathless : Bool) (found : Option Answers) → cond pathless None found ≡ Some answers → pathless ≡ false
   not_pathless pattern answers true found is = absurd cc

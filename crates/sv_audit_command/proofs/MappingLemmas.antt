@@ -1,5 +1,5 @@
 -- The servlets of mappings, and the rows of patterns.
-use Rattle.std.proofs.Common.{◌≡◌, ◌∙◌, ℕ, Bool, ◌+◌, ◌<◌, List, [], ◌∷◌, ◌++◌, length, map, get_or, take, ap, subst, sym, Option}
+use Rattle.std.proofs.Common.{◌≡◌, ◌∙◌, ℕ, ◌+◌, ◌<◌, List, [], ◌∷◌, ◌++◌, length, map, get_or, take, ap, subst, sym, Option}
 use Rattle.std.proofs.lemmas.List.{append-nil, take_more}
 use Rattle.std.proofs.lemmas.List.Concat.{flat_map-append}
 use Rattle.sv_descriptor.specs.declared.servlet.ServletMapping.{ServletMapping}
@@ -25,10 +25,10 @@ names_more mappings i mapping before after name patterns within is so_far its li
     ∙ ap (λ tail. servlet_names (take i mappings) ++ tail) (append-nil (names_of (get_or mappings i mapping)))))))))
 
 -- The same rows of the same answers and patterns.
-pub same_rows : (Is : List ReportedRow → Type 0) (patterns : ContextPatterns) (found made : Option AnsweredPaths) (others texts : List (List ℕ)) (reaches : List (List ℕ) × List ℕ) (has_prefix : Bool) (nested : List (List ℕ)) (rows : List Row)
+pub same_rows : (Is : List ReportedRow → Type 0) (patterns : ContextPatterns) (found made : Option AnsweredPaths) (others texts : List (List ℕ)) (reaches : List (List ℕ) × List ℕ) (listed : List (List ℕ)) (nested : List (List ℕ)) (rows : List Row)
     → found ≡ made → others ≡ texts
-    → Is (map (reported_row patterns found others reaches has_prefix nested) rows) → Is (map (reported_row patterns made texts reaches has_prefix nested) rows)
-same_rows Is patterns found made others texts reaches has_prefix nested rows answers_are others_are is =
-    let of_made : Option AnsweredPaths → Type 0 = λ answered. Is (map (reported_row patterns answered texts reaches has_prefix nested) rows) in
-    let of_texts : List (List ℕ) → Type 0 = λ listed. Is (map (reported_row patterns found listed reaches has_prefix nested) rows) in
+    → Is (map (reported_row patterns found others reaches listed nested) rows) → Is (map (reported_row patterns made texts reaches listed nested) rows)
+same_rows Is patterns found made others texts reaches listed nested rows answers_are others_are is =
+    let of_made : Option AnsweredPaths → Type 0 = λ answered. Is (map (reported_row patterns answered texts reaches listed nested) rows) in
+    let of_texts : List (List ℕ) → Type 0 = λ found_texts. Is (map (reported_row patterns found found_texts reaches listed nested) rows) in
     subst of_made answers_are (subst of_texts others_are is)

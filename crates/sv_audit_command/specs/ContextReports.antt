@@ -1,9 +1,10 @@
 -- The report on a context (Jakarta Servlet 6.0, section 13.8).
-use Rattle.std.specs.Prelude.{ℕ, ◌+◌, List, [], ◌∷◌, codes, map, position, Option, option_and_then, if◌then◌else◌}
+use Rattle.std.specs.Prelude.{ℕ, ◌+◌, List, [], ◌∷◌, map, position, Option, option_and_then, if◌then◌else◌}
 use Rattle.std.specs.List.{flat_map}
 use Rattle.std.specs.Str.{bytes_eq}
-use Rattle.sv_constraints.specs.Covering.{all_patterns, lists}
+use Rattle.sv_constraints.specs.Covering.{all_patterns}
 use Rattle.sv_findings.specs.Findings.{findings_of}
+use Rattle.sv_findings.specs.Unsearched.{unsearched}
 use Rattle.sv_audit.specs.Rows.{table_of}
 use Rattle.sv_findings.specs.declared.finding.Finding.{Finding}
 use Rattle.sv_findings.specs.declared.finding.Finding.TheVariants.{UnusedRole}
@@ -63,7 +64,7 @@ patterns_in context = context_patterns context.constraints context.mappings
 -- The report on the rows, given the patterns of the context and the paths of other contexts within it.
 abbrev pub rows_in : AuditedContext → ContextPatterns → List (List ℕ) → List Row → List ReportedRow
 rows_in context patterns nested rows =
-    reported_rows patterns (context.surroundings.contexts, context.surroundings.path) (lists (all_patterns context.constraints) (codes "/*")) nested rows
+    reported_rows patterns (context.surroundings.contexts, context.surroundings.path) (all_patterns context.constraints) nested rows
 
 -- The consequences of the constraints of a context, given its patterns and its access table.
 abbrev pub audit_with : Option Asked → List ℕ → AuditedContext → ContextPatterns → Table → Audit
@@ -72,6 +73,7 @@ audit_with asked accepted context patterns table = record {
   others = nested_paths context.surroundings.contexts context.surroundings.path;
   rows = rows_in context patterns (nested_paths context.surroundings.contexts context.surroundings.path) table.rows;
   findings = findings_in context patterns.constraints accepted table;
+  unsearched = unsearched context.constraints context.surroundings;
 }
 
 abbrev pub audit_of : Option Asked → List ℕ → AuditedContext → Audit
@@ -88,5 +90,6 @@ context_report asked accepted context =
       others = its_audit.others;
       rows = its_audit.rows;
       findings = its_audit.findings;
+      unsearched = its_audit.unsearched;
       lines = context.source.lines.constraints;
     }

@@ -1,9 +1,14 @@
 -- The caller whose access is shown.
-use Rattle.std.specs.Prelude.{ℕ, List, [], ◌∷◌, ◌++◌, codes, Option, None, Some, Ok, Err, is_some, if◌then◌else◌}
+use Rattle.std.specs.Prelude.{ℕ, Bool, false, ◌&&◌, ◌||◌, List, [], ◌∷◌, ◌++◌, codes, Option, None, Some, Ok, Err, is_some, if◌then◌else◌}
 use Rattle.std.specs.List.{list_any}
-use Rattle.std.specs.Option.{option_map}
+use Rattle.std.specs.Option.{option_map, option_map_or}
+use Rattle.sv_constraints.specs.Covering.{lists}
+use Rattle.sv_constraints.specs.declared.constraint.Auth.{Auth}
+use Rattle.sv_constraints.specs.declared.constraint.Auth.TheVariants as auth
+use Rattle.sv_constraints.specs.declared.constraint.Constraint.{Constraint}
 use Rattle.sv_explanation.specs.declared.site_context.AskedCaller.{AskedCaller}
 use Rattle.sv_explanation.specs.declared.site_context.AskedCaller.TheVariants as callers
+use Rattle.sv_findings.specs.RoleFindings.{is_role}
 use Rattle.sv_program.specs.Configuration.{Step}
 use Rattle.sv_program.specs.Shown.{quoted}
 use Rattle.sv_program.specs.declared.command_fault.CommandFault.TheVariants as fault
@@ -19,10 +24,28 @@ use Rattle.sv_audit_command.specs.declared.access_options.Asked.TheVariants as a
 abbrev pub check_user : List ℕ → List AuditedContext → Step (Unit {0})
 check_user name contexts = if list_any (λ context. is_some (caller_named context.realm name)) contexts then Ok tt else Err (fault.User (quoted name))
 
+-- Whether the constraint lists the role (section 13.8.1).
+abbrev pub names : Auth → List ℕ → Bool
+names auth.Absent role = false
+names (auth.Roles roles) role = lists roles role
+
+-- Whether a constraint names the role. `*` and `**` are no roles.
+abbrev pub is_named : List ℕ → List Constraint → Bool
+is_named role constraints = is_role role && list_any (λ constraint. names constraint.auth role) constraints
+
+-- Whether the role is declared, a constraint names it, or a user has it.
+abbrev pub knows_role : List ℕ → AuditedContext → Bool
+knows_role role context =
+    lists context.rules.declared role || is_named role context.constraints || option_map_or (λ roles. lists roles role) context.surroundings.held false
+
+-- A role that no context knows is a fault.
+abbrev pub check_role : List ℕ → List AuditedContext → Step (Unit {0})
+check_role role contexts = if list_any (knows_role role) contexts then Ok tt else Err (fault.Role (quoted role))
+
 abbrev pub check_viewer : Option Asked → List AuditedContext → Step (Unit {0})
 check_viewer None contexts = Ok tt
 check_viewer (Some (asked.User name)) contexts = check_user name.now contexts
-check_viewer (Some (asked.Role role)) contexts = Ok tt
+check_viewer (Some (asked.Role role)) contexts = check_role role.now contexts
 
 -- A user with all their roles.
 abbrev pub user_viewer : Caller → Viewer

@@ -22,9 +22,11 @@ use sv_program::{CommandFault, FileStore, print_text, read_contexts, read_server
 /// The first fault: [`CommandFault::File`] or [`CommandFault::Server`] for the server file, then
 /// [`CommandFault::File`], [`CommandFault::Descriptor`], [`CommandFault::Users`] or [`CommandFault::Folder`] for the
 /// contexts in order, then [`CommandFault::File`] for the accepting file and the file of lines, then
-/// [`CommandFault::User`] if no context has the user, or [`CommandFault::NoMemory`]. After [`CommandFault::Findings`]
-/// the report is written: it has this number of findings of the kinds that must not be there, and which are not
-/// accepted. After [`CommandFault::Output`] a part of the report may have been written, after any other fault none.
+/// [`CommandFault::User`] if no context has the user, [`CommandFault::Role`] if none knows the role, or
+/// [`CommandFault::NoMemory`]. A context knows a role that it declares, that a constraint names or that a user has. After
+/// [`CommandFault::Findings`] the report is written: it has this number of findings of the kinds that must not be there,
+/// and which are not accepted. After [`CommandFault::Output`] a part of the report may have been written, after any other
+/// fault none.
 pub fn audit<S: FileStore + FolderStore, W: Write>(
     alloc: Global,
     store: &mut S,

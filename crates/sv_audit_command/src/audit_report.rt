@@ -35,9 +35,9 @@ pub struct Report {
 ///
 /// # Errors
 /// The first fault: of the descriptor and the users of each context, of the accepting file, of the file of lines, then
-/// [`CommandFault::User`] if no context has the user, and then [`CommandFault::Method`] if the method of the request that
-/// is explained is not a token, or the fault of the other server file or of the files of its contexts. Or
-/// [`CommandFault::NoMemory`].
+/// [`CommandFault::User`] if no context has the user, or [`CommandFault::Role`] if none knows the role, and then
+/// [`CommandFault::Method`] if the method of the request that is explained is not a token, or the fault of the other
+/// server file or of the files of its contexts. Or [`CommandFault::NoMemory`].
 pub(crate) fn report_on(
     alloc: Global,
     found: &[FoundContext],

@@ -18,7 +18,9 @@ use std::alloc::Global;
 use sv_audit::{Row, Table, table_of};
 use sv_audited_contexts::{AuditedContext, Source};
 use sv_descriptor::Names;
-use sv_findings::{Finding, Reaches, Surroundings, findings_of, lists_prefix};
+use sv_findings::{
+    Finding, ListedPatterns, Reaches, Surroundings, Unsearched, findings_of, unsearched_of,
+};
 use sv_mapping::{PatternTable, is_at_or_below, path_within};
 use sv_policy::{Groups, grouped};
 use sv_report::{ContextReport, ReportedFinding, ReportedRow, Viewer, line_at, line_of};
@@ -65,6 +67,7 @@ fn context_report(
         others: audit.others,
         rows: audit.rows,
         findings: audit.findings,
+        unsearched: audit.unsearched,
         lines: lines.constraints,
     })
 }
@@ -76,6 +79,7 @@ struct Audit {
     others: Listed<Text>,
     rows: Listed<ReportedRow>,
     findings: Listed<ReportedFinding>,
+    unsearched: Listed<Unsearched>,
 }
 
 fn audit_of(alloc: Global, context: &AuditedContext, asking: Asking<'_>) -> Result<Audit, NoMemory>
@@ -110,10 +114,12 @@ fn audit_with(
     ensures { GivesAnswer result (spec.audit_with asking.entry.viewer asking.entry.accepted.now context.now patterns.now table) }
 {
     let accepted = asking.accepted;
+    let constraints = context.constraints.as_slice();
     let others = others_in(alloc, &context.surroundings)?;
     Ok(Audit {
         viewer: viewer_in(alloc, asking.viewer, &context.realm)?,
         findings: findings_in(alloc, context, &patterns.constraints, accepted, &table)?,
+        unsearched: unsearched_of(alloc, constraints, &context.surroundings)?,
         rows: rows_in(alloc, context, patterns, others.as_slice(), table.rows)?,
         others,
     })
@@ -135,7 +141,7 @@ fn rows_in(
             surroundings.contexts.as_slice(),
             surroundings.path.as_str(),
         )?,
-        has_prefix: lists_prefix(alloc, context.constraints.as_slice())?,
+        listed: ListedPatterns::of(alloc, context.constraints.as_slice())?,
         nested,
     };
     reported_rows(alloc, patterns, &place, rows)

@@ -10,7 +10,7 @@ use crate::context_patterns::{ContextPatterns, servlet_at};
 use crate::row_answers::{AnsweredPaths, answered_paths, answers_at, borrowed};
 use std::alloc::Global;
 use sv_audit::{Narrower, Row, example_of, matches_nothing, narrower};
-use sv_findings::{Reach, Reaches, row_reach};
+use sv_findings::{ListedPatterns, Reach, Reaches, row_reach};
 use sv_mapping::PatternTable;
 use sv_report::ReportedRow;
 use sv_text::{Listed, NoMemory, Text};
@@ -26,8 +26,8 @@ pub(crate) const MAX_NARROWER: usize = 3;
 pub(crate) struct RowPlace<'a> {
     /// The patterns that requests reach.
     pub(crate) reaches: Reaches<'a>,
-    /// Whether `/*` is among the patterns of its constraints.
-    pub(crate) has_prefix: bool,
+    /// The patterns of its constraints.
+    pub(crate) listed: ListedPatterns<'a>,
     /// The paths of the other contexts within this one, without the path of this one.
     pub(crate) nested: &'a [Text],
 }
@@ -39,7 +39,7 @@ pub(crate) fn reported_rows(
     place: &RowPlace<'_>,
     rows: Listed<Row>,
 ) -> Result<Listed<ReportedRow>, NoMemory>
-    ensures { GivesAnswer result (spec.reported_rows patterns.now place.now.reaches place.now.has_prefix place.now.nested.now rows) }
+    ensures { GivesAnswer result (spec.reported_rows patterns.now place.now.reaches place.now.listed place.now.nested.now rows) }
 {
     let answered = answered_paths(alloc, patterns)?;
     let texts = row_patterns(alloc, rows.as_slice())?;
@@ -55,7 +55,7 @@ fn rows_with(
     place: &RowPlace<'_>,
     rows: Listed<Row>,
 ) -> Result<Listed<ReportedRow>, NoMemory>
-    ensures { GivesAnswer result (map (spec.reported_row patterns.now answered.now (map (λ other. other.now) others.now) place.now.reaches place.now.has_prefix place.now.nested.now) rows) }
+    ensures { GivesAnswer result (map (spec.reported_row patterns.now answered.now (map (λ other. other.now) others.now) place.now.reaches place.now.listed place.now.nested.now) rows) }
 {
     let mut reported = Vec::new(alloc);
     for row in rows.into_vec() {
@@ -73,7 +73,7 @@ fn reported_row(
     place: &RowPlace<'_>,
     row: Row,
 ) -> Result<ReportedRow, NoMemory>
-    ensures { GivesAnswer result (spec.reported_row patterns.now answered.now (map (λ other. other.now) others.now) place.now.reaches place.now.has_prefix place.now.nested.now row) }
+    ensures { GivesAnswer result (spec.reported_row patterns.now answered.now (map (λ other. other.now) others.now) place.now.reaches place.now.listed place.now.nested.now row) }
 {
     let example = row_example(alloc, &patterns.constraints, place.nested, &row.pattern)?;
     let servlet = servlet_of(alloc, patterns, &example)?;
@@ -92,10 +92,10 @@ fn reported_row(
 
 /// Returns whether requests meet a pattern. Without a pattern they do.
 fn reach_at(alloc: Global, place: &RowPlace<'_>, pattern: &Option<Text>) -> Result<Reach, NoMemory>
-    ensures { GivesAnswer result (spec.reach_at place.now.reaches place.now.has_prefix pattern.now) }
+    ensures { GivesAnswer result (spec.reach_at place.now.reaches place.now.listed pattern.now) }
 {
     match pattern {
-        Some(pattern) => row_reach(alloc, &place.reaches, place.has_prefix, pattern.as_str()),
+        Some(pattern) => row_reach(alloc, &place.reaches, &place.listed, pattern.as_str()),
         None => Ok(Reach::Reached),
     }
 }

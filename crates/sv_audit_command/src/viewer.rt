@@ -1,7 +1,10 @@
 //! The caller whose access is shown.
 
 ghost use Rattle.std.specs.List.{list_any};
-ghost use Rattle.std.specs.Prelude.{◌≡◌, is_some, option_copied, option_map};
+ghost use Rattle.std.specs.Option.{option_map_or};
+ghost use Rattle.std.specs.Prelude.{◌≡◌, false, is_some, option_copied, option_map};
+ghost use Rattle.sv_constraints.specs.Covering as covering;
+ghost use Rattle.sv_findings.specs.RoleFindings.{is_role};
 ghost use Rattle.sv_realm.specs.Realm.{caller_named};
 ghost use Rattle.sv_text.specs.Gives.{Gives, GivesAnswer};
 ghost use Rattle.sv_program.specs.CommandFault.{command_fault};
@@ -10,16 +13,17 @@ ghost use Rattle.sv_audit_command.specs.Viewer as spec;
 use crate::access_options::Asked;
 use std::alloc::Global;
 use sv_audited_contexts::AuditedContext;
+use sv_constraints::{Auth, Constraint, EVERY_CALLER, EVERY_ROLE, lists};
 use sv_explanation::AskedCaller;
 use sv_program::{CommandFault, quoted};
 use sv_realm::{Caller, Realm};
 use sv_report::Viewer;
 use sv_text::{Listed, NoMemory, Text, copied_texts};
 
-/// Refuses a user that no context has.
+/// Refuses a user that no context has, and a role that no context knows.
 ///
 /// # Errors
-/// [`CommandFault::User`], or [`CommandFault::NoMemory`].
+/// [`CommandFault::User`], [`CommandFault::Role`], or [`CommandFault::NoMemory`].
 pub(crate) fn check_viewer(
     alloc: Global,
     asked: Option<Asked<'_>>,
@@ -29,7 +33,7 @@ pub(crate) fn check_viewer(
 {
     match asked {
         Some(Asked::User(name)) => check_user(alloc, name, contexts),
-        Some(Asked::Role(_)) => Ok(()),
+        Some(Asked::Role(role)) => check_role(alloc, role, contexts),
         None => Ok(()),
     }
 }
@@ -53,6 +57,65 @@ fn has_user(name: &str, context: &AuditedContext) -> bool
     ensures { result ≡ is_some (caller_named context.now.realm name.now) }
 {
     context.realm.find(name).is_some()
+}
+
+fn check_role(alloc: Global, role: &str, contexts: &[AuditedContext]) -> Result<(), CommandFault>
+    ensures { Gives command_fault result (spec.check_role role.now contexts.now) }
+{
+    if know_role(role, contexts) {
+        return Ok(());
+    }
+    Err(CommandFault::Role(quoted(alloc, role)?))
+}
+
+fn know_role(role: &str, contexts: &[AuditedContext]) -> bool
+    ensures { result ≡ list_any (spec.knows_role role.now) contexts.now }
+{
+    contexts.iter().any(|context| knows_role(role, context))
+}
+
+/// Returns whether the role is declared, a constraint names it, or a user has it.
+fn knows_role(role: &str, context: &AuditedContext) -> bool
+    ensures { result ≡ spec.knows_role role.now context.now }
+{
+    lists(context.rules.declared.as_slice(), role)
+        || is_named(role, context.constraints.as_slice())
+        || is_held(role, &context.surroundings.held)
+}
+
+/// Returns whether a constraint names the role. `*` and `**` are no roles.
+fn is_named(role: &str, constraints: &[Constraint]) -> bool
+    ensures { result ≡ spec.is_named role.now constraints.now }
+{
+    is_role(role)
+        && constraints
+            .iter()
+            .any(|constraint| names(&constraint.auth, role))
+}
+
+fn is_role(name: &str) -> bool
+    ensures { result ≡ is_role name.now }
+{
+    !(name == EVERY_ROLE || name == EVERY_CALLER)
+}
+
+fn names(auth: &Auth, role: &str) -> bool
+    ensures { result ≡ spec.names auth.now role.now }
+{
+    match auth {
+        Auth::Absent => false,
+        Auth::Roles(roles) => lists(roles.as_slice(), role),
+    }
+}
+
+/// Returns whether the role is among those that users have, if users are known.
+fn is_held(role: &str, held: &Option<Listed<Text>>) -> bool
+    ensures { result ≡ option_map_or (λ roles. covering.lists roles role.now) held.now false }
+{
+    match held {
+        Some(roles) => lists(roles.as_slice(), role),
+        None => false,
+    }
 }
 
 /// Returns the caller in a context with these users. There is none if the context does not have the user.

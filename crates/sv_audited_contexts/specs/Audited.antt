@@ -4,7 +4,6 @@ use Rattle.sv_text.specs.Steps.{◌>>=◌}
 use Rattle.sv_audit.specs.Secure.{secure}
 use Rattle.sv_constraints.specs.declared.constraint.Constraint.{Constraint}
 use Rattle.sv_deployments.specs.declared.folders.FoundContext.{FoundContext}
-use Rattle.sv_descriptor.specs.declared.login.FormLogin.{FormLogin}
 use Rattle.sv_descriptor.specs.declared.web_app.WebApp.{WebApp}
 use Rattle.sv_findings.specs.declared.surroundings.Surroundings.{Surroundings}
 use Rattle.sv_program.specs.Configuration.{Step, descriptor_in, each, users_in}
@@ -18,6 +17,7 @@ use Rattle.sv_audited_contexts.specs.ServletPatterns.{mapped_patterns}
 use Rattle.sv_audited_contexts.specs.declared.audited_context.AuditedContext.{AuditedContext}
 use Rattle.sv_audited_contexts.specs.declared.audited_context.ContextOptions.{ContextOptions}
 use Rattle.sv_audited_contexts.specs.declared.audited_context.ContextParts.{ContextParts}
+use Rattle.sv_audited_contexts.specs.declared.audited_context.FindingParts.{FindingParts}
 use Rattle.sv_audited_contexts.specs.declared.audited_context.Source.{Source}
 use Rattle.sv_audited_contexts.specs.declared.context_files.ContextFiles.{ContextFiles}
 use Rattle.sv_audited_contexts.specs.declared.descriptor_lines.SourceLines.{SourceLines}
@@ -41,28 +41,41 @@ kept_descriptor true texts = do
   app ← descriptor_in texts
   Ok (Some app)
 
-abbrev pub parts_of : ContextTexts → Option WebApp → List User → ContextFiles → ContextParts
-parts_of texts kept users its_files = record { descriptor = kept; realm = users; held = held_in texts.context.users users; files = its_files }
+-- The constraints of a descriptor, if their transport requirements are dropped.
+abbrev pub kept_transport : Bool → List Constraint → Option (List Constraint)
+kept_transport is_secure constraints = if is_secure then Some constraints else None
 
--- The descriptor if it is kept, the users and their roles, and the files in the folder, for a descriptor with this login
--- page.
-abbrev pub context_parts : ContextOptions → FoundContext → Option FormLogin → Step ContextParts
-context_parts options found login = do
+-- The roles of the users, the files in the folder, and the constraints with their transport requirements if these are
+-- dropped.
+abbrev pub finding_parts : Bool → ContextTexts → WebApp → List User → ContextFiles → FindingParts
+finding_parts is_secure texts app users its_files = record {
+  held = held_in texts.context.users users;
+  files = its_files;
+  with_transport = kept_transport is_secure app.constraints;
+}
+
+abbrev pub parts_of : Option WebApp → List User → FindingParts → ContextParts
+parts_of kept users parts = record { descriptor = kept; realm = users; findings = parts }
+
+-- The descriptor if it is kept, the users, and what the findings need besides this descriptor.
+abbrev pub context_parts : ContextOptions → FoundContext → WebApp → Step ContextParts
+context_parts options found app = do
   kept ← kept_descriptor options.keeps_descriptor found.texts
   users ← users_in found.texts
-  files ← files_in options.has_unknown_files found.texts.context.files found.files login
-  Ok (parts_of found.texts kept users files)
+  files ← files_in options.has_unknown_files found.texts.context.files found.files app.login
+  Ok (parts_of kept users (finding_parts options.is_secure found.texts app users files))
 
 -- What surrounds the constraints of a context, given the paths of all contexts.
-abbrev pub surroundings_of : List (List ℕ) → ContextTexts → WebApp → Option (List (List ℕ)) → ContextFiles → Surroundings
-surroundings_of paths texts app its_held its_files = record {
+abbrev pub surroundings_of : List (List ℕ) → ContextTexts → WebApp → FindingParts → Surroundings
+surroundings_of paths texts app parts = record {
   contexts = paths;
   path = texts.context.path;
   has_login = is_some app.login;
-  held = its_held;
+  held = parts.held;
   servlets = mapped_patterns app.servlet_mappings;
-  files = its_files.paths;
-  login_page = its_files.login_page;
+  files = parts.files.paths;
+  login_page = parts.files.login_page;
+  with_transport = parts.with_transport;
 }
 
 -- The context with this descriptor, these parts and these surroundings.
@@ -82,8 +95,8 @@ context_of is_secure its_source app parts its_surroundings = record {
 abbrev pub audited_context : ContextOptions → List (List ℕ) → FoundContext → Step AuditedContext
 audited_context options paths found = do
   app ← descriptor_in found.texts
-  parts ← context_parts options found app.login
-  Ok (context_of options.is_secure (source_of found.texts) app parts (surroundings_of paths found.texts app parts.held parts.files))
+  parts ← context_parts options found app
+  Ok (context_of options.is_secure (source_of found.texts) app parts (surroundings_of paths found.texts app parts.findings))
 
 -- The paths of contexts.
 abbrev pub paths_of : List FoundContext → List (List ℕ)

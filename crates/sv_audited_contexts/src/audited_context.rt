@@ -5,6 +5,7 @@ ghost use Rattle.sv_program.specs.CommandFault.{command_fault};
 ghost use Rattle.sv_program.specs.Configuration.{each};
 ghost use Rattle.sv_audited_contexts.specs.Audited as spec;
 
+use crate::constraint_copies::copied_constraints;
 use crate::context_files::{ContextFiles, files_in};
 use crate::descriptor_lines::{SourceLines, source_lines};
 use crate::held::held_in;
@@ -13,7 +14,7 @@ use std::alloc::Global;
 use sv_audit::without_transport;
 use sv_constraints::{Constraint, Rules};
 use sv_deployments::FoundContext;
-use sv_descriptor::{Descriptor, FormLogin, ServletMapping, WebApp};
+use sv_descriptor::{Descriptor, ServletMapping, WebApp};
 use sv_findings::Surroundings;
 use sv_program::{CommandFault, ContextTexts, FileText, descriptor_in, realm_in};
 use sv_realm::Realm;
@@ -117,7 +118,7 @@ fn audited_context(
     ensures { Gives command_fault result (spec.audited_context options paths.now found.now) }
 {
     let web_app = descriptor_in(alloc, &found.texts)?.into_web_app();
-    let parts = context_parts(alloc, found, &web_app.login, options)?;
+    let parts = context_parts(alloc, found, &web_app, options)?;
     Ok(context_of(
         alloc,
         &found.texts,
@@ -128,37 +129,65 @@ fn audited_context(
     )?)
 }
 
-/// The parts of a context besides its constraints: the descriptor if it is kept, the users, their roles, and the static
-/// files.
+/// The parts of a context besides its constraints: the descriptor if it is kept, the users, and what its findings need.
 #[derive(Drop)]
 pub struct ContextParts {
     descriptor: Option<Descriptor>,
     realm: Realm,
-    held: Option<Listed<Text>>,
-    files: ContextFiles,
+    findings: FindingParts,
 }
 
-/// Reads the parts of a context whose descriptor has this login page.
+/// What the findings of a context need besides its descriptor: the roles of the users, the static files, and the
+/// constraints with their transport requirements if these are dropped.
+#[derive(Drop)]
+pub struct FindingParts {
+    held: Option<Listed<Text>>,
+    files: ContextFiles,
+    with_transport: Option<Listed<Constraint>>,
+}
+
+/// Reads the parts of a context with this descriptor.
 fn context_parts(
     alloc: Global,
     found: &FoundContext,
-    login: &Option<FormLogin>,
+    web_app: &WebApp,
     options: ContextOptions,
 ) -> Result<ContextParts, CommandFault>
-    ensures { Gives command_fault result (spec.context_parts options found.now login.now) }
+    ensures { Gives command_fault result (spec.context_parts options found.now web_app.now) }
 {
     let texts = &found.texts;
     let descriptor = kept_descriptor(alloc, texts, options.keeps_descriptor)?;
     let realm = realm_in(alloc, texts)?;
     let held = held_in(alloc, &texts.context.users, &realm)?;
     let name = texts.context.files.as_str();
+    let login = &web_app.login;
     let files = files_in(alloc, options.has_unknown_files, name, &found.files, login)?;
+    let constraints = web_app.constraints.as_slice();
+    let with_transport = kept_transport(alloc, options.is_secure, constraints)?;
     Ok(ContextParts {
         descriptor,
         realm,
-        held,
-        files,
+        findings: FindingParts {
+            held,
+            files,
+            with_transport,
+        },
     })
+}
+
+/// Copies the constraints of a descriptor, if their transport requirements are dropped.
+fn kept_transport(
+    alloc: Global,
+    is_secure: bool,
+    constraints: &[Constraint],
+) -> Result<Option<Listed<Constraint>>, NoMemory>
+    ensures { GivesAnswer result (spec.kept_transport is_secure constraints.now) }
+{
+    if is_secure {
+        Ok(Some(copied_constraints(alloc, constraints)?))
+    } else {
+        Ok(None)
+    }
 }
 
 /// Reads the descriptor, if it is kept. It is read a second time, since its constraints are taken out of the first
@@ -186,10 +215,10 @@ fn context_of(
     paths: &[Text],
     is_secure: bool,
 ) -> Result<AuditedContext, NoMemory>
-    ensures { GivesAnswer result (spec.context_of is_secure (spec.source_of texts.now) web_app parts (spec.surroundings_of paths.now texts.now web_app parts.held parts.files)) }
+    ensures { GivesAnswer result (spec.context_of is_secure (spec.source_of texts.now) web_app parts (spec.surroundings_of paths.now texts.now web_app parts.findings)) }
 {
     let source = source_of(alloc, texts)?;
-    let surroundings = surroundings_of(alloc, texts, &web_app, parts.held, parts.files, paths)?;
+    let surroundings = surroundings_of(alloc, texts, &web_app, parts.findings, paths)?;
     let has_login = web_app.login.is_some();
     let constraints = constraints_over(alloc, is_secure, web_app.constraints)?;
     Ok(AuditedContext {
@@ -209,21 +238,21 @@ fn surroundings_of(
     alloc: Global,
     texts: &ContextTexts,
     web_app: &WebApp,
-    held: Option<Listed<Text>>,
-    files: ContextFiles,
+    parts: FindingParts,
     paths: &[Text],
 ) -> Result<Surroundings, NoMemory>
-    ensures { GivesAnswer result (spec.surroundings_of paths.now texts.now web_app.now held files) }
+    ensures { GivesAnswer result (spec.surroundings_of paths.now texts.now web_app.now parts) }
 {
     let servlets = servlet_patterns(alloc, web_app.servlet_mappings.as_slice())?;
     Ok(Surroundings {
         contexts: copied_texts(alloc, paths)?,
         path: Text::copy_of(alloc, texts.context.path.as_str())?,
         has_login: web_app.login.is_some(),
-        held,
+        held: parts.held,
         servlets,
-        files: files.paths,
-        login_page: files.login_page,
+        files: parts.files.paths,
+        login_page: parts.files.login_page,
+        with_transport: parts.with_transport,
     })
 }
 

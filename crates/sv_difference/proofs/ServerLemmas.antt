@@ -2,7 +2,7 @@
 use Rattle.std.proofs.lemmas.Bool.{and_from, and_parts, false≢true}
 use Rattle.std.proofs.lemmas.List.Elements.{All-head, All-tail}
 use Rattle.std.proofs.Common.{◌≡◌, ℕ, Bool, true, false, not, ◌&&◌, ◌||◌, List, [], ◌∷◌, length, refl, ap, ap₂, sym, ◌∙◌, cond, inl, inr, Option, None, Some, is_none, is_some}
-use Rattle.std.specs.Prelude.{◌≢◌, All, Ok, codes, filter, find, nat_lt}
+use Rattle.std.specs.Prelude.{◌≢◌, All, Ok, filter, find, nat_lt}
 use Rattle.std.specs.Cmp.{both_ways}
 use Rattle.std.specs.List.{list_any}
 use Rattle.std.specs.Option.{option_map, option_map_or}
@@ -31,7 +31,7 @@ use Rattle.sv_audit.specs.Shapes.{IsServed}
 use Rattle.sv_findings.specs.Dead.{decides_nothing}
 use Rattle.sv_findings.specs.FindingLaws.{BestDecides}
 use Rattle.sv_findings.specs.Reach.{ServedIsReached, chosen_path, has_requests, is_reached}
-use Rattle.sv_difference.specs.ServerDifference.{compared_paths, context_at, difference_at, differences_between, has_prefix, paths_of, row_is_met, rows_are_met, server_difference, shown_side}
+use Rattle.sv_difference.specs.ServerDifference.{compared_paths, context_at, difference_at, differences_between, paths_of, row_is_met, rows_are_met, server_difference, shown_side}
 use Rattle.sv_difference.specs.ServerLaws.{ChangesOutcomes, HasFate, HaveUrlPatterns, IsHidden, IsUnchanged, LoginTest, LoginsChangeOutcomes, LogsIn, NoContext, Outcome, ReportedDifferencesAreRight, UnchangedHaveSameOutcomes, configuration_of, outcome, outcome_at, outcome_in}
 use Rattle.sv_difference.specs.declared.contexts.ComparedContext.{ComparedContext}
 use Rattle.sv_difference.specs.declared.contexts.ContextSide.{ContextSide}
@@ -90,10 +90,10 @@ listed_at (context ∷ contexts) path = go (bytes_eq context.path path) (listed_
 -- ---- Rows that a served path is in are met.
 row_met : BestIsAMatch → BestDecides → ServedIsReached → (contexts : List (List ℕ)) (constraints : List Constraint) (context path : List ℕ) → IsServed (path_within context path) → is_chosen contexts path context ≡ true
     → is_protected (path_within context path) ≡ false → (best : Option (List ℕ)) → best_pattern (all_patterns constraints) (path_within context path) ≡ best
-    → row_is_met contexts context (lists (all_patterns constraints) (codes "/*")) best ≡ true
+    → row_is_met contexts context (all_patterns constraints) best ≡ true
 row_met matched decides reached contexts constraints context path served chosen shown None is = refl
 row_met matched decides reached contexts constraints context path served chosen shown (Some pattern) is =
-    and_from (not (decides_nothing (lists (all_patterns constraints) (codes "/*")) pattern)) (is_reached contexts context pattern) (ap not (decides constraints (path_within context path) pattern served is))
+    and_from (not (decides_nothing (all_patterns constraints) pattern)) (is_reached contexts context pattern) (ap not (decides constraints (path_within context path) pattern served is))
     (ap has_requests (reached contexts context pattern path chosen shown (matched (all_patterns constraints) (path_within context path) pattern is).1))
 
 module _ (befores afters : List ComparedContext) (its_path : List ℕ) (before after : ComparedContext) (at : context_at befores its_path ≡ Some before) (there : context_at afters its_path ≡ Some after) where
@@ -169,7 +169,7 @@ module _ (complete : DifferencesAreComplete) (matched : BestIsAMatch) (decides :
           let rows = and_parts (is_same difference.before (best_of first within)) (is_same difference.after (best_of second within)) outer.0 in
           let kept_there : In difference (kept befores afters its_path before after is_before is_after) =
           in_kept (rows_are_met (paths_of befores) (paths_of afters) its_path before after) difference (differences_of first second) there
-          (and_from (row_is_met (paths_of befores) its_path (has_prefix before) difference.before) (row_is_met (paths_of afters) its_path (has_prefix after) difference.after)
+          (and_from (row_is_met (paths_of befores) its_path (all_patterns before.constraints) difference.before) (row_is_met (paths_of afters) its_path (all_patterns after.constraints) difference.after)
           (row_met matched decides reached (paths_of befores) before.constraints its_path path is_served chosen shown difference.before (sym (same_decides difference.before (best_of first within) rows.0)))
           (row_met matched decides reached (paths_of afters) after.constraints its_path path is_served taken shown difference.after (sym (same_decides difference.after (best_of second within) rows.1)))) in
           in_along (kept befores afters its_path before after is_before is_after) [] difference (sym (are_kept befores afters its_path before after is_before is_after) ∙ its.none) kept_there

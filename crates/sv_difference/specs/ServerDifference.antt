@@ -1,5 +1,5 @@
 -- What two configurations of a server decide differently (Jakarta Servlet 6.0, sections 12.1, 13.6 and 13.8).
-use Rattle.std.specs.Prelude.{ℕ, Bool, true, ◌&&◌, List, [], ◌++◌, codes, filter, find, length, map, is_none, Option, None, Some}
+use Rattle.std.specs.Prelude.{ℕ, Bool, true, ◌&&◌, List, [], ◌++◌, filter, find, length, map, is_none, Option, None, Some}
 use Rattle.std.specs.List.{flat_map}
 use Rattle.std.specs.Option.{option_map}
 use Rattle.std.specs.Str.{bytes_eq}
@@ -8,7 +8,7 @@ use Rattle.sv_audit.specs.Rows.{table_of}
 use Rattle.sv_audit.specs.declared.difference.Difference.{Difference}
 use Rattle.sv_audit.specs.declared.difference.DifferenceKind.TheVariants.{Opened}
 use Rattle.sv_audit.specs.declared.difference.Side.{Side}
-use Rattle.sv_constraints.specs.Covering.{all_patterns, lists}
+use Rattle.sv_constraints.specs.Covering.{all_patterns}
 use Rattle.sv_findings.specs.MetRows.{is_met}
 use Rattle.sv_difference.specs.declared.contexts.ComparedContext.{ComparedContext}
 use Rattle.sv_difference.specs.declared.contexts.ContextDifference.{ContextDifference}
@@ -32,19 +32,16 @@ shown_side context = record { file = context.file; has_login = context.has_login
 abbrev pub side_of : ComparedContext → Side
 side_of context = record { table = table_of context.constraints context.rules; has_login = context.has_login }
 
--- Whether `/*` is among the patterns of a context. Then other patterns for all paths decide nothing (section 12.1).
-abbrev pub has_prefix : ComparedContext → Bool
-has_prefix context = lists (all_patterns context.constraints) (codes "/*")
-
--- Whether some requests may meet the row of a pattern in the context with this path, or that of other paths, given
--- whether the context has `/*`.
-abbrev pub row_is_met : List (List ℕ) → List ℕ → Bool → Option (List ℕ) → Bool
-row_is_met contexts path with_prefix None = true
-row_is_met contexts path with_prefix (Some pattern) = is_met contexts path with_prefix pattern
+-- Whether some requests may meet the row of a pattern in the context with this path and these patterns, or that of other
+-- paths.
+abbrev pub row_is_met : List (List ℕ) → List ℕ → List (List ℕ) → Option (List ℕ) → Bool
+row_is_met contexts path patterns None = true
+row_is_met contexts path patterns (Some pattern) = is_met contexts path patterns pattern
 
 -- Whether some requests may meet both rows of a difference, given the context paths of both servers.
 abbrev pub rows_are_met : List (List ℕ) → List (List ℕ) → List ℕ → ComparedContext → ComparedContext → Difference → Bool
-rows_are_met befores afters path before after difference = row_is_met befores path (has_prefix before) difference.before && row_is_met afters path (has_prefix after) difference.after
+rows_are_met befores afters path before after difference =
+    row_is_met befores path (all_patterns before.constraints) difference.before && row_is_met afters path (all_patterns after.constraints) difference.after
 
 -- The differences of two contexts whose rows requests may meet.
 abbrev pub met_between : List ComparedContext → List ComparedContext → List ℕ → ComparedContext → ComparedContext → List Difference

@@ -2,19 +2,20 @@
 
 ghost use Rattle.std.specs.Prelude.{◌≡◌, ◌&&◌, IfOk, filter};
 ghost use Rattle.sv_text.specs.Gives.{GivesAnswer};
+ghost use Rattle.sv_constraints.specs.Covering.{all_patterns};
 ghost use Rattle.sv_difference.specs.ServerDifference as spec;
 
 use crate::contexts::ComparedContext;
 use std::alloc::Global;
 use sv_audit::Difference;
-use sv_findings::{Reaches, is_met, lists_prefix};
+use sv_findings::{ListedPatterns, Reaches, is_met};
 use sv_text::{Listed, NoMemory, Text};
 
 /// The patterns of a context on one side, for questions on which of them requests meet.
 #[derive(Drop)]
 pub struct SidePatterns<'a> {
     reaches: Reaches<'a>,
-    has_prefix: bool,
+    listed: ListedPatterns<'a>,
 }
 
 /// Returns the paths of contexts.
@@ -34,22 +35,22 @@ impl<'a> SidePatterns<'a> {
         alloc: Global,
         contexts: &'a [Text],
         path: &'a str,
-        context: &ComparedContext,
+        context: &'a ComparedContext,
     ) -> Result<SidePatterns<'a>, NoMemory>
-        ensures { IfOk result (λ side. (side.reaches ≡ (contexts.now, path.now)) × (side.has_prefix ≡ spec.has_prefix context.now)) }
+        ensures { IfOk result (λ side. (side.reaches ≡ (contexts.now, path.now)) × (side.listed ≡ all_patterns context.now.constraints)) }
     {
         Ok(SidePatterns {
             reaches: Reaches::of(alloc, contexts, path)?,
-            has_prefix: lists_prefix(alloc, context.constraints.as_slice())?,
+            listed: ListedPatterns::of(alloc, context.constraints.as_slice())?,
         })
     }
 
     /// Returns whether some requests may meet the row of a pattern, or that of other paths.
     fn meets(&self, alloc: Global, pattern: &Option<Text>) -> Result<bool, NoMemory>
-        ensures { GivesAnswer result (spec.row_is_met self.now.reaches.0 self.now.reaches.1 self.now.has_prefix pattern.now) }
+        ensures { GivesAnswer result (spec.row_is_met self.now.reaches.0 self.now.reaches.1 self.now.listed pattern.now) }
     {
         match pattern {
-            Some(pattern) => is_met(alloc, &self.reaches, self.has_prefix, pattern.as_str()),
+            Some(pattern) => is_met(alloc, &self.reaches, &self.listed, pattern.as_str()),
             None => Ok(true),
         }
     }
@@ -62,8 +63,8 @@ pub fn only_met(
     after: &SidePatterns<'_>,
     found: Listed<Difference>,
 ) -> Result<Listed<Difference>, NoMemory>
-    ensures { GivesAnswer result (filter (λ difference. spec.row_is_met before.now.reaches.0 before.now.reaches.1 before.now.has_prefix difference.before
-        && spec.row_is_met after.now.reaches.0 after.now.reaches.1 after.now.has_prefix difference.after) found) }
+    ensures { GivesAnswer result (filter (λ difference. spec.row_is_met before.now.reaches.0 before.now.reaches.1 before.now.listed difference.before
+        && spec.row_is_met after.now.reaches.0 after.now.reaches.1 after.now.listed difference.after) found) }
 {
     let mut kept = Vec::new(alloc);
     for difference in found.into_vec() {
@@ -81,8 +82,8 @@ fn rows_are_met(
     after: &SidePatterns<'_>,
     difference: &Difference,
 ) -> Result<bool, NoMemory>
-    ensures { GivesAnswer result (spec.row_is_met before.now.reaches.0 before.now.reaches.1 before.now.has_prefix difference.now.before
-        && spec.row_is_met after.now.reaches.0 after.now.reaches.1 after.now.has_prefix difference.now.after) }
+    ensures { GivesAnswer result (spec.row_is_met before.now.reaches.0 before.now.reaches.1 before.now.listed difference.now.before
+        && spec.row_is_met after.now.reaches.0 after.now.reaches.1 after.now.listed difference.now.after) }
 {
     let before = before.meets(alloc, &difference.before)?;
     let after = after.meets(alloc, &difference.after)?;

@@ -185,7 +185,11 @@ fn unserved_of<'a>(
     Ok(kept)
 }
 
-fn is_unserved(alloc: Global, site: &Site<'_, '_, '_, '_, '_>, pattern: &str) -> Result<bool, NoMemory>
+fn is_unserved(
+    alloc: Global,
+    site: &Site<'_, '_, '_, '_, '_>,
+    pattern: &str,
+) -> Result<bool, NoMemory>
     ensures { GivesAnswer result (spec.is_unserved site.now.reaches.now.0 site.now.reaches.now.1 site.now.listed site.now.servlets.now (map (λ file. file.now) site.now.files.now) pattern.now) }
 {
     let is_reached = site.reaches.is_reached(alloc, pattern)?;

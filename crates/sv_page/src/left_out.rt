@@ -1,17 +1,20 @@
-//! The notes on findings that a page does not list.
+//! The notes on findings that a page does not list, and on those that are not looked for.
 
 ghost use Rattle.std.specs.Prelude.{◌≡◌, ◌++◌, OnOk, string_bytes};
+ghost use Rattle.std.specs.List.{flat_map};
 ghost use Rattle.sv_text.specs.Gives.{GivesAnswer};
 ghost use Rattle.sv_page.specs.LeftOut as spec;
 
 use crate::markup::html_text;
 use crate::shares::{MAX_LISTED_FINDINGS, first_of};
 use std::alloc::Global;
-use sv_report::{ContextReport, ReportedFinding, joined, number_text};
+use sv_findings::Unsearched;
+use sv_report::{ContextReport, ReportedFinding, joined, number_text, unsearched_text};
 use sv_text::{NoMemory, Text};
 use sv_uri::shown_context;
 
-/// Returns a note for each context of which the page does not list all findings.
+/// Returns a note for each context of which the page does not list all findings, and one for each kind of findings that is
+/// not looked for in it.
 pub(crate) fn notes_html(alloc: Global, contexts: &[ContextReport]) -> Result<Text, NoMemory>
     ensures { GivesAnswer result (spec.notes_html contexts.now) }
 {
@@ -25,7 +28,7 @@ pub(crate) fn notes_html(alloc: Global, contexts: &[ContextReport]) -> Result<Te
     Ok(Text::from_string(text))
 }
 
-/// Appends a note if these are not all findings of a context.
+/// Appends a note if these are not all findings of a context, and the notes on those that are not looked for.
 #[tactic(auto, unfolding(crate::specs::LeftOut::note_of))]
 fn push_note(
     text: &mut String,
@@ -42,7 +45,41 @@ fn push_note(
         findings.len(),
         context.findings.as_slice().len(),
     )?;
-    Ok(text.push_str(note.as_str())?)
+    text.push_str(note.as_str())?;
+    push_unsearched(text, alloc, path, context.unsearched.as_slice())
+}
+
+/// Appends a note for each kind of findings that is not looked for in the context with this path.
+fn push_unsearched(
+    text: &mut String,
+    alloc: Global,
+    path: &str,
+    kinds: &[Unsearched],
+) -> Result<(), NoMemory>
+    ensures { OnOk result (string_bytes text.new ≡ string_bytes text.old ++ flat_map (spec.unsearched_html path.now) kinds.now) }
+{
+    for kind in kinds {
+        let note = unsearched_html(alloc, path, kind)?;
+        text.push_str(note.as_str())?;
+    }
+    Ok(())
+}
+
+#[tactic(auto, unfolding(crate::specs::LeftOut::unsearched_html))]
+fn unsearched_html(alloc: Global, path: &str, kind: &Unsearched) -> Result<Text, NoMemory>
+    ensures { GivesAnswer result (spec.unsearched_html path.now kind.now) }
+{
+    let path = html_text(alloc, path)?;
+    joined(
+        alloc,
+        &[
+            "<p>Not looked for in <code>",
+            path.as_str(),
+            "</code>: ",
+            unsearched_text(kind),
+            ".</p>\n",
+        ],
+    )
 }
 
 /// Returns a note if not all findings of a context are listed, given how many are listed and how many there are.

@@ -7,7 +7,7 @@ use Rattle.serde_json.specs.View.{items_of}
 use Rattle.serde_json.specs.Written.{compact_text, has_float, items_text}
 use Rattle.sv_uri.specs.ContextPath.{shown_context}
 use Rattle.sv_report.specs.Json.{audit_value, context_value, findings_value, rows_value, viewer_value}
-use Rattle.sv_report.specs.JsonParts.{strings}
+use Rattle.sv_report.specs.JsonParts.{strings, unsearched_value}
 use Rattle.sv_report.specs.declared.report.ContextReport.{ContextReport}
 use Rattle.sv_text.specs.declared.no_memory.NoMemory.{NoMemory}
 use Rattle.serde_json.proofs.OnLiterals.{serde_json_on_literals}
@@ -31,6 +31,9 @@ list_text value x xs = ap (λ rest. 91 ∷ (compact_text (value x) ++ rest)) (la
 grouped : (a x b y c rest : List ℕ) → a ++ (x ++ (b ++ (y ++ (c ++ rest)))) ≡ (a ++ x ++ b ++ y ++ c) ++ rest
 grouped a x b y c rest = search (rules, append_assoc)
 
+grouped_end : (a x b y c : List ℕ) → a ++ (x ++ (b ++ (y ++ c))) ≡ a ++ x ++ b ++ y ++ c
+grouped_end a x b y c = search (rules, append_assoc)
+
 grouped_more : (a x b y c z d rest : List ℕ) → a ++ (x ++ (b ++ (y ++ (c ++ (z ++ (d ++ rest)))))) ≡ (a ++ x ++ b ++ y ++ c ++ z ++ d) ++ rest
 grouped_more a x b y c z d rest = search (rules, append_assoc)
 
@@ -44,30 +47,34 @@ facts_text context =
     ++ codes ",\"otherContexts\":" ++ compact_text (strings context.others) ++ codes ",\"rows\":"
 
 abbrev end_text : ContextReport → List ℕ
-end_text context = codes ",\"viewer\":" ++ compact_text (viewer_value context.viewer) ++ codes "}"
+end_text context =
+    codes ",\"unsearched\":" ++ compact_text (unsearched_value context.unsearched) ++ codes ",\"viewer\":" ++ compact_text (viewer_value context.viewer) ++ codes "}"
 
-members_of : (path file findings login post others rows viewer : Data)
+members_of : (path file findings login post others rows unsearched viewer : Data)
     → compact_text (object (member (codes "context") path (member (codes "file") file (member (codes "findings") findings
     (member (codes "hidden") (strings (codes "/WEB-INF/*" ∷ codes "/META-INF/*" ∷ [])) (member (codes "login") login (member (codes "loginPost") post
-    (member (codes "otherContexts") others (member (codes "rows") rows (member (codes "viewer") viewer no_members))))))))))
+    (member (codes "otherContexts") others (member (codes "rows") rows (member (codes "unsearched") unsearched (member (codes "viewer") viewer no_members)))))))))))
     ≡ codes "{\"context\":" ++ (compact_text path ++ (codes ",\"file\":" ++ (compact_text file ++ (codes ",\"findings\":" ++ (compact_text findings
     ++ (codes ",\"hidden\":[\"/WEB-INF/*\",\"/META-INF/*\"],\"login\":" ++ (compact_text login ++ (codes ",\"loginPost\":" ++ (compact_text post
     ++ (codes ",\"otherContexts\":" ++ (compact_text others ++ (codes ",\"rows\":" ++ (compact_text rows
-    ++ (codes ",\"viewer\":" ++ (compact_text viewer ++ codes "}")))))))))))))))
+    ++ (codes ",\"unsearched\":" ++ (compact_text unsearched ++ (codes ",\"viewer\":" ++ (compact_text viewer ++ codes "}")))))))))))))))))
 unfolding serde_json_on_literals
-members_of path file findings login post others rows viewer = refl
+members_of path file findings login post others rows unsearched viewer = refl
 
-in_groups : (path file findings login post others rows viewer : List ℕ)
+in_groups : (path file findings login post others rows unsearched viewer : List ℕ)
     → codes "{\"context\":" ++ (path ++ (codes ",\"file\":" ++ (file ++ (codes ",\"findings\":" ++ (findings
     ++ (codes ",\"hidden\":[\"/WEB-INF/*\",\"/META-INF/*\"],\"login\":" ++ (login ++ (codes ",\"loginPost\":" ++ (post ++ (codes ",\"otherContexts\":" ++ (others ++ (codes ",\"rows\":"
-    ++ (rows ++ (codes ",\"viewer\":" ++ (viewer ++ codes "}")))))))))))))))
+    ++ (rows ++ (codes ",\"unsearched\":" ++ (unsearched ++ (codes ",\"viewer\":" ++ (viewer ++ codes "}")))))))))))))))))
     ≡ (codes "{\"context\":" ++ path ++ codes ",\"file\":" ++ file ++ codes ",\"findings\":") ++ (findings ++ ((codes ",\"hidden\":[\"/WEB-INF/*\",\"/META-INF/*\"],\"login\":"
     ++ login ++ codes ",\"loginPost\":" ++ post ++ codes ",\"otherContexts\":" ++ others ++ codes ",\"rows\":")
-    ++ (rows ++ (codes ",\"viewer\":" ++ viewer ++ codes "}"))))
-in_groups path file findings login post others rows viewer =
+    ++ (rows ++ (codes ",\"unsearched\":" ++ unsearched ++ codes ",\"viewer\":" ++ viewer ++ codes "}"))))
+in_groups path file findings login post others rows unsearched viewer =
     grouped (codes "{\"context\":") path (codes ",\"file\":") file (codes ",\"findings\":") _
     ∙ ap (λ rest. (codes "{\"context\":" ++ path ++ codes ",\"file\":" ++ file ++ codes ",\"findings\":") ++ (findings ++ rest))
     (grouped_more (codes ",\"hidden\":[\"/WEB-INF/*\",\"/META-INF/*\"],\"login\":") login (codes ",\"loginPost\":") post (codes ",\"otherContexts\":") others (codes ",\"rows\":") _)
+    ∙ ap (λ rest. (codes "{\"context\":" ++ path ++ codes ",\"file\":" ++ file ++ codes ",\"findings\":") ++ (findings ++ ((codes ",\"hidden\":[\"/WEB-INF/*\",\"/META-INF/*\"],\"login\":"
+    ++ login ++ codes ",\"loginPost\":" ++ post ++ codes ",\"otherContexts\":" ++ others ++ codes ",\"rows\":") ++ (rows ++ rest))))
+    (grouped_end (codes ",\"unsearched\":") unsearched (codes ",\"viewer\":") viewer (codes "}"))
 
 -- The text of a context.
 context_text : (context : ContextReport)
@@ -75,9 +82,10 @@ context_text : (context : ContextReport)
 unfolding context_value
 context_text context =
     members_of (string (shown_context context.path)) (string context.file) (findings_value context) (boolean context.has_login) (boolean context.has_login) (strings context.others)
-    (rows_value context) (viewer_value context.viewer)
+    (rows_value context) (unsearched_value context.unsearched) (viewer_value context.viewer)
     ∙ in_groups (compact_text (string (shown_context context.path))) (compact_text (string context.file)) (compact_text (findings_value context)) (compact_text (boolean context.has_login))
-    (compact_text (boolean context.has_login)) (compact_text (strings context.others)) (compact_text (rows_value context)) (compact_text (viewer_value context.viewer))
+    (compact_text (boolean context.has_login)) (compact_text (strings context.others)) (compact_text (rows_value context)) (compact_text (unsearched_value context.unsearched))
+    (compact_text (viewer_value context.viewer))
 
 audit_text : (contexts : List ContextReport)
     → compact_text (audit_value contexts) ++ codes "\n" ≡ codes "{\"contexts\":" ++ (compact_text (array (items_of (map context_value contexts))) ++ codes "}" ++ codes "\n")
@@ -103,15 +111,24 @@ listed value x xs all old one two three new of_all p q r s =
     four old one two three new (codes "[") (compact_text (value x)) (flat_map (λ y. codes "," ++ compact_text (value y)) xs) (codes "]") p q r s
     ∙ ap (λ text. old ++ text) (sym (ap (λ ys. compact_text (array (items_of (map value ys)))) of_all ∙ list_text value x xs))
 
+five_parts : (t0 t1 t2 t3 t4 t5 a b c d e : List ℕ) → t1 ≡ t0 ++ a → t2 ≡ t1 ++ b → t3 ≡ t2 ++ c → t4 ≡ t3 ++ d → t5 ≡ t4 ++ e
+    → t5 ≡ t0 ++ (a ++ b ++ c ++ d ++ e)
+five_parts t0 t1 t2 t3 t4 t5 a b c d e p q r s t = search (rules, append_assoc)
+
 -- The places of a context, whose parts were appended one by one.
 pub places_of_parts : (path file t0 t1 t2 t3 t4 t5 : List ℕ) → t1 ≡ t0 ++ codes "{\"context\":" → t2 ≡ t1 ++ compact_text (string path)
     → t3 ≡ t2 ++ codes ",\"file\":" → t4 ≡ t3 ++ compact_text (string file) → t5 ≡ t4 ++ codes ",\"findings\":"
     → t5 ≡ t0 ++ (codes "{\"context\":" ++ compact_text (string path) ++ codes ",\"file\":" ++ compact_text (string file) ++ codes ",\"findings\":")
 places_of_parts path file t0 t1 t2 t3 t4 t5 p q r s t =
-    in_order (codes "{\"context\":") (compact_text (string path)) (codes ",\"file\":") (compact_text (string file)) (codes ",\"findings\":") p q r s t
-  where
-    in_order : (a b c d e : List ℕ) → t1 ≡ t0 ++ a → t2 ≡ t1 ++ b → t3 ≡ t2 ++ c → t4 ≡ t3 ++ d → t5 ≡ t4 ++ e → t5 ≡ t0 ++ (a ++ b ++ c ++ d ++ e)
-    in_order a b c d e p q r s t = search (rules, append_assoc)
+    five_parts t0 t1 t2 t3 t4 t5 (codes "{\"context\":") (compact_text (string path)) (codes ",\"file\":") (compact_text (string file)) (codes ",\"findings\":") p q r s t
+
+-- The end of a context, whose parts were appended one by one.
+pub end_of_parts : (context : ContextReport) (t0 t1 t2 t3 t4 t5 kinds : List ℕ) → kinds ≡ compact_text (unsearched_value context.unsearched)
+    → t1 ≡ t0 ++ codes ",\"unsearched\":" → t2 ≡ t1 ++ kinds → t3 ≡ t2 ++ codes ",\"viewer\":" → t4 ≡ t3 ++ compact_text (viewer_value context.viewer)
+    → t5 ≡ t4 ++ codes "}" → t5 ≡ t0 ++ end_text context
+end_of_parts context t0 t1 t2 t3 t4 t5 kinds k p q r s t =
+    five_parts t0 t1 t2 t3 t4 t5 (codes ",\"unsearched\":") (compact_text (unsearched_value context.unsearched)) (codes ",\"viewer\":") (compact_text (viewer_value context.viewer)) (codes "}")
+    p (q ∙ ap (λ text. t1 ++ text) k) r s t
 
 -- What is known of a context, whose parts were appended one by one.
 pub facts_of_parts : (context : ContextReport) (t0 t1 t2 t3 t4 t5 t6 t7 login post others : List ℕ)

@@ -3,6 +3,8 @@ use Rattle.std.specs.Prelude.{ℕ, Bool, List, [], ◌∷◌, codes, Some, if◌
 use Rattle.sv_constraints.specs.declared.constraint.Methods.{Methods}
 use Rattle.sv_findings.specs.declared.finding.Finding.{Finding}
 use Rattle.sv_findings.specs.declared.finding.Finding.TheVariants.{Opened, Uncovered, ReadOtherwise, HeadDiffers, Dead, DeadPattern, Overruled, Unreached, Unserved, Escaped, LoginNeeds, UnknownRole, UnheldRole, UnusedRole}
+use Rattle.sv_findings.specs.declared.unsearched.Unsearched.{Unsearched}
+use Rattle.sv_findings.specs.declared.unsearched.Unsearched.TheVariants as unsearched
 use Rattle.sv_report.specs.Escaped.{escaped}
 use Rattle.sv_report.specs.Parts.{joined}
 use Rattle.sv_report.specs.Places.{number_text}
@@ -87,8 +89,8 @@ remedy (Opened pattern methods opening guarded) = codes "Name roles in both, or 
 remedy (Uncovered pattern methods) = codes "Cover all methods there, or set deny-uncovered-http-methods."
 remedy (ReadOtherwise pattern methods other) = codes "Cover all methods at the prefix, so that both decide alike."
 remedy (HeadDiffers pattern get head) = codes "Name both GET and HEAD, or neither, in each collection."
-remedy (Dead number) = codes "No path matches its patterns, or /* is chosen before them. Change them, or remove it."
-remedy (DeadPattern number pattern) = codes "No path matches it, or /* is chosen before it. Change it, or remove it."
+remedy (Dead number) = codes "No path matches its patterns, or others are chosen before them. Change them, or remove it."
+remedy (DeadPattern number pattern) = codes "No path matches it, or another pattern is chosen before it. Change it, or remove it."
 remedy (Overruled number) = codes "Remove it alone and audit again, or say what it should restrict."
 remedy (Unreached number pattern) = codes "Its paths are hidden, or belong to another context. Remove the pattern."
 remedy (Unserved number pattern) = codes "No servlet or file has such a path. Remove or correct the pattern, or add the file."
@@ -100,3 +102,13 @@ remedy (UnusedRole role) = codes "Name it in a constraint, or remove its securit
 
 abbrev pub heading : Bool → List ℕ
 heading is_accepted = if is_accepted then codes "accepted" else codes "finding"
+
+-- The findings that are not looked for in a context that is too large, and why.
+abbrev pub unsearched_text : Unsearched → List ℕ
+unsearched_text unsearched.Overruled = codes "overruled constraints, since a pattern has more than 16 constraints or 16 named methods"
+unsearched_text unsearched.Unserved = codes "unserved patterns, since there are more than 2000 patterns"
+
+-- The name of their kind.
+abbrev pub unsearched_name : Unsearched → List ℕ
+unsearched_name unsearched.Overruled = codes "overruled"
+unsearched_name unsearched.Unserved = codes "unserved"

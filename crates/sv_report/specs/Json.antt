@@ -11,7 +11,7 @@ use Rattle.sv_findings.specs.declared.reach.Reach.{Reach}
 use Rattle.sv_findings.specs.declared.reach.Reach.TheVariants.{Reached, Hidden, Elsewhere, Unmatched}
 use Rattle.sv_report.specs.Details.{example_location}
 use Rattle.sv_report.specs.FindingJson.{finding_value}
-use Rattle.sv_report.specs.JsonParts.{are_excepted, because, enters, number_value, roles_in, strings, text_value, truth_value}
+use Rattle.sv_report.specs.JsonParts.{are_excepted, because, enters, number_value, roles_in, strings, text_value, truth_value, unsearched_value}
 use Rattle.sv_report.specs.Places.{line_of}
 use Rattle.sv_report.specs.Viewers.{may_enter}
 use Rattle.sv_report.specs.declared.report.Answers.{Answers}
@@ -123,7 +123,8 @@ context_value context = object
     (member (codes "loginPost") (boolean context.has_login)
     (member (codes "otherContexts") (strings context.others)
     (member (codes "rows") (rows_value context)
-    (member (codes "viewer") (viewer_value context.viewer) no_members)))))))))
+    (member (codes "unsearched") (unsearched_value context.unsearched)
+    (member (codes "viewer") (viewer_value context.viewer) no_members))))))))))
 
 unfoldable pub audit_value : List ContextReport → Data
 audit_value contexts = object (member (codes "contexts") (array (items_of (map context_value contexts))) no_members)

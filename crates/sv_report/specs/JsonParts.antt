@@ -4,12 +4,18 @@ use Rattle.serde_json.specs.Data.{Data, null, boolean, number, string, array, un
 use Rattle.serde_json.specs.View.{items_of}
 use Rattle.sv_constraints.specs.declared.constraint.Methods.{Methods}
 use Rattle.sv_constraints.specs.declared.constraint.Methods.TheVariants.{All, Only, Except}
+use Rattle.sv_findings.specs.declared.unsearched.Unsearched.{Unsearched}
+use Rattle.sv_report.specs.FindingWords.{unsearched_name}
 use Rattle.sv_audit.specs.declared.access.Access.{Access}
 use Rattle.sv_audit.specs.declared.access.Access.TheVariants.{Unconstrained, Uncovered, UncoveredDenied, Precluded, NeedsTls, Everyone, AnyLogin, Roles}
 
 -- A list of texts.
 abbrev pub strings : List (List ℕ) → Data
 strings texts = array (items_of (map string texts))
+
+-- The names of the kinds of findings that are not looked for.
+abbrev pub unsearched_value : List Unsearched → Data
+unsearched_value kinds = strings (map unsearched_name kinds)
 
 -- A word that depends on whether callers can log in.
 abbrev pub by_login : Bool → List ℕ → List ℕ → List ℕ

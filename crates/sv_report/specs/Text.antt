@@ -5,7 +5,7 @@ use Rattle.sv_uri.specs.ContextPath.{shown_context}
 use Rattle.sv_report.specs.Details.{detail_line}
 use Rattle.sv_report.specs.Escaped.{escaped}
 use Rattle.sv_report.specs.Folded.{folded}
-use Rattle.sv_report.specs.FindingText.{finding_lines}
+use Rattle.sv_report.specs.FindingText.{finding_lines, unsearched_line}
 use Rattle.sv_report.specs.Parts.{joined}
 use Rattle.sv_report.specs.Places.{constraint_text}
 use Rattle.sv_report.specs.Viewers.{context_text, entry_text, hidden_text, unmatched_text, viewer_title}
@@ -100,7 +100,7 @@ context_lines context =
     heading_line context ++ title_line context.viewer
     ++ flat_map (row_lines context) context.rows ++ hidden_line context.viewer ++ login_line context.has_login
     ++ flat_map (other_line context.path) context.others ++ transport_line context
-    ++ flat_map (finding_lines context) context.findings
+    ++ flat_map (finding_lines context) context.findings ++ flat_map unsearched_line context.unsearched
 
 -- The lines of contexts, with an empty line between two.
 abbrev pub contexts_text : List ContextReport → List ℕ

@@ -11,7 +11,7 @@ use crate::words::{methods_text, shown_pattern, who_text};
 use std::alloc::Global;
 use sv_audit::Access;
 use sv_constraints::Methods;
-use sv_findings::Finding;
+use sv_findings::{Finding, Unsearched};
 use sv_text::{NoMemory, Text};
 
 /// Returns the name of the kind of a finding, by which options and files of accepted findings name it.
@@ -250,10 +250,10 @@ pub fn remedy(finding: &Finding) -> &'static str
         }
         Finding::HeadDiffers(_, _, _) => "Name both GET and HEAD, or neither, in each collection.",
         Finding::Dead(_) => {
-            "No path matches its patterns, or /* is chosen before them. Change them, or remove it."
+            "No path matches its patterns, or others are chosen before them. Change them, or remove it."
         }
         Finding::DeadPattern(_, _) => {
-            "No path matches it, or /* is chosen before it. Change it, or remove it."
+            "No path matches it, or another pattern is chosen before it. Change it, or remove it."
         }
         Finding::Overruled(_) => {
             "Remove it alone and audit again, or say what it should restrict."
@@ -271,6 +271,28 @@ pub fn remedy(finding: &Finding) -> &'static str
         Finding::UnknownRole(_, _) => "Declare it in a security-role, or correct the name.",
         Finding::UnheldRole(_) => "Give it to a user, or correct the name in the constraints.",
         Finding::UnusedRole(_) => "Name it in a constraint, or remove its security-role.",
+    }
+}
+
+/// Returns which findings are not looked for in a context that is too large, and why.
+pub fn unsearched_text(kind: &Unsearched) -> &'static str
+    ensures { result.now ≡ spec.unsearched_text kind.now }
+{
+    match kind {
+        Unsearched::Overruled => {
+            "overruled constraints, since a pattern has more than 16 constraints or 16 named methods"
+        }
+        Unsearched::Unserved => "unserved patterns, since there are more than 2000 patterns",
+    }
+}
+
+/// Returns the name of the kind of findings that are not looked for. It is that of [`kind_name`].
+pub fn unsearched_name(kind: &Unsearched) -> &'static str
+    ensures { result.now ≡ spec.unsearched_name kind.now }
+{
+    match kind {
+        Unsearched::Overruled => "overruled",
+        Unsearched::Unserved => "unserved",
     }
 }
 

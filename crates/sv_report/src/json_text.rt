@@ -9,14 +9,15 @@ ghost use Rattle.sv_uri.specs.ContextPath.{shown_context};
 ghost use Rattle.sv_text.specs.Gives.{GivesAnswer};
 ghost use Rattle.sv_report.specs.FindingJson.{finding_value as value_of};
 ghost use Rattle.sv_report.specs.Json as spec;
-ghost use Rattle.sv_report.specs.JsonParts.{strings as strings_of};
+ghost use Rattle.sv_report.specs.JsonParts.{strings as strings_of, unsearched_value};
 
 use crate::finding_values::finding_value;
-use crate::members::strings;
+use crate::members::{strings, unsearched_names};
 use crate::report::{ContextReport, ReportedFinding, ReportedRow, Viewer};
 use crate::values::{row_value, viewer_value};
 use serde_json::Value;
 use std::alloc::Global;
+use sv_findings::Unsearched;
 use sv_text::{NoMemory, Text};
 use sv_uri::shown_context;
 
@@ -73,7 +74,7 @@ fn push_context(text: &mut String, alloc: Global, context: &ContextReport) -> Re
     push_findings(text, alloc, context, context.findings.as_slice())?;
     push_facts(text, alloc, context)?;
     push_rows(text, alloc, context, context.rows.as_slice())?;
-    push_end(text, alloc, &context.viewer)
+    push_end(text, alloc, context)
 }
 
 /// Appends the members of a context before its findings.
@@ -110,12 +111,22 @@ fn push_strings(text: &mut String, alloc: Global, texts: &[Text]) -> Result<(), 
 }
 
 /// Appends the members of a context after its rows.
-fn push_end(text: &mut String, alloc: Global, viewer: &Option<Viewer>) -> Result<(), NoMemory>
-    ensures { OnOk result (string_bytes text.new ≡ string_bytes text.old ++ (codes ",\"viewer\":" ++ compact_text (spec.viewer_value viewer.now) ++ codes "}")) }
+fn push_end(text: &mut String, alloc: Global, context: &ContextReport) -> Result<(), NoMemory>
+    ensures { OnOk result (string_bytes text.new ≡ string_bytes text.old ++ (codes ",\"unsearched\":" ++ compact_text (unsearched_value context.now.unsearched)
+        ++ codes ",\"viewer\":" ++ compact_text (spec.viewer_value context.now.viewer) ++ codes "}")) }
 {
+    text.push_str(",\"unsearched\":")?;
+    push_unsearched(text, alloc, context.unsearched.as_slice())?;
     text.push_str(",\"viewer\":")?;
-    push_viewer(text, alloc, viewer)?;
+    push_viewer(text, alloc, &context.viewer)?;
     Ok(text.push_str("}")?)
+}
+
+fn push_unsearched(text: &mut String, alloc: Global, kinds: &[Unsearched]) -> Result<(), NoMemory>
+    ensures { OnOk result (string_bytes text.new ≡ string_bytes text.old ++ compact_text (unsearched_value kinds.now)) }
+{
+    let value = unsearched_names(alloc, kinds)?;
+    push_value(text, alloc, &value)
 }
 
 fn truth_word(holds: bool) -> &'static str

@@ -23,7 +23,9 @@ mod words;
 
 pub use answer_words::answers_text;
 pub use details::{example_location, paths_text};
-pub use finding_words::{heading, kind_name, problem_text, remedy};
+pub use finding_words::{
+    heading, kind_name, problem_text, remedy, unsearched_name, unsearched_text,
+};
 pub use folded_lines::{
     LATER_WIDTH, LINE_WIDTH, folded, lines_of, parts_fit, parts_keep_characters,
 };

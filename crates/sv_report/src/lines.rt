@@ -9,7 +9,7 @@ ghost use Rattle.sv_report.specs.Viewers as words;
 
 use crate::details::detail_line;
 use crate::escaped::escaped;
-use crate::finding_lines::push_findings;
+use crate::finding_lines::{push_findings, push_unsearched};
 use crate::folded_lines::folded;
 use crate::parts::{joined, push_all};
 use crate::places::constraint_text;
@@ -43,8 +43,9 @@ struct Columns<'a> {
 
 /// Returns the text of the access tables of contexts: a line for each group of methods, one for an example, the answers
 /// and the exceptions of each row, lines for the folders that are never served, for the login post and for other contexts, a
-/// line if some requests need TLS, and two lines for each finding. A row that no request meets has one line. Control
-/// characters are escaped, and no line has more than 100 characters (see `folded`).
+/// line if some requests need TLS, two lines for each finding, and one for each kind of findings that is not looked for.
+/// A row that no request meets has one line. Control characters are escaped, and no line has more than 100 characters
+/// (see `folded`).
 ///
 /// # Errors
 /// `NoMemory` if memory runs out.
@@ -100,7 +101,8 @@ fn push_context(text: &mut String, alloc: Global, context: &ContextReport) -> Re
         context.others.as_slice(),
     )?;
     push_transport(text, context)?;
-    push_findings(text, alloc, context, context.findings.as_slice())
+    push_findings(text, alloc, context, context.findings.as_slice())?;
+    push_unsearched(text, context.unsearched.as_slice())
 }
 
 fn push_heading(text: &mut String, alloc: Global, context: &ContextReport) -> Result<(), NoMemory>

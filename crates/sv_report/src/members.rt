@@ -5,8 +5,10 @@ ghost use Rattle.serde_json.specs.Data.{boolean, put as with_member, string};
 ghost use Rattle.serde_json.specs.View.{members_view, view};
 ghost use Rattle.sv_report.specs.JsonParts as spec;
 
+use crate::finding_words::unsearched_name;
 use serde_json::{Map, Value, put};
 use std::alloc::Global;
+use sv_findings::Unsearched;
 use sv_text::{NoMemory, Text};
 
 /// Puts a text.
@@ -103,6 +105,17 @@ pub fn strings(alloc: Global, texts: &[Text]) -> Result<Value, NoMemory>
     let mut values = Vec::with_capacity(alloc, texts.len())?;
     for text in texts {
         values.push(Value::try_from_str(alloc, text.as_str())?)?;
+    }
+    Ok(Value::Array(values))
+}
+
+/// Returns the names of the kinds of findings that are not looked for, as a value.
+pub fn unsearched_names(alloc: Global, kinds: &[Unsearched]) -> Result<Value, NoMemory>
+    ensures { IfOk result (λ value. view value ≡ spec.unsearched_value kinds.now) }
+{
+    let mut values = Vec::with_capacity(alloc, kinds.len())?;
+    for kind in kinds {
+        values.push(Value::try_from_str(alloc, unsearched_name(kind))?)?;
     }
     Ok(Value::Array(values))
 }

@@ -1,7 +1,7 @@
 //! The report on a context.
 
 use sv_audit::{Narrower, Row};
-use sv_findings::{Finding, Reach};
+use sv_findings::{Finding, Reach, Unsearched};
 use sv_text::{Listed, Text};
 
 /// Who may reach what in a context, as it is reported.
@@ -21,6 +21,8 @@ pub struct ContextReport {
     pub rows: Listed<ReportedRow>,
     /// The findings of the constraints and the table.
     pub findings: Listed<ReportedFinding>,
+    /// The findings that are not looked for, since the context is too large.
+    pub unsearched: Listed<Unsearched>,
     /// The line of `file` on which constraint n begins, at place n - 1, if it is known.
     pub lines: Listed<Option<u64>>,
 }
