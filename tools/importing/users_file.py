@@ -3,12 +3,16 @@ from __future__ import annotations
 
 import errno
 import os
+import re
 from pathlib import Path
 
 from .files import PRIVATE, NewFile, locked, open_regular, write_files
 from .limits import MAX_LIST_ITEMS
 from .told import on_one_line
 from .users import User
+
+# The line of a file that has no user yet. A table of a user cannot follow it.
+_EMPTY_LIST = re.compile(r"^user = \[\]\n?", re.MULTILINE)
 
 
 def check_new(path: Path, name: str) -> None:
@@ -17,11 +21,13 @@ def check_new(path: Path, name: str) -> None:
 
 
 def append(path: Path, user: User) -> None:
-    """Appends a user to a users file, which keeps its mode and owner. Creates the file, readable by its owner only, if there is none.
+    """Appends a user to a users file, which keeps its mode and owner. Creates the file, readable by its owner only, if there is none. The user replaces a line `user = []`.
 
     Of several processes that append users at once, each appends its own."""
     with locked(path.parent):
         text, status = _read(path, user.name)
+        if not _users(path, text):
+            text = _EMPTY_LIST.sub("", text)
         gap = "\n" if text.strip() else ""
         end = "\n" if text and not text.endswith("\n") else ""
         new = text + end + gap + user.text()
