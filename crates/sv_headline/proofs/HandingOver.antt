@@ -110,7 +110,7 @@ its_caller users renewed None store = refl
 its_caller users renewed (Some number) store = refl
 
 module _ {S F L : Type 0} (moving : ComponentSteps S F L) where
-  ran : (handling : Handling (ContextState S F L)) (made : List Record) → IsLawfulMessage moving handling made
+  pub ran : (handling : Handling (ContextState S F L)) (made : List Record) → IsLawfulMessage moving handling made
       → IsRun moving (world_of handling.context unnoted) made (world_of handling.after unnoted)
   ran handling made (inl enters) = enters.1.moves
   ran handling made (inr out) = out.1.done.moves

@@ -21,6 +21,7 @@ mod Outcomes
 mod Outliving
 mod OwnFields
 mod Printing
+mod ProgramHandingOver
 mod ProxyFields
 mod Recording
 mod Redirecting
@@ -35,4 +36,5 @@ mod RepeatingExpiries
 mod Sending
 mod SinceTheStart
 mod Starting
+mod StepsLeaving
 mod Undispatched

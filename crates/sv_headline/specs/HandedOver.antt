@@ -1,12 +1,12 @@
 -- Requests that are handed over to an application behind a proxy: what they are handed over with is what the container
 -- decided about (Jakarta Servlet 6.0, sections 3.5, 9.1 and 13.8).
-use Rattle.std.specs.Prelude.{◌≡◌, ◌≢◌, ℕ, List, ◌∷◌, ◌++◌, codes, Option, Some, Result, slice_get}
+use Rattle.std.specs.Prelude.{◌≡◌, ◌≢◌, ℕ, List, ◌∷◌, ◌++◌, codes, Option, None, Some, Result, slice_get}
 use Rattle.std.specs.List.{AllByRecursion}
 use Rattle.std.specs.Option.{option_map}
 use Rattle.sv_admission.specs.Held.{caller_held}
 use Rattle.sv_application.specs.Cookies.{other_cookies}
 use Rattle.sv_application.specs.HandingOver.{Makes, all_fields, caller_names, joined_cookies, query_text}
-use Rattle.sv_application.specs.ProxyFields.{SameProxyFields, proxy_fields}
+use Rattle.sv_application.specs.ProxyFields.{OnExchange, SameProxyFields, proxy_fields}
 use Rattle.sv_application.specs.Serving.{IsError, IsStepOf, ServesRequest, Steps}
 use Rattle.sv_application.specs.declared.handing_over.HandedOver.{HandedOver}
 use Rattle.sv_component.specs.Call as calls
@@ -164,3 +164,28 @@ module _ {S F L : Type 0} (moving : ComponentSteps S F L) where
         → StepAsApplications moving location_of → OthersLeaveFields moving location_of handling.context made
         → first_value (codes "x-accel-redirect") handling.response.fields ≡ Some internal
         → IsRedirectOfEntry moving location_of handling made internal
+
+module _ {S F L : Type 0} (moving : ComponentSteps S F L) (location_of : S → Option (List ℕ)) where
+  -- the steps of the other components leave these fields: a servlet without an internal location never has one, and its
+  -- calls leave them, as do those of filters
+  pub record StepsLeaveFields : Type 0 where
+    pub servlets : (before after : S) (call : Call) → location_of before ≡ None → moving.servlet before call after
+        → (location_of after ≡ None) × OnExchange SameProxyFields call
+    pub filters : (before after : F) (call : Call) → moving.filter before call after → OnExchange SameProxyFields call
+
+  -- then in each message of a lawful run, a response names an internal location only if its request enters and is handed
+  -- over with its own target and cookies
+  abbrev pub OnlyEntriesAreHandedOver : {Words : Type 0} → (Words → ℕ × ℕ → Words → Type 0) → Type 0
+  OnlyEntriesAreHandedOver {Words} draws =
+      (before after : State (ContextState S F L) Words) (happenings : List Happening) (answers : List (Answer (ContextState S F L)))
+      (lawful : IsLawfulRun moving draws before happenings answers after) (earlier later : List (Transition S F L)) (place : ℕ) (text : List ℕ)
+      (handling : Handling (ContextState S F L)) (made : List Record) (internal : List ℕ)
+      → lawful.transitions ≡ earlier ++ ContextAnswer place handling made text ∷ later
+      → first_value (codes "x-accel-redirect") handling.response.fields ≡ Some internal
+      → IsRedirectOfEntry moving location_of handling made internal
+
+module _ {S F L : Type 0} (moving : ComponentSteps S F L) where
+  abbrev pub StepsHandOverOnlyEntries : {Words : Type 0} → (Words → ℕ × ℕ → Words → Type 0) → Type 0
+  StepsHandOverOnlyEntries draws =
+      (location_of : S → Option (List ℕ)) → StepAsApplications moving location_of → StepsLeaveFields moving location_of
+      → OnlyEntriesAreHandedOver moving location_of draws

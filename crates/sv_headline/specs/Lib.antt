@@ -14,6 +14,7 @@ pub mod Loop
 pub mod Memory
 pub mod Message
 pub mod Order
+pub mod ProgramHandsOver
 pub mod Record
 pub mod Refused
 pub mod Start

@@ -2,10 +2,12 @@
 //! other laws.
 
 ghost use Rattle.sv_component.specs.Steps.{steps_of};
-ghost use Rattle.sv_headline.specs.HandedOver.{EntriesAreHandedOver, OnlyEntriesAreDispatched, OtherDispatchesHandNothingOver, RedirectsAreOfEntries, RedirectsInRunsAreOfEntries};
+ghost use Rattle.sv_headline.specs.HandedOver.{EntriesAreHandedOver, OnlyEntriesAreDispatched, OtherDispatchesHandNothingOver, RedirectsAreOfEntries, RedirectsInRunsAreOfEntries, StepsHandOverOnlyEntries};
+ghost use Rattle.sv_headline.specs.ProgramHandsOver.{TheProgramHandsOverOnlyEntries, TheProgramUndoesNoLogins};
 
 use crate::unlawful::entries_call_their_servlet;
 use sv_component::{Filter, Listener, Servlet, runs_move_components};
+use sv_deployments::{ProgramFilter, ProgramListener, ProgramServlet};
 use sv_run::Words;
 
 /// A request that enters and goes to a servlet which takes the steps of the class `Application`, without filters, is
@@ -50,3 +52,27 @@ pub fn redirects_in_runs_are_of_entries<S: Servlet, F: Filter, L: Listener, W: W
 {
     redirects_are_of_entries::<S, F, L>();
 }
+
+/// The same if all steps of the other components leave these fields: then nothing is presumed about a single message.
+pub fn steps_hand_over_only_entries<S: Servlet, F: Filter, L: Listener, W: Words>()
+    ensures { StepsHandOverOnlyEntries (steps_of S.servlet_step F.filter_step L.listener_step) W.draws }
+{
+    redirects_in_runs_are_of_entries::<S, F, L, W>();
+}
+
+/// In a lawful run of a container with the classes of the program, a response names an internal location only if the
+/// request enters, and a servlet of the class `Application` was called with the dispatch of the request. The target and
+/// the cookies in the response are then those about which the container decided. Its caller and roles are those of the
+/// session, if no other component undoes the login in this message (Jakarta Servlet 6.0, sections 3.5, 9.1, 9.4, 10.9.2,
+/// 13.6.3 and 13.8).
+pub fn the_program_hands_over_only_entries<W: Words>()
+    ensures { TheProgramHandsOverOnlyEntries W.draws }
+{
+    steps_hand_over_only_entries::<ProgramServlet, ProgramFilter, ProgramListener, W>();
+}
+
+/// If no servlet of a context is of the class `Bye` or `Out`, no component but a servlet of the class `Application` changes
+/// the caller in a message of a lawful run.
+pub fn the_program_undoes_no_logins<W: Words>()
+    ensures { TheProgramUndoesNoLogins W.draws }
+{}

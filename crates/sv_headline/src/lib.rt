@@ -21,7 +21,8 @@ pub use contexts::{
 };
 pub use handed_over::{
     entries_are_handed_over, only_entries_are_dispatched, other_dispatches_hand_nothing_over,
-    redirects_are_of_entries, redirects_in_runs_are_of_entries,
+    redirects_are_of_entries, redirects_in_runs_are_of_entries, steps_hand_over_only_entries,
+    the_program_hands_over_only_entries, the_program_undoes_no_logins,
 };
 pub use laws::{
     a_script_in_memory_prints_its_run, callers_of_a_started_container_have_logged_in,
