@@ -17,6 +17,7 @@ use Rattle.sv_audited_contexts.specs.ServletPatterns.{mapped_patterns}
 use Rattle.sv_audited_contexts.specs.declared.audited_context.AuditedContext.{AuditedContext}
 use Rattle.sv_audited_contexts.specs.declared.audited_context.ContextOptions.{ContextOptions}
 use Rattle.sv_audited_contexts.specs.declared.audited_context.ContextParts.{ContextParts}
+use Rattle.sv_audited_contexts.specs.declared.audited_context.ContextPlace.{ContextPlace}
 use Rattle.sv_audited_contexts.specs.declared.audited_context.FindingParts.{FindingParts}
 use Rattle.sv_audited_contexts.specs.declared.audited_context.Source.{Source}
 use Rattle.sv_audited_contexts.specs.declared.context_files.ContextFiles.{ContextFiles}
@@ -45,14 +46,19 @@ kept_descriptor true texts = do
 abbrev pub kept_transport : Bool → List Constraint → Option (List Constraint)
 kept_transport is_secure constraints = if is_secure then Some constraints else None
 
--- The roles of the users, the files in the folder, and the constraints with their transport requirements if these are
--- dropped.
-abbrev pub finding_parts : Bool → ContextTexts → WebApp → List User → ContextFiles → FindingParts
-finding_parts is_secure texts app users its_files = record {
+abbrev pub parts_with : Bool → ContextTexts → WebApp → List User → ContextFiles → FindingParts
+parts_with is_secure texts app users its_files = record {
   held = held_in texts.context.users users;
   files = its_files;
   with_transport = kept_transport is_secure app.constraints;
 }
+
+-- The roles of the users, the files in the folder, and the constraints with their transport requirements if these are
+-- dropped.
+abbrev pub finding_parts : ContextOptions → FoundContext → WebApp → List User → Step FindingParts
+finding_parts options found app users = do
+  files ← files_in options.has_unknown_files found.texts.context.files found.files app.login
+  Ok (parts_with options.is_secure found.texts app users files)
 
 abbrev pub parts_of : Option WebApp → List User → FindingParts → ContextParts
 parts_of kept users parts = record { descriptor = kept; realm = users; findings = parts }
@@ -62,8 +68,12 @@ abbrev pub context_parts : ContextOptions → FoundContext → WebApp → Step C
 context_parts options found app = do
   kept ← kept_descriptor options.keeps_descriptor found.texts
   users ← users_in found.texts
-  files ← files_in options.has_unknown_files found.texts.context.files found.files app.login
-  Ok (parts_of kept users (finding_parts options.is_secure found.texts app users files))
+  parts ← finding_parts options found app users
+  Ok (parts_of kept users parts)
+
+-- The paths of all contexts, that of this one, and the patterns of its servlets.
+abbrev pub place_of : List (List ℕ) → ContextTexts → WebApp → ContextPlace
+place_of paths texts app = record { contexts = paths; path = texts.context.path; servlets = mapped_patterns app.servlet_mappings }
 
 -- What surrounds the constraints of a context, given the paths of all contexts.
 abbrev pub surroundings_of : List (List ℕ) → ContextTexts → WebApp → FindingParts → Surroundings

@@ -155,23 +155,41 @@ fn context_parts(
 ) -> Result<ContextParts, CommandFault>
     ensures { Gives command_fault result (spec.context_parts options found.now web_app.now) }
 {
-    let texts = &found.texts;
-    let descriptor = kept_descriptor(alloc, texts, options.keeps_descriptor)?;
-    let realm = realm_in(alloc, texts)?;
-    let held = held_in(alloc, &texts.context.users, &realm)?;
-    let name = texts.context.files.as_str();
-    let login = &web_app.login;
-    let files = files_in(alloc, options.has_unknown_files, name, &found.files, login)?;
-    let constraints = web_app.constraints.as_slice();
-    let with_transport = kept_transport(alloc, options.is_secure, constraints)?;
+    let descriptor = kept_descriptor(alloc, &found.texts, options.keeps_descriptor)?;
+    let realm = realm_in(alloc, &found.texts)?;
+    let findings = finding_parts(alloc, found, web_app, &realm, options)?;
     Ok(ContextParts {
         descriptor,
         realm,
-        findings: FindingParts {
-            held,
-            files,
-            with_transport,
-        },
+        findings,
+    })
+}
+
+/// Reads what the findings of a context need besides this descriptor, given its users.
+fn finding_parts(
+    alloc: Global,
+    found: &FoundContext,
+    web_app: &WebApp,
+    realm: &Realm,
+    options: ContextOptions,
+) -> Result<FindingParts, CommandFault>
+    ensures { Gives command_fault result (spec.finding_parts options found.now web_app.now realm.now) }
+{
+    let held = held_in(alloc, &found.texts.context.users, realm)?;
+    let name = found.texts.context.files.as_str();
+    let files = files_in(
+        alloc,
+        options.has_unknown_files,
+        name,
+        &found.files,
+        &web_app.login,
+    )?;
+    let constraints = web_app.constraints.as_slice();
+    let with_transport = kept_transport(alloc, options.is_secure, constraints)?;
+    Ok(FindingParts {
+        held,
+        files,
+        with_transport,
     })
 }
 
@@ -243,16 +261,39 @@ fn surroundings_of(
 ) -> Result<Surroundings, NoMemory>
     ensures { GivesAnswer result (spec.surroundings_of paths.now texts.now web_app.now parts) }
 {
-    let servlets = servlet_patterns(alloc, web_app.servlet_mappings.as_slice())?;
+    let place = place_of(alloc, texts, web_app, paths)?;
     Ok(Surroundings {
-        contexts: copied_texts(alloc, paths)?,
-        path: Text::copy_of(alloc, texts.context.path.as_str())?,
+        contexts: place.contexts,
+        path: place.path,
         has_login: web_app.login.is_some(),
         held: parts.held,
-        servlets,
+        servlets: place.servlets,
         files: parts.files.paths,
         login_page: parts.files.login_page,
         with_transport: parts.with_transport,
+    })
+}
+
+/// The paths of all contexts, that of one of them, and the patterns of its servlets.
+#[derive(Drop)]
+pub struct ContextPlace {
+    contexts: Listed<Text>,
+    path: Text,
+    servlets: Listed<Text>,
+}
+
+fn place_of(
+    alloc: Global,
+    texts: &ContextTexts,
+    web_app: &WebApp,
+    paths: &[Text],
+) -> Result<ContextPlace, NoMemory>
+    ensures { GivesAnswer result (spec.place_of paths.now texts.now web_app.now) }
+{
+    Ok(ContextPlace {
+        contexts: copied_texts(alloc, paths)?,
+        path: Text::copy_of(alloc, texts.context.path.as_str())?,
+        servlets: servlet_patterns(alloc, web_app.servlet_mappings.as_slice())?,
     })
 }
 
