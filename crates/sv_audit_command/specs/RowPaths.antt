@@ -1,5 +1,5 @@
 -- The additions of a report to the rows of an access table (Jakarta Servlet 6.0, sections 12.1 and 13.8).
-use Rattle.std.specs.Prelude.{ℕ, not, nat_lt, List, [], filter, length, map, Option, None, Some, option_and_then, if◌then◌else◌}
+use Rattle.std.specs.Prelude.{ℕ, false, not, nat_lt, List, [], filter, length, map, Option, None, Some, option_and_then, if◌then◌else◌}
 use Rattle.std.specs.List.{flat_map}
 use Rattle.std.specs.Option.{option_to_list}
 use Rattle.sv_audit.specs.Examples as examples
