@@ -9,6 +9,7 @@ use Rattle.sv_descriptor.specs.Fault.{Located}
 use Rattle.sv_descriptor.specs.Server.{located_server}
 use Rattle.sv_descriptor.specs.Users.{located_users}
 use Rattle.sv_descriptor.specs.declared.login.FormLogin.{FormLogin}
+use Rattle.sv_descriptor.specs.declared.web_app.WebApp.{WebApp}
 use Rattle.sv_realm.specs.Realm.{caller_named}
 use Rattle.sv_explanation.specs.Explanation.{explanation}
 use Rattle.sv_explanation.specs.declared.explanation.Explanation.{Explanation}
@@ -23,13 +24,13 @@ use Rattle.sv_program.specs.declared.command_fault.CommandFault.TheVariants.{Inp
 use Rattle.sv_program.specs.declared.command_fault.CommandFault.TheVariants as command
 use Rattle.sv_program.specs.declared.configuration.ContextTexts.{ContextTexts}
 use Rattle.sv_audit_command.specs.AuditCommand.{report_for}
-use Rattle.sv_audited_contexts.specs.Audited.{audited_context, audited_contexts, context_parts, kept_descriptor, paths_of}
+use Rattle.sv_audited_contexts.specs.Audited.{audited_context, audited_contexts, context_parts, finding_parts, kept_descriptor, paths_of}
 use Rattle.sv_audit_command.specs.Report.{access_report, asked_text, context_options, difference_report, report_by, report_on}
 use Rattle.sv_audit_command.specs.ComparedServers.{checked_server, other_context, other_server}
 use Rattle.sv_audit_command.specs.ExplainedRequest.{explained, method_of, sites_of, told}
 use Rattle.sv_audited_contexts.specs.ContextFiles.{audited_files, files_in, files_without_folder}
 use Rattle.sv_audited_contexts.specs.LineFile.{located}
-use Rattle.sv_audit_command.specs.Viewer.{check_viewer}
+use Rattle.sv_audit_command.specs.Viewer.{check_viewer, knows_role}
 use Rattle.sv_audited_contexts.specs.declared.audited_context.AuditedContext.{AuditedContext}
 use Rattle.sv_audited_contexts.specs.declared.audited_context.ContextOptions.{ContextOptions}
 use Rattle.sv_audit_command.specs.declared.further_files.FurtherFiles.{FurtherFiles}
@@ -102,16 +103,17 @@ folder_faults has_unknown (first ∷ rest) (Err entry) = λ fault h. only (Folde
 in_faults : (has_unknown : Bool) (name : List ℕ) (found : FolderFiles) (login : Option FormLogin) → AreOfFiles (files_in has_unknown name found login)
 in_faults has_unknown name found login = onward (audited_files has_unknown name found) _ (folder_faults has_unknown name found) (λ files. done _)
 
-parts_faults : (options : ContextOptions) (at : FoundContext) (login : Option FormLogin) → AreOfFiles (context_parts options at login)
-parts_faults options at login =
+parts_faults : (options : ContextOptions) (at : FoundContext) (app : WebApp) → AreOfFiles (context_parts options at app)
+parts_faults options at app =
     onward (kept_descriptor options.keeps_descriptor at.texts) _ (kept_faults options.keeps_descriptor at.texts)
     (λ kept. onward (users_in at.texts) _ (named_faults at.texts.context.path at.texts.context.users at.texts.users)
-    (λ users. onward (files_in options.has_unknown_files at.texts.context.files at.files login) _
-    (in_faults options.has_unknown_files at.texts.context.files at.files login) (λ files. done _)))
+    (λ users. onward (finding_parts options at app users) _
+    (onward (files_in options.has_unknown_files at.texts.context.files at.files app.login) _ (in_faults options.has_unknown_files at.texts.context.files at.files app.login) (λ files. done _))
+    (λ parts. done _)))
 
 context_faults : (options : ContextOptions) (paths : List (List ℕ)) (at : FoundContext) → AreOfFiles (audited_context options paths at)
 context_faults options paths at =
-    onward (descriptor_in at.texts) _ (app_faults at.texts) (λ app. onward (context_parts options at app.login) _ (parts_faults options at app.login) (λ parts. done _))
+    onward (descriptor_in at.texts) _ (app_faults at.texts) (λ app. onward (context_parts options at app) _ (parts_faults options at app) (λ parts. done _))
 
 other_faults : (is_secure : Bool) (at : ContextTexts) → AreOfFiles (other_context is_secure at)
 other_faults is_secure at =
@@ -155,7 +157,7 @@ viewer_faults : (viewer : Option Asked) (contexts : List AuditedContext) → Are
 viewer_faults None contexts = done {A = Unit {0}} tt
 viewer_faults (Some (asked.User name)) contexts =
     chosen (list_any (λ (context : AuditedContext). is_some (caller_named context.realm name.now)) contexts) (command.User (quoted name.now)) tt
-viewer_faults (Some (asked.Role role)) contexts = done {A = Unit {0}} tt
+viewer_faults (Some (asked.Role role)) contexts = chosen (list_any (knows_role role.now) contexts) (command.Role (quoted role.now)) tt
 
 report_faults : (options : AccessOptions) (texts : List FoundContext) (files : FurtherFiles) → AreOfFiles (report_on options texts files)
 report_faults options texts files =

@@ -87,10 +87,15 @@ fn knows_role(role: &str, context: &AuditedContext) -> bool
 fn is_named(role: &str, constraints: &[Constraint]) -> bool
     ensures { result ≡ spec.is_named role.now constraints.now }
 {
-    is_role(role)
-        && constraints
-            .iter()
-            .any(|constraint| names(&constraint.auth, role))
+    is_role(role) && any_names(role, constraints)
+}
+
+fn any_names(role: &str, constraints: &[Constraint]) -> bool
+    ensures { result ≡ list_any (λ constraint. spec.names constraint.auth role.now) constraints.now }
+{
+    constraints
+        .iter()
+        .any(|constraint| names(&constraint.auth, role))
 }
 
 fn is_role(name: &str) -> bool
