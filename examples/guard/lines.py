@@ -14,12 +14,13 @@ Try = Callable[[Trial], None]
 # What the block of a line and the line begin with, and the trial that fails without the line. The first row that fits decides.
 # A line without a trial names a place, or is only of use for speed.
 ROWS: list[tuple[str, str, Optional[Try]]] = [
+    ("map $uri", "", trials.try_strangers),
     ("map $http_if_none_match", "", trials.try_pages),
     ('map "$none_match', "", trials.try_strangers),
     ("map $accepted $login", "default", trials.try_json),
     ("map $accepted $login", "~*text", trials.try_strangers),
-    ("map $http_accept $denied", "default", trials.try_json),
-    ("map $http_accept $denied", "~*text", trials.try_denied),
+    ("map $types $denied", "default", trials.try_json),
+    ("map $types $denied", "~*text", trials.try_denied),
     ('map "$request_method', "default", trials.try_json),
     ('map "$request_method', "", trials.try_failed_login),
     ('map "$http_content_length', "default", trials.try_bodies_of_all),
@@ -86,6 +87,8 @@ TLS = [
     "ssl_certificate_key KEYS/key.pem;",
     "proxy_cookie_flags GUARDSESSION secure;",
 ]
+# The line that README.md adds for paths whose clients expect JSON, and the one that it follows.
+JSON_PATHS, TYPES = '"~/api/" "";', "default $http_accept;"
 # Lines that are as wrong when they are changed: a line, another one in its place, and the trial that fails then.
 CHANGES: list[tuple[str, str, Try]] = [
     (
@@ -100,6 +103,8 @@ CHANGES: list[tuple[str, str, Try]] = [
     ),
     ("set $target $upstream_http_x_application_target;", "set $target $uri;", hostile.try_targets),
     ("proxy_intercept_errors on;", "", trials.try_strangers),
+    ('"" $types;', '"" $http_accept;', trials.try_json_paths),
+    ("map $types $denied {", "map $http_accept $denied {", trials.try_json_paths),
     ("$none_match$http_if_match$", "$none_match$", trials.try_pages),
     ("$http_if_match$http_if_unmodified_since", "$http_if_match", trials.try_pages),
 ]
@@ -168,6 +173,10 @@ def _with_tls(text: str) -> str:
     return replaced(text, LISTEN, "\n".join([LISTEN.replace(";", " ssl;"), *TLS]))
 
 
+def _with_json_paths(text: str) -> str:
+    return replaced(text, TYPES, f"{TYPES}\n{JSON_PATHS}")
+
+
 def _with_small_buffers(text: str) -> str:
     """The system keeps few bytes of an answer that a client does not read."""
     return replaced(text, LISTEN, LISTEN.replace(";", f" sndbuf={SEND_BUFFER};"))
@@ -179,6 +188,7 @@ VARIANTS: dict[Try, Callable[[str], str]] = {
     trials.try_charset: _with_charset,
     trials.try_expires: _with_cache_of_application,
     trials.try_cache: _with_cache_of_all,
+    trials.try_json_paths: _with_json_paths,
     trials.try_tls: _with_tls,
     trials.try_underscores: _with_underscores,
 }

@@ -104,6 +104,23 @@ def try_json(trial: Trial) -> None:
     trial.see_none("requests that did not enter")
 
 
+def try_json_paths(trial: Trial) -> None:
+    """At the paths of a line that README.md adds, a client that accepts HTML gets a status in place of a page, and at others a page."""
+    refused = (401, '{"status": 401}\n')
+    answer = trial.visitor().get("/members/api/x")
+    see("without a caller", (answer.status, answer.text), refused)
+    answer = trial.visitor("127.0.0.81").log_in("ann", "/members/api/x", "wrong")
+    see("a login that fails", (answer.status, answer.text), refused)
+    ann = trial.caller("ann", "/members/api/x")
+    answer = ann.get("/admin/api/x")
+    see("without the role", (answer.status, answer.text), (403, '{"status": 403}\n'))
+    trial.see_none("requests that did not enter")
+    see("a caller", ann.get("/members/api/x").status, 200)
+    see("the path that arrives", trial.arrived().target, "/members/api/x")
+    see_page("another path", trial.visitor().get("/members/apis/x"), 200, LOGIN)
+    see_page("another path without the role", ann.get("/admin/x"), 403, DENIED)
+
+
 def try_login(trial: Trial) -> None:
     """A login leads back, and its caller arrives with the roles, percent-encoded."""
     visitor = trial.visitor("127.0.0.2")

@@ -24,6 +24,8 @@ SEED = "0" * 64
 WRITTEN = ("web.toml", "web.lines", "server.toml", "users.toml", "nginx.conf")
 # The configuration that the importer completes.
 EXAMPLE = Path(__file__).resolve().parents[2] / "examples/guard/nginx.conf"
+# The words in it that the importer replaces.
+WORDS = re.compile(r"\b(PORT|GUARD_PORT|APPLICATION|SECRET|FOLDER|PAGES)\b")
 # The folder of the pages that nginx shows. A case has the expected ones in a folder of this name.
 PAGES = "pages"
 MAX_SECONDS = 10
@@ -76,12 +78,19 @@ def tried_folder(folder: Path, tools: Path) -> tuple[dict[str, str], list[str], 
 
 
 def lines_of_its_own(configuration: str) -> str:
-    """The lines of a configuration of nginx that the one in examples/guard lacks, with a secret of zeros."""
-    example = EXAMPLE.read_text(encoding="utf-8")
-    lines = [it.strip() for it in configuration.splitlines()]
-    known = {it.strip() for it in example.splitlines()}
-    own = "".join(f"{it}\n" for it in lines if it not in known and not it.startswith("#"))
+    """The lines of a configuration of nginx that the one in examples/guard lacks, with a secret of zeros. The others must be all those of the example without a word in capitals."""
+    known = directives(EXAMPLE.read_text(encoding="utf-8"))
+    lines = directives(configuration)
+    if lines and [it for it in lines if it in known] != [it for it in known if not WORDS.search(it)]:
+        return "a line of the example is missing, or in another place\n"
+    own = "".join(f"{it}\n" for it in lines if it not in known)
     return re.sub("[0-9a-f]{64}", SEED, own)
+
+
+def directives(configuration: str) -> list[str]:
+    """The lines of a configuration of nginx without comments, ends of blocks and indentation."""
+    lines = [it.strip() for it in configuration.splitlines()]
+    return [it for it in lines if it not in ("", "}") and not it.startswith("#")]
 
 
 def pages_of(folder: Path) -> dict[str, str]:
