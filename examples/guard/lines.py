@@ -61,6 +61,7 @@ ROWS: list[tuple[str, str, Optional[Try]]] = [
     ("location @application", "proxy_pass", trials.try_strangers),
     ("location @application", "proxy_set_header Cookie", trials.try_cookies),
     ("location @application", "proxy_set_header Connection", trials.try_others_fields),
+    ("location @application", "proxy_set_header Sec-WebSocket", trials.try_web_socket),
     ("location @application", "proxy_set_header", trials.try_fields_of_clients),
     ("location @application", "proxy_ignore_headers X-Accel-Redirect", trials.try_redirect),
     ("location @application", "proxy_ignore_headers X-Accel-Expires", trials.try_expires),

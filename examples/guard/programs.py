@@ -13,6 +13,7 @@ from typing import Iterator
 
 from others import try_others
 from parts import CONFIGURATION, HERE, SECRET, SITE, container, guard, program_at, see
+from recorder import recorder
 from servers import TOP, wait_until
 from sites import free_ports
 from tomcat_trial import try_tomcat
@@ -98,6 +99,19 @@ def try_down(container_port: int, folder: str) -> None:
     )
 
 
+def try_container_down(folder: str) -> None:
+    """While the container is down, nothing arrives at the application."""
+    (port,) = free_ports(1)
+    with recorder() as application:
+        with guarded(port, folder, f"127.0.0.1:{application.port}") as guard_port:
+            stranger = Visitor(guard_port)
+            for method, target in (("GET", "/open"), ("GET", "/members/"), ("POST", "/open")):
+                see(f"{method} {target}", stranger.ask(method, target, HTML, b"x").status, 502)
+            see("a login", stranger.log_in("ann").status, 502)
+        see("what arrives", application.taken(), [])
+    print("container down: each answer is 502, and nothing arrives at the application")
+
+
 def try_edit(program: str, folder: str) -> None:
     """An edit of the policy decides the next request."""
     control = f"{folder}/control"
@@ -152,6 +166,7 @@ def try_all(program: str, folder: str) -> None:
         try_python(port, folder)
         try_node(port, folder)
         try_down(port, folder)
+    try_container_down(folder)
     try_edit(program, folder)
     try_imported(folder)
     try_others(folder)

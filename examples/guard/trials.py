@@ -443,15 +443,15 @@ def see_conditions(trial: Trial) -> None:
 
 
 def try_web_socket(trial: Trial) -> None:
-    """No connection is upgraded (RFC 9110, section 7.8): the application sees a plain GET."""
+    """No connection is upgraded (RFC 9110, section 7.8): the application sees a plain GET, without the key of a WebSocket (RFC 6455, section 4.2.1)."""
     key = "Sec-WebSocket-Key: dGhlIHNhbXBsZSBub25jZQ=="
     version = "Sec-WebSocket-Version: 13"
     head = ["GET /open HTTP/1.1", "Host: x", "Connection: Upgrade", "Upgrade: websocket"]
     text = "\r\n".join([*head, key, version, "", ""]).encode()
     see("the status", raw(trial.port, text, 1).split(b" ", 2)[1], b"200")
     it = trial.arrived()
-    fields = (it.fields.get("upgrade"), it.fields.get("connection"))
-    see("what arrives", (it.method, fields), ("GET", (None, None)))
+    fields = [it.fields.get(name) for name in ("upgrade", "connection", "sec-websocket-key")]
+    see("what arrives", (it.method, fields), ("GET", [None, None, None]))
 
 
 @contextlib.contextmanager

@@ -81,7 +81,8 @@ def lines_of_its_own(configuration: str) -> str:
     """The lines of a configuration of nginx that the one in examples/guard lacks, with a secret of zeros. The others must be all those of the example without a word in capitals."""
     known = directives(EXAMPLE.read_text(encoding="utf-8"))
     lines = directives(configuration)
-    if lines and [it for it in lines if it in known] != [it for it in known if not WORDS.search(it)]:
+    kept = [it for it in known if not WORDS.search(it)]
+    if lines and [it for it in lines if it in known] != kept:
         return "a line of the example is missing, or in another place\n"
     own = "".join(f"{it}\n" for it in lines if it not in known)
     return re.sub("[0-9a-f]{64}", SEED, own)
