@@ -50,6 +50,8 @@ CADDY = """{{
 }}
 http://127.0.0.1:{port} {{
   reverse_proxy 127.0.0.1:{first} {{
+    buffer_requests
+    max_buffer_size 8MB
     @entered header X-Application-Caller *
     handle_response @entered {{
       reverse_proxy 127.0.0.1:{second} {{
