@@ -12,7 +12,6 @@ use Rattle.std.specs.Str.{bytes_eq}
 use Rattle.sv_mapping.specs.Protected.{is_protected}
 use Rattle.sv_mapping.specs.BestMatch.{best_pattern, is_best, outranks}
 use Rattle.sv_mapping.specs.Pattern.{Form, Root, Default, Extension, Prefix, Exact, form, is_at_or_below, is_extension_pattern, matches}
-use Rattle.sv_mapping.specs.Segments.{is_rooted}
 use Rattle.sv_realm.specs.declared.caller.Caller.{Caller}
 use Rattle.sv_constraints.specs.Covering.{all_patterns, covering, covers, covers_method, lists, patterns_in}
 use Rattle.sv_constraints.specs.Verdict.{verdict, verdict_at}
@@ -41,7 +40,7 @@ use Rattle.sv_audit.proofs.RowCells.{row_cell}
 use Rattle.sv_audit.proofs.Said.{said}
 use Rattle.sv_audit.proofs.Witness.{found}
 use Rattle.sv_audit.specs.Access.{cell_at, roles_meant}
-use Rattle.sv_findings.proofs.OpenedLemmas.{AreOpen, AreOpenFor, are_open, fresh, is_fresh, kept_all, kept_any, opened_exact, some_open}
+use Rattle.sv_findings.proofs.OpenedLemmas.{AreOpen, AreOpenFor, are_open, fresh, is_fresh, kept_all, opened_exact, some_open}
 use Rattle.sv_audit.proofs.Shapes.{IsShaped, nothing_matches, served_shaped}
 use Rattle.sv_findings.specs.Dead.{is_tried_late, dead_among, dead_patterns, dead_patterns_in, decides_nothing, escaped, escaped_in, exact_pattern, is_beaten, is_beaten_folder, is_dead, is_escaped}
 use Rattle.sv_audit.specs.Shapes.{matches_nothing}
@@ -59,7 +58,7 @@ use Rattle.sv_findings.specs.MetRows.{is_pattern_met, is_row_met}
 use Rattle.sv_findings.specs.Reach.{is_reached}
 use Rattle.sv_findings.specs.Readings.{extensions_first, first_restricting, is_extension_row, is_late, is_late_match, is_other_row, is_prefix, late_rows, read_as, read_at, read_otherwise, restricts_one, restricts_part, share_method}
 use Rattle.sv_findings.proofs.MeetingForms.{none_held, none_meets}
-use Rattle.sv_findings.specs.LoginNeeds.{asked_at, asked_folders, bars, base_folders, first_given, folder_of, folder_of_form, in_folder, is_absolute, is_asked, is_barred, loaded_references, login_needs, needed_at, needed_by, needed_of, needed_paths, path_part}
+use Rattle.sv_findings.specs.LoginNeeds.{asked_at, asked_folders, bars, base_folders, first_given, folder_of, folder_of_form, target_in, is_absolute, is_asked, is_barred, loaded_references, login_needs, needed_at, needed_by, needed_of, needed_paths, path_part}
 use Rattle.sv_findings.specs.declared.asked_folders.TheConstants.{MAX_ASKED_FOLDERS}
 use Rattle.sv_findings.specs.declared.surroundings.LoginPage.{LoginPage}
 use Rattle.sv_findings.specs.Reach.{serves}
@@ -747,11 +746,11 @@ module _ (constraints : List Constraint) (rules : Rules) (surroundings : Surroun
     IsReferred reference path = (target : List ℕ) × Means constraints rules surroundings page reference target × (needs target ≡ Some path)
 
     pub referred : (reference path : List ℕ) (absolute : Bool) → is_absolute reference ≡ absolute
-        → cond absolute (needs (path_part reference)) (first_given (λ folder. needs (in_folder surroundings.path folder (path_part reference))) folders_here) ≡ Some path → IsReferred reference path
+        → cond absolute (needs (path_part reference)) (first_given (λ folder. needs (target_in surroundings.path folder (path_part reference))) folders_here) ≡ Some path → IsReferred reference path
     referred reference path true is gives = (path_part reference, inl (is, refl), gives)
     referred reference path false is gives =
-        let it : IsGiven (λ folder. needs (in_folder surroundings.path folder (path_part reference))) path folders_here = given_by (λ folder. needs (in_folder surroundings.path folder (path_part reference))) path folders_here gives in
-        (in_folder surroundings.path it.0 (path_part reference), inr (is, it.0, is_base it.0 it.1, refl), it.2)
+        let it : IsGiven (λ folder. needs (target_in surroundings.path folder (path_part reference))) path folders_here = given_by (λ folder. needs (target_in surroundings.path folder (path_part reference))) path folders_here gives in
+        (target_in surroundings.path it.0 (path_part reference), inr (is, it.0, is_base it.0 it.1, refl), it.2)
 
     need_at : (path : List ℕ) → lists (different all_needed) path ≡ true → IsRight constraints rules surroundings (finding.LoginNeeds path)
     need_at path there =

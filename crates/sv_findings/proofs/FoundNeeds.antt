@@ -34,9 +34,9 @@ use Rattle.sv_audit.specs.declared.rows.Group.{Group}
 use Rattle.sv_audit.specs.declared.rows.Row.{Row}
 use Rattle.sv_findings.proofs.FindingLemmas.{IsReferred, all_needed, asked_groups, asked_here, asks_in, folders_here, in_row, loaded, needed_here, needs, referred, says, the_rows}
 use Rattle.sv_findings.proofs.FoundFindings.{among_page, row_found, some_group}
-use Rattle.sv_findings.specs.FindingLaws.{AreAllAsked, AskedNeedIsFound, IsMet, MeansDirectly, NamesNeedOf, NeedIsFound, RefersTo, says_needed}
+use Rattle.sv_findings.specs.FindingLaws.{AreAllAsked, AskedNeedIsFound, IsMet, MeansDirectly, NamesNeedOf, NeedIsFound, says_needed}
 use Rattle.sv_findings.specs.Findings.{findings_of}
-use Rattle.sv_findings.specs.LoginNeeds.{all_asked, asked_at, asked_folders, first_given, folder_of, folder_of_form, in_folder, is_absolute, is_asked, login_needs, path_part}
+use Rattle.sv_findings.specs.LoginNeeds.{all_asked, asked_at, first_given, folder_of, folder_of_form, target_in, is_absolute, is_asked, login_needs, path_part}
 use Rattle.sv_findings.specs.declared.asked_folders.TheConstants.{MAX_ASKED_FOLDERS}
 use Rattle.sv_findings.specs.declared.finding.Finding.TheVariants as finding
 use Rattle.sv_findings.specs.declared.surroundings.LoginPage.{LoginPage}
@@ -115,7 +115,7 @@ module _ (constraints : List Constraint) (rules : Rules) (surroundings : Surroun
         (ap (λ its. lists (option_to_list its) path) gives ∙ ap (λ b. b || false) (same_text path)))
 
     abbrev in_its : List ℕ → Option (List ℕ)
-    in_its folder = needs constraints rules surroundings (in_folder surroundings.path folder (path_part reference))
+    in_its folder = needs constraints rules surroundings (target_in surroundings.path folder (path_part reference))
 
     abbrev by_kind : Bool → Option (List ℕ)
     by_kind absolute = cond absolute (needs constraints rules surroundings (path_part reference)) (first_given in_its (folders_here constraints rules surroundings page known))

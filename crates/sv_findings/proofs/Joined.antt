@@ -1,5 +1,5 @@
 -- All findings from their parts.
-use Rattle.std.proofs.Common.{◌≡◌, ℕ, Bool, List, [], ◌++◌, ap, ap₂, ◌∙◌}
+use Rattle.std.proofs.Common.{◌≡◌, ℕ, List, [], ◌++◌, ap, ap₂, ◌∙◌}
 use Rattle.std.specs.Prelude.{filter}
 use Rattle.sv_constraints.specs.Covering.{all_patterns}
 use Rattle.sv_constraints.specs.declared.constraint.Constraint.{Constraint}

@@ -30,7 +30,7 @@ use Rattle.sv_findings.specs.Reach.{is_reached}
 use Rattle.sv_findings.specs.MetRows.{is_met}
 use Rattle.sv_findings.specs.Readings.{is_prefix}
 use Rattle.sv_findings.specs.Unserved.{holds, is_unserved, reached_files}
-use Rattle.sv_findings.specs.LoginNeeds.{all_asked, folder_of, folder_of_form, in_folder, is_absolute, loaded_references, needed_at, path_part}
+use Rattle.sv_findings.specs.LoginNeeds.{all_asked, folder_of, folder_of_form, target_in, is_absolute, loaded_references, needed_at, path_part}
 use Rattle.sv_findings.specs.declared.surroundings.LoginPage.{LoginPage}
 use Rattle.sv_audit.specs.Reading.{Kind, NeedsLogin, Passes, kind_and_cause, said_to}
 use Rattle.sv_audit.specs.Rows.{table_of}
@@ -144,7 +144,7 @@ IsBase constraints rules surroundings page folder = ((is_protected page.path ≡
 -- The target is the path of the reference, or this path in such a folder if the reference is relative.
 abbrev pub Means : List Constraint → Rules → Surroundings → LoginPage → List ℕ → List ℕ → Type 0
 Means constraints rules surroundings page reference target = (IsTrue (is_absolute reference) × (target ≡ path_part reference))
-    ⊎ ((is_absolute reference ≡ false) × (folder : List ℕ) × IsBase constraints rules surroundings page folder × (target ≡ in_folder surroundings.path folder (path_part reference)))
+    ⊎ ((is_absolute reference ≡ false) × (folder : List ℕ) × IsBase constraints rules surroundings page folder × (target ≡ target_in surroundings.path folder (path_part reference)))
 
 -- Everyone passes with each of the methods, which a constraint with an authorization constraint covers, too, and both
 -- constraints cover one of them; each method of the finding passes at each path of the pattern, since it is uncovered;
@@ -330,7 +330,7 @@ says_needed path other = false
 -- The target is the path of the reference or, if it is relative, this path in the folder of the page, which is not hidden.
 abbrev pub MeansDirectly : Surroundings → LoginPage → List ℕ → List ℕ → Type 0
 MeansDirectly surroundings page reference target = (IsTrue (is_absolute reference) × (target ≡ path_part reference))
-    ⊎ ((is_absolute reference ≡ false) × (is_protected page.path ≡ false) × (target ≡ in_folder surroundings.path (folder_of page.path) (path_part reference)))
+    ⊎ ((is_absolute reference ≡ false) × (is_protected page.path ≡ false) × (target ≡ target_in surroundings.path (folder_of page.path) (path_part reference)))
 
 -- The login page is known, and refers to a style sheet, a script, a picture or a font of this server.
 abbrev pub RefersTo : Surroundings → LoginPage → List ℕ → Type 0
@@ -361,5 +361,5 @@ NamesNeedOf constraints rules surroundings page reference = (path : List ℕ) ×
 abbrev pub AskedNeedIsFound : Type 0
 AskedNeedIsFound = (constraints : List Constraint) (rules : Rules) (surroundings : Surroundings) (page : LoginPage) (reference pattern path needed : List ℕ) → RefersTo surroundings page reference →
     is_absolute reference ≡ false → IsSentToLogin constraints rules surroundings pattern path → AreAllAsked constraints rules surroundings →
-    needed_at surroundings.contexts surroundings.path constraints rules (in_folder surroundings.path (folder_of_form (form pattern)) (path_part reference)) ≡ Some needed →
+    needed_at surroundings.contexts surroundings.path constraints rules (target_in surroundings.path (folder_of_form (form pattern)) (path_part reference)) ≡ Some needed →
     NamesNeedOf constraints rules surroundings page reference

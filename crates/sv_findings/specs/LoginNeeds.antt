@@ -4,7 +4,7 @@
 use Rattle.std.specs.Prelude.{ℕ, suc, ◌-◌, Bool, true, false, not, ◌&&◌, ◌||◌, ◌==◌, nat_eq, List, [], ◌∷◌, ◌++◌, length, take, codes, filter, map, Option, None, Some, Result, Ok, Err, if◌then◌else◌}
 use Rattle.std.specs.List.{before_first, ends_with, flat_map, list_any, slice_split, starts_with}
 use Rattle.std.specs.Option.{option_map_or, option_or, option_to_list}
-use Rattle.std.specs.Str.{str_eq_ignore_ascii_case}
+use Rattle.std.specs.Str.{bytes_eq, str_eq_ignore_ascii_case}
 use Rattle.sv_constraints.specs.Verdict.{verdict}
 use Rattle.sv_constraints.specs.declared.cause.Cause.{Cause}
 use Rattle.sv_constraints.specs.declared.cause.Cause.TheVariants as cause
@@ -18,6 +18,7 @@ use Rattle.sv_mapping.specs.Within.{path_within}
 use Rattle.sv_policy.specs.Patterns.{different}
 use Rattle.sv_uri.specs.Canonical.{canonical}
 use Rattle.sv_uri.specs.declared.fault.PathFault.{PathFault}
+use Rattle.sv_uri.specs.declared.fault.PathFault.TheVariants.{Climbs}
 use Rattle.sv_uri.specs.declared.path.Canon.{Canon}
 use Rattle.sv_audit.specs.Callers.{has_method}
 use Rattle.sv_audit.specs.Visitors.{needs_login}
@@ -148,6 +149,25 @@ is_absolute reference = starts_with nat_eq reference (codes "/")
 abbrev pub in_folder : List ℕ → List ℕ → List ℕ → List ℕ
 in_folder context folder relative = context ++ folder ++ codes "/" ++ relative
 
+abbrev pub is_climb : PathFault → Bool
+is_climb Climbs = true
+is_climb fault = false
+
+-- Whether a target leads above the topmost folder of the server.
+abbrev pub climbs : Result Canon PathFault → Bool
+climbs (Ok canon) = false
+climbs (Err fault) = is_climb fault
+
+-- A relative path without the parts `..` at its front.
+abbrev pub without_parents : List ℕ → List ℕ
+without_parents (a ∷ b ∷ c ∷ rest) = if bytes_eq (a ∷ b ∷ c ∷ []) (codes "../") then without_parents rest else a ∷ b ∷ c ∷ rest
+without_parents relative = relative
+
+-- The target that a browser asks for: parts `..` that lead above the topmost folder are dropped there (RFC 3986, section
+-- 5.2.4).
+abbrev pub target_in : List ℕ → List ℕ → List ℕ → List ℕ
+target_in context folder relative = if climbs (canonical (in_folder context folder relative)) then codes "/" ++ without_parents relative else in_folder context folder relative
+
 -- The first path that a function gives.
 abbrev pub first_given : (List ℕ → Option (List ℕ)) → List (List ℕ) → Option (List ℕ)
 first_given given [] = None
@@ -158,7 +178,7 @@ first_given given (folder ∷ folders) = option_or (given folder) (first_given g
 abbrev pub needed_by : List (List ℕ) → List ℕ → List Constraint → Rules → List (List ℕ) → List ℕ → Option (List ℕ)
 needed_by contexts context constraints rules folders reference =
     if is_absolute reference then needed_at contexts context constraints rules (path_part reference)
-    else first_given (λ folder. needed_at contexts context constraints rules (in_folder context folder (path_part reference))) folders
+    else first_given (λ folder. needed_at contexts context constraints rules (target_in context folder (path_part reference))) folders
 
 -- The references of a page to style sheets, scripts, pictures and fonts of this server.
 abbrev pub loaded_references : List ℕ → List (List ℕ)

@@ -1,7 +1,8 @@
 //! A context with its constraints: what a request without a caller may not get.
 
-ghost use Rattle.std.specs.Prelude.{◌≡◌};
+ghost use Rattle.std.specs.Prelude.{◌≡◌, ◌++◌, codes};
 ghost use Rattle.sv_text.specs.Gives.{GivesAnswer};
+ghost use Rattle.sv_uri.specs.Canonical.{canonical};
 ghost use Rattle.sv_findings.specs.LoginNeeds as spec;
 
 use crate::reach::Reaches;
@@ -10,7 +11,7 @@ use sv_constraints::{Cause, Constraint, Decision, Rules, decide_plain};
 use sv_mapping::{is_at_or_below, is_protected, path_within};
 use sv_text::{NoMemory, Text};
 use sv_uri::canon;
-use sv_uri::fault::CanonFault;
+use sv_uri::fault::{CanonFault, PathFault};
 
 /// A context beside others, with the constraints that guard its paths.
 #[derive(Drop)]
@@ -36,7 +37,7 @@ impl<'r, 'c> GuardedContext<'r, 'c> {
         relative: &str,
     ) -> Result<Option<Text>, NoMemory>
         ensures { GivesAnswer result (spec.needed_at self.now.reaches.now.0 self.now.reaches.now.1 self.now.constraints.now self.now.rules.now
-            (spec.in_folder self.now.reaches.now.1 folder.now relative.now)) }
+            (spec.target_in self.now.reaches.now.1 folder.now relative.now)) }
     {
         let target = target_in(alloc, self.reaches.context(), folder, relative)?;
         self.needed_at(alloc, target.as_str())
@@ -83,13 +84,19 @@ impl<'r, 'c> GuardedContext<'r, 'c> {
     }
 }
 
-/// Returns the target of a relative reference in a folder of the context.
-fn target_in(
-    alloc: Global,
-    context: &str,
-    folder: &str,
-    relative: &str,
-) -> Result<Text, NoMemory>
+/// Returns the target that a browser asks for by a relative path in a folder of the context: parts `..` that lead above
+/// the topmost folder are dropped there (RFC 3986, section 5.2.4).
+fn target_in(alloc: Global, context: &str, folder: &str, relative: &str) -> Result<Text, NoMemory>
+    ensures { GivesAnswer result (spec.target_in context.now folder.now relative.now) }
+{
+    let target = in_folder(alloc, context, folder, relative)?;
+    if climbs(alloc, target.as_str())? {
+        return at_top(alloc, relative);
+    }
+    Ok(target)
+}
+
+fn in_folder(alloc: Global, context: &str, folder: &str, relative: &str) -> Result<Text, NoMemory>
     ensures { GivesAnswer result (spec.in_folder context.now folder.now relative.now) }
 {
     let mut target = Text::copy_of(alloc, context)?;
@@ -97,4 +104,36 @@ fn target_in(
     target.push_str(alloc, "/")?;
     target.push_str(alloc, relative)?;
     Ok(target)
+}
+
+/// Returns whether a target leads above the topmost folder of the server.
+fn climbs(alloc: Global, target: &str) -> Result<bool, NoMemory>
+    ensures { GivesAnswer result (spec.climbs (canonical target.now)) }
+{
+    match canon(alloc, target.as_bytes()) {
+        Ok(_) => Ok(false),
+        Err(CanonFault::Path(fault)) => Ok(is_climb(fault)),
+        Err(CanonFault::NoMemory) => Err(NoMemory),
+    }
+}
+
+fn is_climb(fault: PathFault) -> bool
+    ensures { result ≡ spec.is_climb fault }
+{
+    matches!(fault, PathFault::Climbs)
+}
+
+/// Returns the target of a relative path in the topmost folder of the server, without the parts `..` at its front.
+fn at_top(alloc: Global, relative: &str) -> Result<Text, NoMemory>
+    ensures { GivesAnswer result (codes "/" ++ spec.without_parents relative.now) }
+{
+    let mut target = Text::copy_of(alloc, "/")?;
+    target.push_str(alloc, without_parents(relative))?;
+    Ok(target)
+}
+
+fn without_parents(relative: &str) -> &str
+    ensures { result.now ≡ spec.without_parents relative.now }
+{
+    relative.trim_start_matches("../")
 }

@@ -155,7 +155,7 @@ fn first_needed(
     relative: &str,
 ) -> Result<Option<Text>, NoMemory>
     ensures { GivesAnswer result (spec.first_given (λ folder. spec.needed_at context.now.reaches.now.0 context.now.reaches.now.1 context.now.constraints.now context.now.rules.now
-        (spec.in_folder context.now.reaches.now.1 folder relative.now)) (map (λ folder. folder.now) folders.now)) }
+        (spec.target_in context.now.reaches.now.1 folder relative.now)) (map (λ folder. folder.now) folders.now)) }
 {
     for folder in folders {
         if let Some(path) = context.needed_in(alloc, *folder, relative)? {
