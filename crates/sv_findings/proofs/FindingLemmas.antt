@@ -4,15 +4,14 @@ use Rattle.std.proofs.lemmas.Bool.Decides.{Decides-eqb}
 use Rattle.std.proofs.lemmas.List.Elements.{All-append, All-cons, All-contains, All-contains_itself, All-head, All-map, All-nil, All-same, All-tail}
 use Rattle.std.proofs.lemmas.List.Sums.{AllPass-from_list_all}
 use Rattle.std.proofs.lemmas.Slice.Eq.{bytes_eq-Decides, starts_is}
-use Rattle.std.proofs.Common.{◌≡◌, ℕ, ◌<◌, Bool, true, false, not, ◌||◌, ◌&&◌, List, [], ◌∷◌, ◌++◌, map, length, drop, codes, refl, ap, sym, ◌∙◌, cond, Option, None, Some, inl, inr, ◌==◌, ◌⊎◌}
+use Rattle.std.proofs.Common.{◌≡◌, ℕ, ◌<◌, Bool, true, false, not, ◌||◌, ◌&&◌, List, [], ◌∷◌, ◌++◌, map, length, drop, take, take-append-drop, codes, refl, ap, sym, ◌∙◌, cond, Option, None, Some, inl, inr, ◌==◌, ◌⊎◌}
 use Rattle.std.specs.Prelude.{All, Contains, Err, IsTrue, Ok, Result, filter, find, nat_eq, slice_index_or}
 use Rattle.std.specs.List.{ends_with, flat_map, list_all, list_any}
-use Rattle.std.specs.Option.{option_and_then, option_map_or, option_to_list}
+use Rattle.std.specs.Option.{option_and_then, option_map_or, option_or, option_to_list}
 use Rattle.std.specs.Str.{bytes_eq}
 use Rattle.sv_mapping.specs.Protected.{is_protected}
 use Rattle.sv_mapping.specs.BestMatch.{best_pattern, is_best, outranks}
 use Rattle.sv_mapping.specs.Pattern.{Form, Root, Default, Extension, Prefix, Exact, form, is_at_or_below, is_extension_pattern, matches}
-use Rattle.sv_mapping.specs.Segments.{is_rooted}
 use Rattle.sv_realm.specs.declared.caller.Caller.{Caller}
 use Rattle.sv_constraints.specs.Covering.{all_patterns, covering, covers, covers_method, lists, patterns_in}
 use Rattle.sv_constraints.specs.Verdict.{verdict, verdict_at}
@@ -24,7 +23,7 @@ use Rattle.sv_constraints.specs.declared.constraint.Constraint.{Constraint}
 use Rattle.sv_constraints.specs.declared.constraint.Methods.{Methods}
 use Rattle.sv_constraints.specs.declared.constraint.Methods.TheVariants.{All as AllMethods, Only, Except}
 use Rattle.sv_constraints.specs.declared.constraint.Rules.{Rules}
-use Rattle.sv_policy.proofs.Best.{found_in}
+use Rattle.sv_policy.proofs.Best.{found_in, or_right}
 use Rattle.sv_policy.proofs.Listed.{covers_listed, different_lists, listed_by}
 use Rattle.sv_policy.proofs.Rising.{rising_lists}
 use Rattle.sv_policy.proofs.Steps.{any_of_joined, passing_lists}
@@ -36,16 +35,16 @@ use Rattle.sv_audit.proofs.Callers.{apart, opens}
 use Rattle.sv_audit.proofs.DifferenceLemmas.{fate_by}
 use Rattle.sv_audit.proofs.Equal.{and_left, and_right, both}
 use Rattle.sv_audit.proofs.Filters.{all_fail}
-use Rattle.sv_audit.proofs.Found.{any_of, in_texts, root_matches}
+use Rattle.sv_audit.proofs.Found.{any_of, in_texts, ordered_lists, root_matches}
 use Rattle.sv_audit.proofs.RowCells.{row_cell}
 use Rattle.sv_audit.proofs.Said.{said}
 use Rattle.sv_audit.proofs.Witness.{found}
 use Rattle.sv_audit.specs.Access.{cell_at, roles_meant}
-use Rattle.sv_findings.proofs.OpenedLemmas.{AreOpen, AreOpenFor, are_open, fresh, is_fresh, kept_all, kept_any, opened_exact, some_open}
+use Rattle.sv_findings.proofs.OpenedLemmas.{AreOpen, AreOpenFor, are_open, fresh, is_fresh, kept_all, opened_exact, some_open}
 use Rattle.sv_audit.proofs.Shapes.{IsShaped, nothing_matches, served_shaped}
 use Rattle.sv_findings.specs.Dead.{is_tried_late, dead_among, dead_patterns, dead_patterns_in, decides_nothing, escaped, escaped_in, exact_pattern, is_beaten, is_beaten_folder, is_dead, is_escaped}
 use Rattle.sv_audit.specs.Shapes.{matches_nothing}
-use Rattle.sv_findings.specs.FindingLaws.{BestDecides, ChangesNothing, FindingsAreRight, IsMeant, IsNeverBest, IsOpen, IsOverruled, IsRestricted, IsRight, IsShut, configuration_of, names_in}
+use Rattle.sv_findings.specs.FindingLaws.{BestDecides, ChangesNothing, FindingsAreRight, IsBase, IsMeant, IsMet, IsNeverBest, IsOpen, IsOverruled, IsRestricted, IsRight, IsShut, LeadsToLogin, Means, configuration_of, names_in}
 use Rattle.sv_audit.specs.Shapes.{IsServed}
 use Rattle.sv_findings.specs.Opened.{opened_at, opened_for, opened_methods, opened_pair}
 use Rattle.sv_findings.specs.RoleFindings.{is_role, is_unheld, is_unknown, is_unused, named_roles, role_findings, unheld_roles, unknown_among, unknown_roles, unused_roles}
@@ -55,11 +54,12 @@ use Rattle.sv_findings.proofs.FolderLemmas.{taken}
 use Rattle.sv_findings.proofs.OverruledLemmas.{changes_nothing, not_at}
 use Rattle.sv_findings.specs.Overruled.{compared, is_overruled, overruled, overruled_in}
 use Rattle.sv_findings.specs.Uncovered.{is_left_open, is_left_out, uncovered_at}
-use Rattle.sv_findings.specs.MetRows.{is_row_met}
+use Rattle.sv_findings.specs.MetRows.{is_pattern_met, is_row_met}
 use Rattle.sv_findings.specs.Reach.{is_reached}
 use Rattle.sv_findings.specs.Readings.{extensions_first, first_restricting, is_extension_row, is_late, is_late_match, is_other_row, is_prefix, late_rows, read_as, read_at, read_otherwise, restricts_one, restricts_part, share_method}
 use Rattle.sv_findings.proofs.MeetingForms.{none_held, none_meets}
-use Rattle.sv_findings.specs.LoginNeeds.{bars, is_barred, is_loaded, login_needs, needed_at, needed_of, needed_paths, parts, references_after, target_of}
+use Rattle.sv_findings.specs.LoginNeeds.{asked_at, asked_folders, bars, base_folders, first_given, folder_of, folder_of_form, target_in, is_absolute, is_asked, is_barred, loaded_references, login_needs, needed_at, needed_by, needed_of, needed_paths, path_part}
+use Rattle.sv_findings.specs.declared.asked_folders.TheConstants.{MAX_ASKED_FOLDERS}
 use Rattle.sv_findings.specs.declared.surroundings.LoginPage.{LoginPage}
 use Rattle.sv_findings.specs.Reach.{serves}
 use Rattle.sv_constraints.specs.declared.owned_decision.OwnedDecision.{OwnedDecision}
@@ -73,7 +73,7 @@ use Rattle.sv_findings.specs.Unreached.{is_unreached, unreached, unreached_in}
 use Rattle.sv_findings.specs.declared.surroundings.Surroundings.{Surroundings}
 use Rattle.sv_findings.specs.Heads.{head_at, head_on, straying, strays}
 use Rattle.sv_audit.specs.DifferenceLaws.{fate_of}
-use Rattle.sv_audit.specs.Visitors.{decided_by, effective, known}
+use Rattle.sv_audit.specs.Visitors.{decided_by, effective, known, needs_login}
 use Rattle.sv_audit.specs.Reading.{IsDenied, Kind, NeedsLogin, Passes, kind_and_cause, said_to}
 use Rattle.sv_audit.specs.Rows.{in_row_order, match_every_path, other_paths, row_at, table_of}
 use Rattle.sv_audit.specs.declared.access.Access.{Access}
@@ -591,44 +591,178 @@ barred_kind (Open why) is passes = false≢true is
 barred_kind (Login why) is passes = let apart : NeedsLogin ≡ Passes = passes in cc
 barred_kind (Denied why) is passes = let apart : IsDenied ≡ Passes = passes in cc
 
+login_said : (access : Access) → needs_login access ≡ true → (said_to None access).0 ≡ NeedsLogin
+login_said Unconstrained is = absurd (false≢true is)
+login_said Uncovered is = absurd (false≢true is)
+login_said UncoveredDenied is = absurd (false≢true is)
+login_said Precluded is = absurd (false≢true is)
+login_said NeedsTls is = absurd (false≢true is)
+login_said Everyone is = absurd (false≢true is)
+login_said AnyLogin is = refl
+login_said (Roles names) is = refl
+
+only_text : (own text : List ℕ) → lists (own ∷ []) text ≡ true → own ≡ text
+only_text own text there = elim (or_cases (bytes_eq own text) false there) [ inl same ↦ (bytes_eq-Decides own text).0 same | inr none ↦ absurd (false≢true none) ]
+
+in_option : (found : Option (List ℕ)) (text : List ℕ) → lists (option_to_list found) text ≡ true → found ≡ Some text
+in_option None text there = absurd (false≢true there)
+in_option (Some own) text there = ap Some (only_text own text there)
+
+-- The first path that a function gives is that of one of the folders.
+module _ (given : List ℕ → Option (List ℕ)) (path : List ℕ) where
+  abbrev IsGiven : List (List ℕ) → Type 0
+  IsGiven folders = (folder : List ℕ) × (lists folders folder ≡ true) × (given folder ≡ Some path)
+
+  given_at : (folder : List ℕ) (folders : List (List ℕ)) (first : Option (List ℕ)) → given folder ≡ first → option_or first (first_given given folders) ≡ Some path
+      → (first_given given folders ≡ Some path → IsGiven folders) → IsGiven (folder ∷ folders)
+  given_at folder folders (Some own) is gives later = (folder, ap (λ b. b || lists folders folder) ((bytes_eq-Decides folder folder).1 refl), is ∙ gives)
+  given_at folder folders None is gives later = let it : IsGiven folders = later gives in (it.0, or_right (bytes_eq folder it.0) (lists folders it.0) it.1, it.2)
+
+  pub given_by : (folders : List (List ℕ)) → first_given given folders ≡ Some path → IsGiven folders
+  given_by [] gives = let no : ⊥ = cc in absurd no
+  given_by (folder ∷ folders) gives = given_at folder folders (given folder) refl gives (λ later. given_by folders later)
+
+base_in : (hidden : Bool) (own : List ℕ) (asked : List (List ℕ)) (folder : List ℕ) → lists (cond hidden [] (own ∷ []) ++ asked) folder ≡ true → ((hidden ≡ false) × (folder ≡ own)) ⊎ (lists asked folder ≡ true)
+base_in true own asked folder there = inr there
+base_in false own asked folder there = elim (or_cases (bytes_eq own folder) (lists asked folder) there) [ inl same ↦ inl (refl, sym ((bytes_eq-Decides own folder).0 same)) | inr later ↦ inr later ]
+
+taken_in : (most : ℕ) (texts : List (List ℕ)) (text : List ℕ) → lists (take most texts) text ≡ true → lists texts text ≡ true
+taken_in most texts text there =
+    ap (λ all. lists all text) (sym (take-append-drop most texts)) ∙ list_any-append (λ listed. bytes_eq listed text) (take most texts) (drop most texts)
+    ∙ ap (λ b. b || lists (drop most texts) text) there
+
+abbrev pub asks_in : List ℕ → Row → Bool
+asks_in folder row = lists (asked_at row.pattern row.groups) folder
+
+asked_in : (has_login : Bool) (rows : List Row) (folder : List ℕ) → lists (asked_folders has_login rows) folder ≡ true → (has_login ≡ true) × (list_any (asks_in folder) rows ≡ true)
+asked_in false rows folder there = absurd (false≢true there)
+asked_in true rows folder there =
+    let all : List (List ℕ) = flat_map (λ (row : Row). asked_at row.pattern row.groups) rows in (
+      refl,
+      sym (any_of_joined (λ listed. bytes_eq listed folder) (λ (row : Row). asked_at row.pattern row.groups) rows) ∙ sym (different_lists all folder) ∙ taken_in MAX_ASKED_FOLDERS (different all) folder there,
+    )
+
 module _ (constraints : List Constraint) (rules : Rules) (surroundings : Surroundings) where
+  -- ---- The folders in which a GET without a caller leads to a login.
+  abbrev IsAsked : List ℕ → Type 0
+  IsAsked folder = (pattern : List ℕ) × LeadsToLogin constraints rules surroundings pattern × (folder ≡ folder_of_form (form pattern))
+
+  abbrev pub asked_groups : List ℕ → List Group
+  asked_groups pattern = (row_at constraints rules pattern).groups
+
+  login_needed : (pattern : List ℕ) → list_any is_asked (asked_groups pattern) ≡ true → (path : List ℕ) → best_pattern (all_patterns constraints) path ≡ Some pattern → (kind_and_cause (verdict constraints rules (codes "GET") path None)).0 ≡ NeedsLogin
+  login_needed pattern some path best =
+      found ((kind_and_cause (verdict constraints rules (codes "GET") path None)).0 ≡ NeedsLogin) is_asked (asked_groups pattern) some
+      (λ k d within its.
+      let group : Group = slice_index_or (asked_groups pattern) k d in
+      sym (ap (λ (x : Kind × Cause). x.0) (says constraints rules pattern (codes "GET") path None group.cell best (in_row constraints rules pattern (codes "GET") k d within (and_left (has_method (codes "GET") group) (needs_login group.cell.access) its))))
+      ∙ login_said group.cell.access (and_right (has_method (codes "GET") group) (needs_login group.cell.access) its))
+
+  asked_from : (folder pattern : List ℕ) (asked : Bool) → list_any is_asked (asked_groups pattern) ≡ asked → surroundings.has_login ≡ true → lists (all_patterns constraints) pattern ≡ true → IsMet constraints surroundings pattern
+      → lists (cond asked (folder_of_form (form pattern) ∷ []) []) folder ≡ true → IsAsked folder
+  asked_from folder pattern true is login listed reached there =
+      (pattern, record { has_login = login; is_listed = listed; is_met = reached; needs_login = login_needed pattern is }, sym (only_text (folder_of_form (form pattern)) folder there))
+  asked_from folder pattern false is login listed reached there = absurd (false≢true there)
+
+  row_asked : (folder : List ℕ) (pattern : Option (List ℕ)) (row_groups : List Group) → surroundings.has_login ≡ true → ((text : List ℕ) → pattern ≡ Some text → row_groups ≡ asked_groups text) → ((text : List ℕ) → pattern ≡ Some text → lists (all_patterns constraints) text ≡ true)
+      → is_pattern_met surroundings.contexts surroundings.path (all_patterns constraints) pattern ≡ true → lists (asked_at pattern row_groups) folder ≡ true → IsAsked folder
+  row_asked folder None row_groups login made listed reached there = absurd (false≢true there)
+  row_asked folder (Some pattern) row_groups login made listed reached there =
+      asked_from folder pattern (list_any is_asked (asked_groups pattern)) refl login (listed pattern refl) reached (sym (ap (λ groups_there. lists (asked_at (Some pattern) groups_there) folder) (made pattern refl)) ∙ there)
+
+  -- Each row of a pattern is that of a listed one.
+  abbrev HasListed : Row → Type 0
+  HasListed row = (pattern : List ℕ) → row.pattern ≡ Some pattern → lists (all_patterns constraints) pattern ≡ true
+
+  listed_last : (closed : Bool) → All HasListed (cond closed [] (other_paths ∷ []))
+  listed_last true = All-nil HasListed
+  listed_last false = All-cons HasListed other_paths [] (λ pattern is. cc) (All-nil HasListed)
+
+  listed_at : (text pattern : List ℕ) → lists (all_patterns constraints) text ≡ true → Some text ≡ Some pattern → lists (all_patterns constraints) pattern ≡ true
+  listed_at text pattern there is = let same : text ≡ pattern = cc in ap (lists (all_patterns constraints)) (sym same) ∙ there
+
+  all_listed : All HasListed (table_of constraints rules).rows
+  all_listed =
+      let ordered : List (List ℕ) = in_row_order (all_patterns constraints) in
+      All-append HasListed (map (row_at constraints rules) ordered) (cond (match_every_path (all_patterns constraints)) [] (other_paths ∷ []))
+      (All-map HasListed (row_at constraints rules) ordered
+      (λ k d within pattern is. listed_at (slice_index_or ordered k d) pattern (sym (ordered_lists (all_patterns constraints) (slice_index_or ordered k d)) ∙ in_texts ordered (slice_index_or ordered k d) (All-contains_itself ordered k d within)) is))
+      (listed_last (match_every_path (all_patterns constraints)))
+
+  abbrev is_met_row : Row → Bool
+  is_met_row = is_row_met surroundings.contexts surroundings.path (all_patterns constraints)
+
+  abbrev met_here : List Row
+  met_here = the_rows constraints rules surroundings
+
+  abbrev pub asked_here : List (List ℕ)
+  asked_here = asked_folders surroundings.has_login met_here
+
+  asked_folder : (folder : List ℕ) → lists asked_here folder ≡ true → IsAsked folder
+  asked_folder folder there =
+      let its : (surroundings.has_login ≡ true) × (list_any (asks_in folder) met_here ≡ true) = asked_in surroundings.has_login met_here folder there in
+      found (IsAsked folder) (asks_in folder) met_here its.1
+      (λ k d within asks.
+      row_asked folder (slice_index_or met_here k d).pattern (slice_index_or met_here k d).groups its.0 (reached_made constraints rules surroundings k d within)
+      (kept_all HasListed is_met_row (table_of constraints rules).rows (λ j e inside passing. all_listed j e inside) k d within)
+      (kept_all (λ (row : Row). is_met_row row ≡ true) is_met_row (table_of constraints rules).rows (λ j e inside passing. passing) k d within) asks)
+
+  -- ---- The paths that a request without a caller may not get.
   abbrev IsBarred : List ℕ → Type 0
   IsBarred path = is_barred constraints rules path ≡ true
 
-  one_barred : (within path : List ℕ) (served barred : Bool) → is_barred constraints rules within ≡ barred → lists (cond (served && barred) (within ∷ []) []) path ≡ true → IsBarred path
-  one_barred within path false barred is there = absurd (false≢true there)
-  one_barred within path true false is there = absurd (false≢true there)
-  one_barred within path true true is there = elim (or_cases (bytes_eq within path) false there) [ inl same ↦ ap (is_barred constraints rules) (sym ((bytes_eq-Decides within path).0 same)) ∙ is | inr none ↦ absurd (false≢true none) ]
+  one_barred : (within path : List ℕ) (served barred : Bool) → is_barred constraints rules within ≡ barred → cond (served && barred) (Some within) None ≡ Some path → IsBarred path
+  one_barred within path false barred is gives = let no : ⊥ = cc in absurd no
+  one_barred within path true false is gives = let no : ⊥ = cc in absurd no
+  one_barred within path true true is gives = let same : within ≡ path = cc in ap (is_barred constraints rules) (sym same) ∙ is
 
-  abbrev needs : List ℕ → List (List ℕ)
+  abbrev pub needs : List ℕ → Option (List ℕ)
   needs target = needed_at surroundings.contexts surroundings.path constraints rules target
 
-  barred_of : (path : List ℕ) (result : Result Canon PathFault) → lists (needed_of surroundings.contexts surroundings.path constraints rules result) path ≡ true → IsBarred path
-  barred_of path (Ok canon) there =
+  barred_of : (path : List ℕ) (result : Result Canon PathFault) → needed_of surroundings.contexts surroundings.path constraints rules result ≡ Some path → IsBarred path
+  barred_of path (Ok canon) gives =
       one_barred (path_within surroundings.path canon.path) path (is_at_or_below surroundings.path canon.path && serves surroundings.contexts surroundings.path canon.path && not (is_protected (path_within surroundings.path canon.path)))
-      (is_barred constraints rules (path_within surroundings.path canon.path)) refl there
-  barred_of path (Err fault) there = absurd (false≢true there)
+      (is_barred constraints rules (path_within surroundings.path canon.path)) refl gives
+  barred_of path (Err fault) gives = let no : ⊥ = cc in absurd no
 
+  -- ---- The references of the page.
   module _ (page : LoginPage) (known : surroundings.login_page ≡ Some page) where
-    abbrev named_by_page : List (List ℕ)
-    named_by_page = references_after [] (parts page.text)
+    abbrev pub folders_here : List (List ℕ)
+    folders_here = base_folders page.path asked_here
 
-    abbrev all_needed : List (List ℕ)
-    all_needed = needed_paths surroundings.contexts surroundings.path constraints rules page
+    abbrev pub loaded : List (List ℕ)
+    loaded = loaded_references page.text
+
+    abbrev pub needed_here : List ℕ → Option (List ℕ)
+    needed_here reference = needed_by surroundings.contexts surroundings.path constraints rules folders_here reference
+
+    abbrev pub all_needed : List (List ℕ)
+    all_needed = needed_paths surroundings.contexts surroundings.path constraints rules folders_here page.text
+
+    is_base : (folder : List ℕ) → lists folders_here folder ≡ true → IsBase constraints rules surroundings page folder
+    is_base folder there = elim (base_in (is_protected page.path) (folder_of page.path) asked_here folder there) [ inl own ↦ inl own | inr asked ↦ inr (asked_folder folder asked) ]
+
+    abbrev pub IsReferred : List ℕ → List ℕ → Type 0
+    IsReferred reference path = (target : List ℕ) × Means constraints rules surroundings page reference target × (needs target ≡ Some path)
+
+    pub referred : (reference path : List ℕ) (absolute : Bool) → is_absolute reference ≡ absolute
+        → cond absolute (needs (path_part reference)) (first_given (λ folder. needs (target_in surroundings.path folder (path_part reference))) folders_here) ≡ Some path → IsReferred reference path
+    referred reference path true is gives = (path_part reference, inl (is, refl), gives)
+    referred reference path false is gives =
+        let it : IsGiven (λ folder. needs (target_in surroundings.path folder (path_part reference))) path folders_here = given_by (λ folder. needs (target_in surroundings.path folder (path_part reference))) path folders_here gives in
+        (target_in surroundings.path it.0 (path_part reference), inr (is, it.0, is_base it.0 it.1, refl), it.2)
 
     need_at : (path : List ℕ) → lists (different all_needed) path ≡ true → IsRight constraints rules surroundings (finding.LoginNeeds path)
     need_at path there =
-        found (IsRight constraints rules surroundings (finding.LoginNeeds path)) (λ reference. is_loaded reference && lists (needs (target_of surroundings.path page.path reference)) path) named_by_page
-        (sym (any_of_joined (λ listed. bytes_eq listed path) (λ reference. needs (target_of surroundings.path page.path reference)) (filter is_loaded named_by_page)
-        ∙ kept_any (λ reference. lists (needs (target_of surroundings.path page.path reference)) path) is_loaded named_by_page)
-        ∙ sym (different_lists all_needed path) ∙ there)
+        found (IsRight constraints rules surroundings (finding.LoginNeeds path)) (λ reference. lists (option_to_list (needed_here reference)) path) loaded
+        (sym (any_of_joined (λ listed. bytes_eq listed path) (λ reference. option_to_list (needed_here reference)) loaded) ∙ sym (different_lists all_needed path) ∙ there)
         (λ k d within its.
-        let reference : List ℕ = slice_index_or named_by_page k d in
-        let needed : lists (needs (target_of surroundings.path page.path reference)) path ≡ true = and_right (is_loaded reference) (lists (needs (target_of surroundings.path page.path reference)) path) its in (
+        let reference : List ℕ = slice_index_or loaded k d in
+        let it : IsReferred reference path = referred reference path (is_absolute reference) refl (in_option (needed_here reference) path its) in (
           page,
           known,
-          barred_kind (verdict constraints rules (codes "GET") path None) (barred_of path (canonical (target_of surroundings.path page.path reference)) needed),
-          (reference, in_texts named_by_page reference (All-contains_itself named_by_page k d within), needed),
+          barred_kind (verdict constraints rules (codes "GET") path None) (barred_of path (canonical it.0) it.2),
+          (reference, in_texts loaded reference (All-contains_itself loaded k d within), it),
         ))
 
     needs_right : All (IsRight constraints rules surroundings) (map finding.LoginNeeds (different all_needed))
@@ -636,7 +770,7 @@ module _ (constraints : List Constraint) (rules : Rules) (surroundings : Surroun
         All-map (IsRight constraints rules surroundings) finding.LoginNeeds (different all_needed)
         (λ k d within. need_at (slice_index_or (different all_needed) k d) (in_texts (different all_needed) (slice_index_or (different all_needed) k d) (All-contains_itself (different all_needed) k d within)))
 
-  page_right : (page : Option LoginPage) → surroundings.login_page ≡ page → All (IsRight constraints rules surroundings) (login_needs surroundings.contexts surroundings.path constraints rules page)
+  page_right : (page : Option LoginPage) → surroundings.login_page ≡ page → All (IsRight constraints rules surroundings) (login_needs surroundings.contexts surroundings.path constraints rules surroundings.has_login met_here page)
   page_right None known = All-nil (IsRight constraints rules surroundings)
   page_right (Some page) known = needs_right page known
 
@@ -741,7 +875,7 @@ module _ (constraints : List Constraint) (rules : Rules) (surroundings : Surroun
       (unused_right constraints rules surroundings)
 
   abbrev by_page : List Finding
-  by_page = login_needs surroundings.contexts surroundings.path constraints rules surroundings.login_page
+  by_page = login_needs surroundings.contexts surroundings.path constraints rules surroundings.has_login rows surroundings.login_page
 
   abbrev by_pattern : List Finding
   by_pattern = pattern_findings constraints rules surroundings.contexts surroundings.path surroundings

@@ -7,7 +7,7 @@ use Rattle.std.specs.Prelude.{nat_eq}
 use Rattle.std.specs.List.{ends_with}
 use Rattle.std.specs.Str.{bytes_eq}
 use Rattle.sv_mapping.specs.BestMatch.{form_rank, is_above, outranks}
-use Rattle.sv_mapping.specs.Pattern.{Root, Default, Prefix, Exact, form, form_matches, is_at_or_below, matches}
+use Rattle.sv_mapping.specs.Pattern.{Default, Prefix, Exact, form, form_matches, matches}
 use Rattle.sv_mapping.proofs.Rooted.{rooted_cases}
 use Rattle.sv_mapping.proofs.TriedTexts.{form-empty}
 use Rattle.sv_audit.proofs.Shapes.{IsShaped, filled_end}

@@ -90,7 +90,7 @@ module _ (constraints : List Constraint) (rules : Rules) (pattern : List ℕ) wh
   abbrev cell_for : List ℕ → Cell
   cell_for method = cell_at rules (Some pattern) (covering constraints (Some pattern) method)
 
-  some_group : (method : List ℕ) → list_any (has_method method) groups ≡ true
+  pub some_group : (method : List ℕ) → list_any (has_method method) groups ≡ true
   some_group method =
       sym (some_filtered (has_method method) groups)
       ∙ ap (λ n. not (n == 0)) (sym (length_seen (λ (x : Group). x.cell) (filter (has_method method) groups)) ∙ ap length (row_cell constraints rules pattern method))
@@ -132,7 +132,7 @@ module _ (constraints : List Constraint) (rules : Rules) (pattern : List ℕ) wh
       ∙ any_in (λ p. test (row_at constraints rules p)) (in_row_order (all_patterns constraints)) pattern (ordered_lists (all_patterns constraints) pattern ∙ there) some)
 
   -- It is found among the rows that requests meet, if they meet it.
-  row_found : (surroundings : Surroundings) (test : Row → Bool) → lists (all_patterns constraints) pattern ≡ true → IsMet constraints surroundings pattern → test (row_at constraints rules pattern) ≡ true
+  pub row_found : (surroundings : Surroundings) (test : Row → Bool) → lists (all_patterns constraints) pattern ≡ true → IsMet constraints surroundings pattern → test (row_at constraints rules pattern) ≡ true
       → list_any test (the_rows constraints rules surroundings) ≡ true
   row_found surroundings test there reached some =
       kept_any test (is_row_met surroundings.contexts surroundings.path (all_patterns constraints)) (table_of constraints rules).rows
@@ -182,7 +182,7 @@ module _ (constraints : List Constraint) (rules : Rules) (surroundings : Surroun
   by_pattern = pattern_findings constraints rules surroundings.contexts surroundings.path surroundings
 
   abbrev by_page : List Finding
-  by_page = login_needs surroundings.contexts surroundings.path constraints rules surroundings.login_page
+  by_page = login_needs surroundings.contexts surroundings.path constraints rules surroundings.has_login (the_rows constraints rules surroundings) surroundings.login_page
 
   abbrev by_role : List Finding
   by_role = role_findings rules.declared surroundings.held constraints
@@ -192,6 +192,9 @@ module _ (constraints : List Constraint) (rules : Rules) (surroundings : Surroun
 
   among_patterns : list_any test by_pattern ≡ true → IsAmong
   among_patterns some = any_first test (by_row ++ by_pattern ++ by_page) by_role (any_first test (by_row ++ by_pattern) by_page (any_last test by_row by_pattern some))
+
+  pub among_page : list_any test by_page ≡ true → IsAmong
+  among_page some = any_first test (by_row ++ by_pattern ++ by_page) by_role (any_last test (by_row ++ by_pattern) by_page some)
 
   among_opened : list_any test o ≡ true → IsAmong
   among_opened some = among_rows (any_first test (o ++ u ++ r) h (any_first test (o ++ u) r (any_first test o u some)))

@@ -7,6 +7,7 @@ pub mod OverruledSteps
 pub mod OverruledLemmas
 pub mod FindingLemmas
 pub mod FoundFindings
+pub mod FoundNeeds
 pub mod SearchedFindings
 pub mod UncomparedSteps
 pub mod RemovedLemmas

@@ -1,9 +1,10 @@
 -- What findings say of the verdicts (Jakarta Servlet 6.0, sections 3.5.2, 12.1, 13.6 and 13.8).
-use Rattle.std.specs.Prelude.{◌≡◌, ◌≢◌, ◌≤◌, ℕ, Bool, true, false, ◌&&◌, ◌||◌, ◌==◌, List, [], length, codes, filter, Option, None, Some, All, Contains, IsTrue}
+use Rattle.std.specs.Prelude.{◌≡◌, ◌≢◌, ◌≤◌, ℕ, Bool, true, false, ◌&&◌, ◌||◌, ◌==◌, ◌⊎◌, List, [], length, codes, filter, Option, None, Some, All, Contains, IsTrue}
 use Rattle.std.specs.List.{list_any}
 use Rattle.std.specs.Str.{bytes_eq}
 use Rattle.sv_mapping.specs.BestMatch.{best_pattern}
 use Rattle.sv_mapping.specs.Pattern.{form, matches}
+use Rattle.sv_mapping.specs.Protected.{is_protected}
 use Rattle.sv_realm.specs.declared.caller.Caller.{Caller}
 use Rattle.sv_constraints.specs.Covering.{all_patterns, covering, covers, covers_method, lists, patterns_in}
 use Rattle.sv_constraints.specs.Verdict.{is_open, verdict, verdict_at}
@@ -24,17 +25,18 @@ use Rattle.sv_overruled.specs.Overruled.{others}
 use Rattle.sv_findings.specs.Overruled.{compared}
 use Rattle.sv_findings.specs.Unsearched.{is_overruled_kind, is_unserved_kind, unsearched}
 use Rattle.sv_overruled.specs.declared.overruled.TheConstants.{MAX_COMPARED_AT_PATTERN}
-use Rattle.sv_findings.specs.Findings.{findings_of}
+use Rattle.sv_findings.specs.Findings.{findings_of, met_rows}
 use Rattle.sv_findings.specs.Reach.{is_reached}
 use Rattle.sv_findings.specs.MetRows.{is_met}
 use Rattle.sv_findings.specs.Readings.{is_prefix}
 use Rattle.sv_findings.specs.Unserved.{holds, is_unserved, reached_files}
-use Rattle.sv_findings.specs.LoginNeeds.{needed_at, parts, references_after, target_of}
+use Rattle.sv_findings.specs.LoginNeeds.{all_asked, folder_of, folder_of_form, target_in, is_absolute, loaded_references, needed_at, path_part}
 use Rattle.sv_findings.specs.declared.surroundings.LoginPage.{LoginPage}
-use Rattle.sv_audit.specs.Reading.{Kind, Passes, kind_and_cause, said_to}
+use Rattle.sv_audit.specs.Reading.{Kind, NeedsLogin, Passes, kind_and_cause, said_to}
 use Rattle.sv_audit.specs.Rows.{table_of}
 use Rattle.sv_audit.specs.Secure.{secure}
 use Rattle.sv_audit.specs.declared.access.Access.{Access}
+use Rattle.sv_findings.specs.declared.asked_folders.TheConstants.{MAX_ASKED_FOLDERS}
 use Rattle.sv_findings.specs.declared.finding.Finding.{Finding}
 use Rattle.sv_findings.specs.declared.finding.Finding.TheVariants.{Opened, Uncovered, ReadOtherwise, HeadDiffers, Dead, DeadPattern, Overruled, Unreached, Unserved, Escaped, LoginNeeds, UnknownRole, UnheldRole, UnusedRole}
 use Rattle.sv_findings.specs.declared.surroundings.Surroundings.{Surroundings}
@@ -122,6 +124,28 @@ IsOverruled constraints rules its_number = (constraint : Constraint) × Contains
 abbrev pub AreFew : List Constraint → List ℕ → Type 0
 AreFew constraints pattern = (length (filter (λ constraint. lists_pattern constraint pattern) constraints) ≤ MAX_COMPARED_AT_PATTERN) × (length (rising (named_methods constraints pattern)) ≤ MAX_COMPARED_AT_PATTERN)
 
+-- Some requests may reach the pattern and have it as their best match.
+abbrev pub IsMet : List Constraint → Surroundings → List ℕ → Type 0
+IsMet constraints surroundings pattern = IsTrue (is_met surroundings.contexts surroundings.path (all_patterns constraints) pattern)
+
+-- Requests meet the pattern of a constraint, and a GET without a caller leads to a login at each of its paths.
+pub record LeadsToLogin (constraints : List Constraint) (rules : Rules) (surroundings : Surroundings) (pattern : List ℕ) : Type 0 where
+  pub has_login : surroundings.has_login ≡ true
+  pub is_listed : IsTrue (lists (all_patterns constraints) pattern)
+  pub is_met : IsMet constraints surroundings pattern
+  pub needs_login : (path : List ℕ) → best_pattern (all_patterns constraints) path ≡ Some pattern → (kind_and_cause (verdict constraints rules (codes "GET") path None)).0 ≡ NeedsLogin
+
+-- A browser may resolve the relative references of the page against the folder. It is that of the page, which is not hidden,
+-- or that of a pattern at which a GET without a caller leads to a login: there the page is the answer, by a forward.
+abbrev pub IsBase : List Constraint → Rules → Surroundings → LoginPage → List ℕ → Type 0
+IsBase constraints rules surroundings page folder = ((is_protected page.path ≡ false) × (folder ≡ folder_of page.path))
+    ⊎ ((pattern : List ℕ) × LeadsToLogin constraints rules surroundings pattern × (folder ≡ folder_of_form (form pattern)))
+
+-- The target is the path of the reference, or this path in such a folder if the reference is relative.
+abbrev pub Means : List Constraint → Rules → Surroundings → LoginPage → List ℕ → List ℕ → Type 0
+Means constraints rules surroundings page reference target = (IsTrue (is_absolute reference) × (target ≡ path_part reference))
+    ⊎ ((is_absolute reference ≡ false) × (folder : List ℕ) × IsBase constraints rules surroundings page folder × (target ≡ target_in surroundings.path folder (path_part reference)))
+
 -- Everyone passes with each of the methods, which a constraint with an authorization constraint covers, too, and both
 -- constraints cover one of them; each method of the finding passes at each path of the pattern, since it is uncovered;
 -- each method is uncovered at a prefix pattern, but some constraint covers one of them at a pattern that is tried later,
@@ -130,7 +154,8 @@ AreFew constraints pattern = (length (filter (λ constraint. lists_pattern const
 -- constraint, with its transport requirements, changes nothing at each of its patterns that is the best match of the path
 -- of a request; the constraint has the pattern, which is not reached; the constraint has the pattern, the files are known, and at no path that it matches is there a servlet,
 -- a file that requests reach, or a folder that holds one; the constraint has the pattern, with a percent sign; the login page refers to the
--- path, and a request without a caller does not pass there; the constraint names the role, which is not declared; a
+-- path, directly or from a folder in which a GET without a caller leads to a login, and a request without a caller does
+-- not pass there; the constraint names the role, which is not declared; a
 -- constraint means the role, which is declared if any is, and no user has it; the role is declared, and no constraint
 -- means it.
 abbrev pub IsRight : List Constraint → Rules → Surroundings → Finding → Type 0
@@ -155,8 +180,8 @@ IsRight constraints rules surroundings (Unserved its_number pattern) = (constrai
 IsRight constraints rules surroundings (Escaped its_number pattern) = (constraint : Constraint) × Contains constraints constraint × (constraint.number ≡ its_number)
     × IsTrue (lists (patterns_in constraint) pattern) × IsTrue (is_escaped pattern)
 IsRight constraints rules surroundings (LoginNeeds path) = (page : LoginPage) × (surroundings.login_page ≡ Some page) × ((kind_and_cause (verdict constraints rules (codes "GET") path None)).0 ≢ Passes)
-    × ((reference : List ℕ) × IsTrue (lists (references_after [] (parts page.text)) reference)
-    × IsTrue (lists (needed_at surroundings.contexts surroundings.path constraints rules (target_of surroundings.path page.path reference)) path))
+    × ((reference : List ℕ) × IsTrue (lists (loaded_references page.text) reference)
+    × ((target : List ℕ) × Means constraints rules surroundings page reference target × (needed_at surroundings.contexts surroundings.path constraints rules target ≡ Some path)))
 IsRight constraints rules surroundings (UnknownRole its_number role) = (constraint : Constraint) × Contains constraints constraint × (constraint.number ≡ its_number)
     × IsTrue (lists (names_in constraint.auth) role) × (lists rules.declared role ≡ false)
 IsRight constraints rules surroundings (UnheldRole role) = (users : List (List ℕ)) × (surroundings.held ≡ Some users) × IsMeant constraints rules role
@@ -172,10 +197,6 @@ FindingsAreRight = (constraints : List Constraint) (rules : Rules) (surroundings
 abbrev pub BestDecides : Type 0
 BestDecides = (constraints : List Constraint) (path pattern : List ℕ) → IsServed path → best_pattern (all_patterns constraints) path ≡ Some pattern →
     decides_nothing (all_patterns constraints) pattern ≡ false
-
--- Some requests may reach the pattern and have it as their best match.
-abbrev pub IsMet : List Constraint → Surroundings → List ℕ → Type 0
-IsMet constraints surroundings pattern = IsTrue (is_met surroundings.contexts surroundings.path (all_patterns constraints) pattern)
 
 -- Whether the finding says that everyone may use the method at the pattern although it is restricted.
 abbrev pub says_opened : List ℕ → List ℕ → Finding → Bool
@@ -300,3 +321,45 @@ UnservedIsFound = (constraints : List Constraint) (rules : Rules) (surroundings 
     list_any is_unserved_kind (unsearched constraints surroundings) ≡ false → Contains constraints constraint → IsTrue (lists (patterns_in constraint) pattern) →
     IsTrue (is_unserved surroundings.contexts surroundings.path (all_patterns constraints) surroundings.servlets (reached_files surroundings.contexts surroundings.path files) pattern) →
     IsTrue (list_any (says_unserved constraint.number pattern) (findings_of constraints rules (table_of constraints rules) surroundings))
+
+-- Whether the finding says that the login page needs the path.
+abbrev pub says_needed : List ℕ → Finding → Bool
+says_needed path (LoginNeeds its_path) = bytes_eq its_path path
+says_needed path other = false
+
+-- The target is the path of the reference or, if it is relative, this path in the folder of the page, which is not hidden.
+abbrev pub MeansDirectly : Surroundings → LoginPage → List ℕ → List ℕ → Type 0
+MeansDirectly surroundings page reference target = (IsTrue (is_absolute reference) × (target ≡ path_part reference))
+    ⊎ ((is_absolute reference ≡ false) × (is_protected page.path ≡ false) × (target ≡ target_in surroundings.path (folder_of page.path) (path_part reference)))
+
+-- The login page is known, and refers to a style sheet, a script, a picture or a font of this server.
+abbrev pub RefersTo : Surroundings → LoginPage → List ℕ → Type 0
+RefersTo surroundings page reference = (surroundings.login_page ≡ Some page) × IsTrue (lists (loaded_references page.text) reference)
+
+-- Each path is found that a reference of the login page means directly, if a request without a caller may not get it.
+abbrev pub NeedIsFound : Type 0
+NeedIsFound = (constraints : List Constraint) (rules : Rules) (surroundings : Surroundings) (page : LoginPage) (reference target path : List ℕ) → RefersTo surroundings page reference →
+    MeansDirectly surroundings page reference target → needed_at surroundings.contexts surroundings.path constraints rules target ≡ Some path →
+    IsTrue (list_any (says_needed path) (findings_of constraints rules (table_of constraints rules) surroundings))
+
+-- A GET without a caller leads to a login at this path of a pattern that requests meet.
+abbrev pub IsSentToLogin : List Constraint → Rules → Surroundings → List ℕ → List ℕ → Type 0
+IsSentToLogin constraints rules surroundings pattern path = (surroundings.has_login ≡ true) × IsMet constraints surroundings pattern × (best_pattern (all_patterns constraints) path ≡ Some pattern)
+    × ((kind_and_cause (verdict constraints rules (codes "GET") path None)).0 ≡ NeedsLogin)
+
+-- There are no more folders of such patterns than relative references are resolved against.
+abbrev pub AreAllAsked : List Constraint → Rules → Surroundings → Type 0
+AreAllAsked constraints rules surroundings = length (all_asked (met_rows constraints surroundings (table_of constraints rules).rows)) ≤ MAX_ASKED_FOLDERS
+
+-- A finding names a path that the reference means, and that a request without a caller may not get.
+abbrev pub NamesNeedOf : List Constraint → Rules → Surroundings → LoginPage → List ℕ → Type 0
+NamesNeedOf constraints rules surroundings page reference = (path : List ℕ) × (target : List ℕ) × Means constraints rules surroundings page reference target
+    × (needed_at surroundings.contexts surroundings.path constraints rules target ≡ Some path) × IsTrue (list_any (says_needed path) (findings_of constraints rules (table_of constraints rules) surroundings))
+
+-- If a GET without a caller leads to a login at a path, each relative reference of the login page has a finding that a
+-- request without a caller may not get in the folder of the pattern of this path.
+abbrev pub AskedNeedIsFound : Type 0
+AskedNeedIsFound = (constraints : List Constraint) (rules : Rules) (surroundings : Surroundings) (page : LoginPage) (reference pattern path needed : List ℕ) → RefersTo surroundings page reference →
+    is_absolute reference ≡ false → IsSentToLogin constraints rules surroundings pattern path → AreAllAsked constraints rules surroundings →
+    needed_at surroundings.contexts surroundings.path constraints rules (target_in surroundings.path (folder_of_form (form pattern)) (path_part reference)) ≡ Some needed →
+    NamesNeedOf constraints rules surroundings page reference

@@ -45,4 +45,4 @@ met_rows constraints surroundings rows = filter (is_row_met surroundings.context
 -- The findings of constraints and their table, given what surrounds them.
 abbrev pub findings_of : List Constraint → Rules → Table → Surroundings → List Finding
 findings_of constraints rules table surroundings =
-    row_findings constraints surroundings.has_login table.rows (met_rows constraints surroundings table.rows) ++ pattern_findings constraints rules surroundings.contexts surroundings.path surroundings ++ login_needs surroundings.contexts surroundings.path constraints rules surroundings.login_page ++ role_findings rules.declared surroundings.held constraints
+    row_findings constraints surroundings.has_login table.rows (met_rows constraints surroundings table.rows) ++ pattern_findings constraints rules surroundings.contexts surroundings.path surroundings ++ login_needs surroundings.contexts surroundings.path constraints rules surroundings.has_login (met_rows constraints surroundings table.rows) surroundings.login_page ++ role_findings rules.declared surroundings.held constraints

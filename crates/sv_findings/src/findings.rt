@@ -5,12 +5,14 @@ ghost use Rattle.std.specs.List.{flat_map, list_all};
 ghost use Rattle.sv_text.specs.Gives.{GivesAnswer};
 ghost use Rattle.sv_constraints.specs.Covering.{all_patterns};
 ghost use Rattle.sv_findings.specs.Findings as spec;
+ghost use Rattle.sv_findings.specs.LoginNeeds.{login_needs};
 ghost use Rattle.sv_findings.specs.MetRows.{is_row_met};
 ghost use Rattle.sv_findings.specs.Uncovered as uncovered;
 ghost use Rattle.sv_findings.specs.declared.finding.Finding.TheVariants as finding;
 
 use crate::dead::{push_escaped, push_ineffective};
 use crate::finding::Finding;
+use crate::guarded_context::GuardedContext;
 use crate::heads::push_heads;
 use crate::listed_patterns::ListedPatterns;
 use crate::login_needs::push_login_needs;
@@ -69,13 +71,14 @@ pub fn findings_of(
         &reaches,
         surroundings,
     )?;
-    push_login_needs(
+    push_by_page(
         &mut findings,
         alloc,
-        &reaches,
         constraints,
         rules,
-        &surroundings.login_page,
+        &reaches,
+        surroundings,
+        rows.met.as_slice(),
     )?;
     push_by_role(
         &mut findings,
@@ -144,6 +147,34 @@ fn push_by_pattern(
     push_unreached(findings, alloc, reaches, constraints)?;
     push_unserved(findings, alloc, reaches, surroundings, constraints)?;
     push_escaped(findings, alloc, constraints)
+}
+
+/// Appends the findings of the login page, given the rows that requests meet.
+fn push_by_page(
+    findings: &mut Vec<Finding>,
+    alloc: Global,
+    constraints: &[Constraint],
+    rules: &Rules,
+    reaches: &Reaches<'_>,
+    surroundings: &Surroundings,
+    met: &[&Row],
+) -> Result<(), NoMemory>
+    ensures { OnOk result (findings.new.items ≡ findings.old.items
+        ++ login_needs reaches.now.0 reaches.now.1 constraints.now rules.now surroundings.now.has_login (map (λ row. row.now) met.now) surroundings.now.login_page) }
+{
+    let context = GuardedContext {
+        reaches,
+        constraints,
+        rules,
+    };
+    push_login_needs(
+        findings,
+        alloc,
+        &context,
+        surroundings.has_login,
+        met,
+        &surroundings.login_page,
+    )
 }
 
 fn push_uncovered(findings: &mut Vec<Finding>, alloc: Global, rows: &[&Row]) -> Result<(), NoMemory>

@@ -1,9 +1,10 @@
 //! Theorems about findings, each the contract of a function that only calls other theorems.
 
 ghost use Rattle.std.specs.Prelude.{◌≡◌};
+ghost use Rattle.sv_findings.specs.declared.asked_folders.TheConstants.{MAX_ASKED_FOLDERS};
 ghost use Rattle.sv_findings.specs.declared.unserved.TheConstants.{MAX_SERVED_PATTERNS};
 ghost use Rattle.sv_findings.specs.Reach.{ElsewhereIsForeign, HiddenIsProtected, ServedIsReached};
-ghost use Rattle.sv_findings.specs.FindingLaws.{BestDecides, DeadIsFound, FindingsAreRight, HeadIsFound, OpenedIsFound, OverruledIsFound, OverruledIsRemovable, ReadingIsFound, SearchedIsFound, UncoveredIsFound, UnreachedIsFound, UnservedIsFound};
+ghost use Rattle.sv_findings.specs.FindingLaws.{AskedNeedIsFound, BestDecides, DeadIsFound, FindingsAreRight, HeadIsFound, NeedIsFound, OpenedIsFound, OverruledIsFound, OverruledIsRemovable, ReadingIsFound, SearchedIsFound, UncoveredIsFound, UnreachedIsFound, UnservedIsFound};
 
 use sv_mapping::laws::{best_exists, best_is_a_match, best_is_unique};
 use sv_uri::laws::canonical_has_shape;
@@ -18,8 +19,9 @@ use sv_uri::laws::canonical_has_shape;
 /// constraint each request at one of its patterns is decided alike, over a plain and over a secure connection, by the
 /// constraints with their transport requirements. An
 /// unreached pattern is hidden or belongs to another context, and at no path that an unserved one matches is there a
-/// servlet, a file that requests reach, or a folder that holds one. The login page refers to what it needs, and a
-/// request without a caller does not pass there. An unknown role is named and not declared, an unheld one is named and no user has it, and an
+/// servlet, a file that requests reach, or a folder that holds one. The login page refers to what it needs,
+/// directly or from a folder in which a GET without a caller leads to a login, and a request without a caller does not
+/// pass there. An unknown role is named and not declared, an unheld one is named and no user has it, and an
 /// unused one is declared and not named.
 pub fn findings_are_right()
     ensures { FindingsAreRight }
@@ -33,7 +35,9 @@ pub fn findings_are_right()
 /// some canonical path. No
 /// difference between GET and HEAD for some visitor at such a pattern is missed, no pattern that decides nothing, and
 /// none that no request reaches. No constraint is missed without which each request at its patterns is decided alike, if
-/// few constraints and methods are at each of them.
+/// few constraints and methods are at each of them. No path is missed that a reference of the login page means directly,
+/// and that a request without a caller may not get. If a relative reference means such a path in the folder of a pattern at
+/// which a GET without a caller leads to a login, it has a finding, unless there are too many such folders.
 pub fn findings_are_complete()
     ensures opened { OpenedIsFound }
     ensures uncovered { UncoveredIsFound }
@@ -42,6 +46,8 @@ pub fn findings_are_complete()
     ensures dead { DeadIsFound }
     ensures overruled { OverruledIsFound }
     ensures unreached { UnreachedIsFound }
+    ensures needs { NeedIsFound }
+    ensures asked_needs { AskedNeedIsFound }
 {
     best_is_a_match();
 }
@@ -80,7 +86,8 @@ pub fn reach_is_right()
     ensures reached { ServedIsReached }
 {}
 
-/// The limit of this crate as a number.
+/// The limits of this crate as numbers.
 pub fn limits_are_as_stated()
-    ensures { MAX_SERVED_PATTERNS ≡ 2000 }
+    ensures served { MAX_SERVED_PATTERNS ≡ 2000 }
+    ensures asked { MAX_ASKED_FOLDERS ≡ 200 }
 {}

@@ -2,9 +2,11 @@
 //! Servlet 6.0, section 13.8).
 #![tactic(auto)]
 
+mod asked_folders;
 mod dead;
 mod finding;
 mod findings;
+mod guarded_context;
 mod heads;
 mod laws;
 mod listed_patterns;
@@ -20,6 +22,7 @@ mod unreached;
 mod unsearched;
 mod unserved;
 
+pub use asked_folders::MAX_ASKED_FOLDERS;
 pub use finding::Finding;
 pub use findings::findings_of;
 pub use laws::{
@@ -29,6 +32,7 @@ pub use laws::{
 pub use listed_patterns::ListedPatterns;
 pub use met_rows::{is_met, row_reach};
 pub use reach::{Reach, Reaches, reach_of};
+pub use role_findings::is_role;
 pub use surroundings::{LoginPage, Surroundings};
 pub use unsearched::{Unsearched, unsearched_of};
 pub use unserved::MAX_SERVED_PATTERNS;

@@ -2,22 +2,22 @@
 
 ghost use Rattle.std.specs.Prelude.{◌≡◌, ◌++◌, ◌∷◌, [], IfOk, OnOk, map, codes, if◌then◌else◌};
 ghost use Rattle.std.specs.List.{before_first, list_any, slice_split};
+ghost use Rattle.std.specs.Option.{option_to_list};
 ghost use Rattle.std.specs.Str.{str_eq_ignore_ascii_case};
 ghost use Rattle.sv_policy.specs.Patterns.{different};
 ghost use Rattle.sv_text.specs.Gives.{GivesAnswer};
 ghost use Rattle.sv_findings.specs.LoginNeeds as spec;
 ghost use Rattle.sv_findings.specs.declared.finding.Finding.TheVariants as finding;
 
+use crate::asked_folders::{asked_folders, base_folders};
 use crate::finding::Finding;
-use crate::reach::Reaches;
+use crate::guarded_context::GuardedContext;
 use crate::role_findings::push_once;
 use crate::surroundings::LoginPage;
 use std::alloc::Global;
-use sv_constraints::{Cause, Constraint, Decision, Rules, decide_plain};
-use sv_mapping::{extension, is_at_or_below, is_protected, path_within};
+use sv_audit::Row;
+use sv_mapping::extension;
 use sv_text::{NoMemory, Text};
-use sv_uri::canon;
-use sv_uri::fault::CanonFault;
 
 /// The endings of style sheets, scripts, pictures and fonts.
 const LOADED_ENDINGS: [&str; 11] = [
@@ -25,21 +25,43 @@ const LOADED_ENDINGS: [&str; 11] = [
 ];
 
 /// Appends the paths within the context of style sheets, scripts, pictures and fonts that the login page refers to, and
-/// that a request without a caller may not get, each once. Paths in hidden folders are left out: nobody may get them.
+/// that a request without a caller may not get, each once. A relative reference is resolved against the folder of the
+/// page and, if that gives no such path, against the folders of the met rows at which a GET without a caller leads to a
+/// login: the page is the answer there, by a forward. Paths in hidden folders are left out: nobody may get them.
+///
+/// # Errors
+/// `NoMemory` if memory runs out.
 pub fn push_login_needs(
     findings: &mut Vec<Finding>,
     alloc: Global,
-    reaches: &Reaches<'_>,
-    constraints: &[Constraint],
-    rules: &Rules,
+    context: &GuardedContext<'_, '_>,
+    has_login: bool,
+    met: &[&Row],
     page: &Option<LoginPage>,
 ) -> Result<(), NoMemory>
-    ensures { OnOk result (findings.new.items ≡ findings.old.items ++ spec.login_needs reaches.now.0 reaches.now.1 constraints.now rules.now page.now) }
+    ensures { OnOk result (findings.new.items ≡ findings.old.items
+        ++ spec.login_needs context.now.reaches.now.0 context.now.reaches.now.1 context.now.constraints.now context.now.rules.now has_login (map (λ row. row.now) met.now) page.now) }
 {
     let Some(page) = page else {
         return Ok(());
     };
-    let needed = needed_paths(alloc, reaches, constraints, rules, page)?;
+    let asked = asked_folders(alloc, has_login, met)?;
+    push_needs_of(findings, alloc, context, asked.as_slice(), page)
+}
+
+/// Appends what a page needs, given the folders in which it may be the answer to a request for another path.
+fn push_needs_of(
+    findings: &mut Vec<Finding>,
+    alloc: Global,
+    context: &GuardedContext<'_, '_>,
+    asked: &[&str],
+    page: &LoginPage,
+) -> Result<(), NoMemory>
+    ensures { OnOk result (findings.new.items ≡ findings.old.items
+        ++ spec.needs_of context.now.reaches.now.0 context.now.reaches.now.1 context.now.constraints.now context.now.rules.now (map (λ folder. folder.now) asked.now) page.now) }
+{
+    let folders = base_folders(alloc, page.path.as_str(), asked)?;
+    let needed = needed_paths(alloc, context, folders.as_slice(), page.text.as_str())?;
     push_needed(findings, alloc, needed.as_slice())
 }
 
@@ -62,32 +84,85 @@ fn once_each<'a>(alloc: Global, texts: &'a [Text]) -> Result<Vec<&'a str>, NoMem
     Ok(kept)
 }
 
+/// Returns the paths that the references of a page need in these folders.
 fn needed_paths(
     alloc: Global,
-    reaches: &Reaches<'_>,
-    constraints: &[Constraint],
-    rules: &Rules,
-    page: &LoginPage,
+    context: &GuardedContext<'_, '_>,
+    folders: &[&str],
+    text: &str,
 ) -> Result<Vec<Text>, NoMemory>
-    ensures { IfOk result (λ paths. paths.items ≡ spec.needed_paths reaches.now.0 reaches.now.1 constraints.now rules.now page.now) }
+    ensures { IfOk result (λ paths. paths.items
+        ≡ spec.needed_paths context.now.reaches.now.0 context.now.reaches.now.1 context.now.constraints.now context.now.rules.now (map (λ folder. folder.now) folders.now) text.now) }
 {
-    let parts = parts(alloc, page.text.as_str())?;
+    let parts = parts(alloc, text)?;
     let references = references(alloc, parts.as_slice())?;
     let mut paths = Vec::new(alloc);
     for reference in references.as_slice() {
         if is_loaded(reference) {
-            let target = target_of(alloc, reaches, page.path.as_str(), reference)?;
-            push_path(
-                &mut paths,
-                alloc,
-                reaches,
-                constraints,
-                rules,
-                target.as_str(),
-            )?;
+            push_needed_by(&mut paths, alloc, context, folders, reference)?;
         }
     }
     Ok(paths)
+}
+
+/// Appends the path that a reference needs, if there is one.
+fn push_needed_by(
+    paths: &mut Vec<Text>,
+    alloc: Global,
+    context: &GuardedContext<'_, '_>,
+    folders: &[&str],
+    reference: &str,
+) -> Result<(), NoMemory>
+    ensures { OnOk result (paths.new.items ≡ paths.old.items
+        ++ option_to_list (spec.needed_by context.now.reaches.now.0 context.now.reaches.now.1 context.now.constraints.now context.now.rules.now (map (λ folder. folder.now) folders.now) reference.now)) }
+{
+    if let Some(path) = needed_by(alloc, context, folders, reference)? {
+        paths.push(path)?;
+    }
+    Ok(())
+}
+
+/// Returns the path that a reference needs: a relative one in the first of the folders in which a request without a
+/// caller may not get it.
+fn needed_by(
+    alloc: Global,
+    context: &GuardedContext<'_, '_>,
+    folders: &[&str],
+    reference: &str,
+) -> Result<Option<Text>, NoMemory>
+    ensures { GivesAnswer result (spec.needed_by context.now.reaches.now.0 context.now.reaches.now.1 context.now.constraints.now context.now.rules.now (map (λ folder. folder.now) folders.now) reference.now) }
+{
+    if is_absolute(reference) {
+        context.needed_at(alloc, path_part(reference))
+    } else {
+        first_needed(alloc, context, folders, path_part(reference))
+    }
+}
+
+/// Returns whether the reference has the path of a target.
+fn is_absolute(reference: &str) -> bool
+    ensures { result ≡ spec.is_absolute reference.now }
+{
+    reference.as_bytes().starts_with(b"/")
+}
+
+/// Returns the path of a relative reference in the first of the folders in which a request without a caller may not get
+/// it.
+fn first_needed(
+    alloc: Global,
+    context: &GuardedContext<'_, '_>,
+    folders: &[&str],
+    relative: &str,
+) -> Result<Option<Text>, NoMemory>
+    ensures { GivesAnswer result (spec.first_given (λ folder. spec.needed_at context.now.reaches.now.0 context.now.reaches.now.1 context.now.constraints.now context.now.rules.now
+        (spec.target_in context.now.reaches.now.1 folder relative.now)) (map (λ folder. folder.now) folders.now)) }
+{
+    for folder in folders {
+        if let Some(path) = context.needed_in(alloc, *folder, relative)? {
+            return Ok(Some(path));
+        }
+    }
+    Ok(None)
 }
 
 /// Cuts a text at its quotation marks.
@@ -152,9 +227,21 @@ fn push_reference<'a>(
 fn is_loaded(reference: &str) -> bool
     ensures { result ≡ spec.is_loaded reference.now }
 {
-    !reference.as_bytes().starts_with(b"//")
-        && !reference.as_bytes().contains(&b':')
-        && has_loaded_ending(path_part(reference))
+    is_own(reference) && !is_template(reference) && has_loaded_ending(path_part(reference))
+}
+
+/// Returns whether the reference is to this server: it has no scheme and no authority.
+fn is_own(reference: &str) -> bool
+    ensures { result ≡ spec.is_own reference.now }
+{
+    !reference.as_bytes().starts_with(b"//") && !reference.as_bytes().contains(&b':')
+}
+
+/// Returns whether the reference has a part that is put in when the page is made.
+fn is_template(reference: &str) -> bool
+    ensures { result ≡ spec.is_template reference.now }
+{
+    reference.as_bytes().contains(&b'<') || reference.as_bytes().contains(&b'{')
 }
 
 fn has_loaded_ending(path: &str) -> bool
@@ -201,81 +288,5 @@ fn before_question(text: &str) -> &str
     match text.split_once('?') {
         Some((front, _)) => front,
         None => text,
-    }
-}
-
-/// Returns the target that a reference of the page means.
-fn target_of(
-    alloc: Global,
-    reaches: &Reaches<'_>,
-    page: &str,
-    reference: &str,
-) -> Result<Text, NoMemory>
-    ensures { GivesAnswer result (spec.target_of reaches.now.1 page.now reference.now) }
-{
-    if reference.as_bytes().starts_with(b"/") {
-        return Text::copy_of(alloc, path_part(reference));
-    }
-    let mut target = Text::copy_of(alloc, reaches.context())?;
-    target.push_str(alloc, page)?;
-    target.push_str(alloc, "/../")?;
-    target.push_str(alloc, path_part(reference))?;
-    Ok(target)
-}
-
-/// Appends the path of a target within the context, if a request without a caller may not get it.
-fn push_path(
-    paths: &mut Vec<Text>,
-    alloc: Global,
-    reaches: &Reaches<'_>,
-    constraints: &[Constraint],
-    rules: &Rules,
-    target: &str,
-) -> Result<(), NoMemory>
-    ensures { OnOk result (paths.new.items ≡ paths.old.items ++ spec.needed_at reaches.now.0 reaches.now.1 constraints.now rules.now target.now) }
-{
-    match canon(alloc, target.as_bytes()) {
-        Ok(canon) => push_canonical(
-            paths,
-            alloc,
-            reaches,
-            constraints,
-            rules,
-            canon.path.as_str(),
-        ),
-        Err(CanonFault::Path(_)) => Ok(()),
-        Err(CanonFault::NoMemory) => Err(NoMemory),
-    }
-}
-
-fn push_canonical(
-    paths: &mut Vec<Text>,
-    alloc: Global,
-    reaches: &Reaches<'_>,
-    constraints: &[Constraint],
-    rules: &Rules,
-    path: &str,
-) -> Result<(), NoMemory>
-    ensures { OnOk result (paths.new.items ≡ paths.old.items ++ spec.needed_path reaches.now.0 reaches.now.1 constraints.now rules.now path.now) }
-{
-    let context = reaches.context();
-    if !is_at_or_below(context, path) {
-        return Ok(());
-    }
-    let within = path_within(context, path);
-    if reaches.serves(path) && !is_protected(within) && is_barred(constraints, rules, within) {
-        paths.push(Text::copy_of(alloc, within)?)?;
-    }
-    Ok(())
-}
-
-/// Returns whether a request without a caller may not get the path, and not only over a plain connection.
-fn is_barred(constraints: &[Constraint], rules: &Rules, path: &str) -> bool
-    ensures { result ≡ spec.is_barred constraints.now rules.now path.now }
-{
-    match decide_plain(constraints, rules, "GET", path, None) {
-        Decision::Open(_) => false,
-        Decision::Login(_) => true,
-        Decision::Denied(why) => !matches!(why.cause, Cause::Transport),
     }
 }

@@ -109,8 +109,9 @@ fn is_unknown(declared: &[Text], name: &str) -> bool
     is_role(name) && !lists(declared, name)
 }
 
-/// Returns whether the name is that of a role. `*` and `**` are no roles.
-fn is_role(name: &str) -> bool
+/// Returns whether the name is that of a role. `*` and `**` are no roles: they mean the declared roles, and every caller
+/// (Jakarta Servlet 6.0, section 13.8).
+pub fn is_role(name: &str) -> bool
     ensures { result ≡ spec.is_role name.now }
 {
     !(name == EVERY_ROLE || name == EVERY_CALLER)

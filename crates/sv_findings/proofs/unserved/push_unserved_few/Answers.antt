@@ -1,7 +1,6 @@
 use Rattle.std.proofs.Common.{◌≡◌, ◌++◌, ◌∙◌, ℕ, List, OnOk, ap, map, subst}
 use Rattle.std.specs.Borrow.{Bor}
 use Rattle.std.specs.List.{flat_map}
-use Rattle.sv_constraints.specs.Covering.{all_patterns}
 use Rattle.sv_findings.specs.Unserved.{is_unserved, reached_files, unserved_in}
 use Rattle.sv_findings.proofs.unserved.push_unserved_few.Goals as goal
 
