@@ -1,8 +1,11 @@
 -- The page of a report.
-use Rattle.std.specs.Prelude.{ℕ, ◌==◌, List, [], ◌∷◌, codes, length, if◌then◌else◌}
+use Rattle.std.specs.Prelude.{ℕ, Bool, ◌==◌, List, [], ◌∷◌, codes, filter, length, map, if◌then◌else◌, IsTrue}
 use Rattle.std.specs.List.{flat_map}
+use Rattle.std.specs.Str.{bytes_eq}
+use Rattle.sv_constraints.specs.Covering.{lists}
+use Rattle.sv_findings.specs.declared.finding.Finding.{Finding}
 use Rattle.sv_uri.specs.ContextPath.{shown_context}
-use Rattle.sv_report.specs.FindingWords.{heading, problem_text, remedy}
+use Rattle.sv_report.specs.FindingWords.{heading, kind_name, problem_text, remedy}
 use Rattle.sv_page.specs.HtmlTables.{section_html}
 use Rattle.sv_page.specs.LeftOut.{notes_html}
 use Rattle.sv_page.specs.Markup.{html_text}
@@ -10,6 +13,7 @@ use Rattle.sv_page.specs.Shares.{finding_shares, row_shares}
 use Rattle.sv_report.specs.Parts.{joined}
 use Rattle.sv_report.specs.Places.{place_text}
 use Rattle.sv_page.specs.declared.page.TheConstants.{PAGE_START}
+use Rattle.sv_page.specs.declared.ranks.TheConstants.{RANKED_KINDS}
 use Rattle.sv_report.specs.declared.report.ContextReport.{ContextReport}
 use Rattle.sv_report.specs.declared.report.ReportedFinding.{ReportedFinding}
 
@@ -24,9 +28,24 @@ item_html context reported = joined (
     ∷ codes "</b> <code>" ∷ html_text (shown_context context.path) ∷ codes "</code> " ∷ located_problem context reported
     ∷ codes "<br>" ∷ html_text (remedy reported.finding) ∷ codes "</li>\n" ∷ [])
 
--- The items of the findings that the page lists.
+abbrev pub is_of_kind : List ℕ → ReportedFinding → Bool
+is_of_kind kind reported = bytes_eq (kind_name reported.finding) kind
+
+-- The items of the findings of one kind that the page lists, in the order of the contexts.
+abbrev pub items_of_kind : List ContextReport → List ℕ → List ℕ
+items_of_kind contexts kind = flat_map (λ share. flat_map (item_html share.0) (filter (is_of_kind kind) share.1)) (finding_shares contexts)
+
+-- The names of all kinds of findings, the most dangerous kind first.
+abbrev pub ranked_kinds : List (List ℕ)
+ranked_kinds = map (λ kind. kind.now) RANKED_KINDS
+
+-- The items of the findings that the page lists, the most dangerous kind first.
 abbrev pub items_html : List ContextReport → List ℕ
-items_html contexts = flat_map (λ share. flat_map (item_html share.0) share.1) (finding_shares contexts)
+items_html contexts = flat_map (items_of_kind contexts) ranked_kinds
+
+-- The kind of each finding has a rank, so each finding that the page lists has its item.
+abbrev pub EachKindIsRanked : Type 0
+EachKindIsRanked = (finding : Finding) → IsTrue (lists ranked_kinds (kind_name finding))
 
 -- The tables with the rows that the page shows.
 abbrev pub tables_html : List ContextReport → List ℕ

@@ -1,6 +1,6 @@
 //! The page of a report.
 
-ghost use Rattle.std.specs.Prelude.{◌≡◌, ◌++◌, OnOk, string_bytes};
+ghost use Rattle.std.specs.Prelude.{◌≡◌, ◌++◌, OnOk, filter, string_bytes};
 ghost use Rattle.std.specs.List.{flat_map};
 ghost use Rattle.sv_text.specs.Gives.{GivesAnswer};
 ghost use Rattle.sv_page.specs.HtmlTables as tables;
@@ -9,10 +9,12 @@ ghost use Rattle.sv_page.specs.Page as spec;
 use crate::html_tables::section_html;
 use crate::left_out::notes_html;
 use crate::markup::html_text;
+use crate::ranks::RANKED_KINDS;
 use crate::shares::{MAX_LISTED_FINDINGS, MAX_SHOWN_ROWS, first_of};
 use std::alloc::Global;
 use sv_report::{
-    ContextReport, ReportedFinding, ReportedRow, heading, joined, place_text, problem_text, remedy,
+    ContextReport, ReportedFinding, ReportedRow, heading, joined, kind_name, place_text, problem_text,
+    remedy,
 };
 use sv_text::{NoMemory, Text};
 use sv_uri::shown_context;
@@ -72,8 +74,8 @@ summary { cursor: pointer; }
 <h1>Who may reach what</h1>
 "#;
 
-/// Returns the access tables and the findings of contexts as a page of HTML, with the findings first. The page needs no
-/// other file and no script. It shows at most [`crate::MAX_SHOWN_ROWS`] rows and [`crate::MAX_LISTED_FINDINGS`] findings, the
+/// Returns the access tables and the findings of contexts as a page of HTML, with the findings first, the most dangerous
+/// ones of all contexts on top. The page needs no other file and no script. It shows at most [`crate::MAX_SHOWN_ROWS`] rows and [`crate::MAX_LISTED_FINDINGS`] findings, the
 /// first ones of all contexts, and says so for each context that has more: of findings before the first one, of rows after
 /// those of the context.
 ///
@@ -108,31 +110,50 @@ fn list_html(alloc: Global, items: &str) -> Result<Text, NoMemory>
     joined(alloc, &["<ul>\n", items, "</ul>\n"])
 }
 
-/// Returns the items of the findings that the page lists.
+/// Returns the items of the findings that the page lists, the most dangerous kind first.
 fn items_html(alloc: Global, contexts: &[ContextReport]) -> Result<Text, NoMemory>
     ensures { GivesAnswer result (spec.items_html contexts.now) }
+{
+    let mut text = String::new(alloc);
+    for kind in &RANKED_KINDS {
+        let items = items_of_kind(alloc, contexts, kind)?;
+        text.push_str(items.as_str())?;
+    }
+    Ok(Text::from_string(text))
+}
+
+/// Returns the items of the findings of one kind that the page lists.
+fn items_of_kind(
+    alloc: Global,
+    contexts: &[ContextReport],
+    kind: &str,
+) -> Result<Text, NoMemory>
+    ensures { GivesAnswer result (spec.items_of_kind contexts.now kind.now) }
 {
     let mut text = String::new(alloc);
     let mut left = MAX_LISTED_FINDINGS;
     for context in contexts {
         let findings = context.findings.as_slice();
-        push_items(&mut text, alloc, context, first_of(findings, left))?;
+        push_items(&mut text, alloc, context, first_of(findings, left), kind)?;
         left = left.saturating_sub(findings.len());
     }
     Ok(Text::from_string(text))
 }
 
-/// Appends the items of these findings of a context.
+/// Appends the items of those of these findings of a context that are of the kind.
 fn push_items(
     text: &mut String,
     alloc: Global,
     context: &ContextReport,
     findings: &[ReportedFinding],
+    kind: &str,
 ) -> Result<(), NoMemory>
-    ensures { OnOk result (string_bytes text.new ≡ string_bytes text.old ++ flat_map (spec.item_html context.now) findings.now) }
+    ensures { OnOk result (string_bytes text.new ≡ string_bytes text.old ++ flat_map (spec.item_html context.now) (filter (spec.is_of_kind kind.now) findings.now)) }
 {
     for finding in findings {
-        push_item(text, alloc, context, finding)?;
+        if kind_name(&finding.finding) == kind {
+            push_item(text, alloc, context, finding)?;
+        }
     }
     Ok(())
 }

@@ -1,10 +1,9 @@
-use Rattle.std.proofs.Common.{◌≡◌, ◌++◌, drop}
+use Rattle.std.proofs.Common.{◌≡◌, map, take}
 use Rattle.std.specs.String.{string_bytes}
 use Rattle.std.specs.List.{flat_map}
-use Rattle.sv_page.specs.Page.{item_html, items_html}
-use Rattle.sv_page.specs.Shares.{shares}
+use Rattle.sv_page.specs.Page.{items_of_kind}
+use Rattle.sv_page.specs.declared.ranks.TheConstants.{RANKED_KINDS}
 use Rattle.sv_page.proofs.page.items_html.Given as goal
 
-abbrev pub invariant-loop-context : goal.invariant-loop-context
-invariant-loop-context l =
-    string_bytes l.text ++ flat_map (λ share. flat_map (item_html share.0) share.1) (shares (λ context. context.findings) l.left (drop l.context-index l.contexts)) ≡ items_html l.contexts
+abbrev pub invariant-loop-kind : goal.invariant-loop-kind
+invariant-loop-kind l = string_bytes l.text ≡ flat_map (items_of_kind l.contexts) (map (λ kind. kind.now) (take l.kind-index RANKED_KINDS))
