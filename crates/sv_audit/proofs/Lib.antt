@@ -19,8 +19,7 @@ pub mod Witness
 pub mod Alike
 pub mod Names
 pub mod Represented
-pub mod MeetingLemmas
+pub mod Members
+pub mod SamePatterns
 pub mod Alikes
-pub mod DifferentCells
 pub mod VisitorLemmas
-pub mod DifferenceLemmas

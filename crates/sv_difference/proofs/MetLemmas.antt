@@ -1,7 +1,7 @@
 -- The same differences by the same patterns.
 use Rattle.std.proofs.Common.{◌≡◌, ℕ, ◌&&◌, List, subst}
 use Rattle.std.specs.Prelude.{filter}
-use Rattle.sv_audit.specs.declared.difference.Difference.{Difference}
+use Rattle.sv_difference.specs.declared.difference.Difference.{Difference}
 use Rattle.sv_constraints.specs.Covering.{all_patterns}
 use Rattle.sv_difference.specs.ServerDifference.{row_is_met, rows_are_met}
 use Rattle.sv_difference.specs.declared.contexts.ComparedContext.{ComparedContext}

@@ -6,8 +6,8 @@ ghost use Rattle.sv_constraints.specs.Covering.{all_patterns};
 ghost use Rattle.sv_difference.specs.ServerDifference as spec;
 
 use crate::contexts::ComparedContext;
+use crate::difference::Difference;
 use std::alloc::Global;
-use sv_audit::Difference;
 use sv_findings::{ListedPatterns, Reaches, is_met};
 use sv_text::{Listed, NoMemory, Text};
 

@@ -1,6 +1,6 @@
 use Rattle.std.proofs.Common.{◌∙◌}
 use Rattle.sv_text.specs.Gives.{GivesAnswer}
-use Rattle.sv_audit.specs.Differences.{differences}
+use Rattle.sv_difference.specs.Differences.{differences}
 use Rattle.sv_difference.specs.ServerDifference.{paths_of, side_of}
 use Rattle.sv_difference.proofs.MetLemmas.{met_along}
 use Rattle.sv_difference.proofs.comparison.met_between.Goals as goal
