@@ -18,6 +18,8 @@ pub mod FirstTexts
 pub mod Witness
 pub mod Alike
 pub mod Names
+pub mod Written
+pub mod ReadBack
 pub mod Represented
 pub mod Members
 pub mod SamePatterns

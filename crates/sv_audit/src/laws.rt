@@ -3,7 +3,7 @@
 ghost use Rattle.sv_audit.specs.Examples.{CanonicalIsReadBack, ExamplesAreRight};
 ghost use Rattle.sv_audit.specs.Narrower.{NarrowerAreComplete, NarrowerAreSound};
 ghost use Rattle.sv_audit.specs.Reading.{NumbersAreRight, ServedPathsAreRooted, TablesAreRight};
-ghost use Rattle.sv_audit.specs.Representatives.{EachPathIsRepresented};
+ghost use Rattle.sv_audit.specs.Representatives.{EachPathIsRepresented, EachPathIsResembled};
 ghost use Rattle.sv_audit.specs.Secure.{OnlyTransportChanges};
 ghost use Rattle.sv_audit.specs.Visitors.{EffectiveIsMet, LettingInIsExact, SameCallersAreExact};
 
@@ -58,6 +58,16 @@ pub fn narrower_patterns_are_exact()
 pub fn each_path_is_represented()
     ensures { EachPathIsRepresented }
 {}
+
+/// Each path that begins with a slash has such a representative that resembles it: it is in no other folder, it is hidden
+/// only if the path is, and in each context requests can have it if they can have the path. It is the path itself, or none
+/// of the paths that are taken.
+pub fn each_path_is_resembled()
+    ensures { EachPathIsResembled }
+{
+    canonical_has_shape();
+    location_is_read_back();
+}
 
 /// The effective access decides the fate of every visitor. Accesses have the same callers exactly if they decide alike
 /// for every visitor, and one lets others in exactly if some visitor passes by it and not by the one before.

@@ -33,15 +33,16 @@ pub use examples::{best_text, example_of, is_read_back};
 pub use focus::focused;
 pub use forms::form_of;
 pub use laws::{
-    each_path_is_represented, examples_are_right, narrower_patterns_are_exact,
-    only_transport_changes, served_paths_are_rooted, tables_are_right, visitors_are_decided,
+    each_path_is_represented, each_path_is_resembled, examples_are_right,
+    narrower_patterns_are_exact, only_transport_changes, served_paths_are_rooted, tables_are_right,
+    visitors_are_decided,
 };
 pub use narrower_patterns::Narrower;
 pub use narrowing::narrower;
 pub use order::{copied_texts, sorted};
 pub use path_shapes::matches_nothing;
 pub use patterns::{all_patterns, is_among, is_extension_pattern, is_same, patterns_in};
-pub use representatives::representative_paths;
+pub use representatives::{representative_paths, representative_paths_beside};
 pub use roles::push_meant;
 pub use rows::{Group, Row, Table};
 pub use secure::without_transport;
