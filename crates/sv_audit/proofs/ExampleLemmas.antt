@@ -29,11 +29,11 @@ own_at path (Ok canon) is =
     let parts : (bytes_eq canon.path path ≡ true) × (is_none canon.query ≡ true) = and_parts (bytes_eq canon.path path) (is_none canon.query) is in
     ap₂ (λ p q. let made : Canon = record { path = p; query = q } in Ok made) ((bytes_eq-Decides canon.path path).0 parts.0) (without_query canon.query parts.1)
 
-own : (path : List ℕ) → is_read_back path ≡ true → canonical (location path) ≡ Ok (plain path)
+pub own : (path : List ℕ) → is_read_back path ≡ true → canonical (location path) ≡ Ok (plain path)
 unfolding is_read_back
 own path is = own_at path (canonical (location path)) is
 
-itself : (path : List ℕ) → gives_only path (Ok (plain path)) ≡ true
+pub itself : (path : List ℕ) → gives_only path (Ok (plain path)) ≡ true
 itself path = and_from (bytes_eq path path) true ((bytes_eq-Decides path path).1 refl) refl
 
 pub all_read_back : LocationIsReadBack → CanonicalIsReadBack

@@ -18,9 +18,10 @@ pub mod FirstTexts
 pub mod Witness
 pub mod Alike
 pub mod Names
+pub mod Written
+pub mod ReadBack
 pub mod Represented
-pub mod MeetingLemmas
+pub mod Members
+pub mod SamePatterns
 pub mod Alikes
-pub mod DifferentCells
 pub mod VisitorLemmas
-pub mod DifferenceLemmas

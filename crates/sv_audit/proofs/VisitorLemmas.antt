@@ -5,17 +5,19 @@ use Rattle.std.specs.Prelude.{◌≢◌}
 use Rattle.std.specs.List.{list_all, list_any}
 use Rattle.sv_realm.specs.declared.caller.Caller.{Caller}
 use Rattle.sv_constraints.specs.Covering.{lists}
+use Rattle.sv_constraints.specs.declared.cause.Cause.{Cause}
 use Rattle.sv_audit.proofs.Alikes.{alike_at, opened, within_others}
 use Rattle.sv_audit.proofs.Callers.{apart, by_holding, held, none_held, opens, outside, passes}
-use Rattle.sv_audit.proofs.DifferentCells.{any_found, found_any}
+use Rattle.sv_audit.proofs.Members.{any_found, found_any}
 use Rattle.sv_audit.proofs.Represented.{in_listed, listed_in}
 use Rattle.sv_audit.specs.Callers.{is_closed, is_open}
-use Rattle.sv_audit.specs.Reading.{Passes}
-use Rattle.sv_audit.specs.Visitors.{EffectiveIsMet, LettingInIsExact, SameCallersAreExact, decided_by, is_any_login, kind_of, lets_callers_in, lets_in, roles_in}
+use Rattle.sv_audit.specs.Configurations.{Configuration, fate_of, said_by}
+use Rattle.sv_audit.specs.Reading.{Kind, Passes, said_to}
+use Rattle.sv_audit.specs.Visitors.{EffectiveIsMet, LettingInIsExact, SameCallersAreExact, answered, decided_by, effective, is_any_login, kind_of, known, lets_callers_in, lets_in, roles_in}
 use Rattle.sv_audit.specs.declared.access.Access.{Access}
 use Rattle.sv_audit.specs.declared.access.Access.TheVariants.{Unconstrained, Uncovered, UncoveredDenied, Precluded, NeedsTls, Everyone, AnyLogin, Roles}
-use Rattle.sv_audit.specs.declared.difference.DifferenceKind.{DifferenceKind}
-use Rattle.sv_audit.specs.declared.difference.DifferenceKind.TheVariants.{Changed, Closed, Opened}
+use Rattle.sv_audit.specs.declared.visitors.DifferenceKind.{DifferenceKind}
+use Rattle.sv_audit.specs.declared.visitors.DifferenceKind.TheVariants.{Changed, Closed, Opened}
 
 -- ---- The effective access.
 pub effective_is_met : EffectiveIsMet
@@ -146,3 +148,10 @@ letting_of before after false false is was = (was, is)
 
 pub letting_at : (before after : Access) → Letting before after (kind_of before after)
 letting_at before after = letting_of before after (lets_in before after) (lets_in after before) refl refl
+
+-- The fate by what an access says is that by the effective access.
+abbrev pub met_fate : Bool → Access → Option Caller → Kind
+met_fate has_login access visitor = decided_by (effective has_login access) visitor
+
+pub fate_by : (it : Configuration) (method path : List ℕ) (visitor : Option Caller) (access : Access) → said_by it method path (known it.has_login visitor) ≡ said_to (known it.has_login visitor) access → fate_of it method path visitor ≡ met_fate it.has_login access visitor
+fate_by it method path visitor access is = ap (λ (said : Kind × Cause). answered it.has_login said.0) is ∙ effective_is_met it.has_login access visitor

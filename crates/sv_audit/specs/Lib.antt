@@ -11,5 +11,4 @@ pub mod Narrower
 pub mod Callers
 pub mod Visitors
 pub mod Representatives
-pub mod Differences
-pub mod DifferenceLaws
+pub mod Configurations

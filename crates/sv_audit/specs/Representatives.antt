@@ -1,11 +1,13 @@
 -- Paths that represent all others: each path matches the same patterns as one of them (Jakarta Servlet 6.0, sections 3.5.2, 12.1 and 12.2).
-use Rattle.std.specs.Prelude.{◌≡◌, ℕ, List, [], ◌∷◌, ◌++◌, length, filter, fold, map, max, not, codes, if◌then◌else◌, Option, None, Some, IsTrue}
+use Rattle.std.specs.Prelude.{◌≡◌, ◌≢◌, ℕ, false, List, [], ◌∷◌, ◌++◌, length, filter, fold, map, max, not, codes, if◌then◌else◌, Option, None, Some, IsTrue}
 use Rattle.std.specs.List.{flat_map, repeat}
 use Rattle.std.specs.Option.{option_to_list}
 use Rattle.sv_mapping.specs.BestMatch.{best_pattern}
-use Rattle.sv_mapping.specs.Pattern.{Form, Root, Default, Extension, Prefix, Exact, form}
+use Rattle.sv_mapping.specs.Pattern.{Form, Root, Default, Extension, Prefix, Exact, form, is_at_or_below}
+use Rattle.sv_mapping.specs.Protected.{is_protected}
 use Rattle.sv_mapping.specs.Segments.{is_rooted, is_slashed}
 use Rattle.sv_constraints.specs.Covering.{lists}
+use Rattle.sv_audit.specs.Examples.{is_read_back}
 use Rattle.sv_audit.specs.Shapes.{has_empty_folder}
 
 -- The path that the pattern names: its only path, or the directory of a prefix pattern.
@@ -62,17 +64,36 @@ free_path named directory ending =
 abbrev pub free_paths : List (List ℕ) → List (List ℕ) → List (List ℕ) → List (List ℕ)
 free_paths named its_endings its_directories = flat_map (λ directory. map (free_path named directory) its_endings) its_directories
 
--- A path for each directory and extension, and the paths that patterns name.
-abbrev pub slashed_paths : List (List ℕ) → List (List ℕ)
-slashed_paths patterns = filter is_slashed (free_paths (named_paths patterns) (endings patterns) (directories patterns) ++ named_paths patterns)
+-- A path for each directory and extension that is none of the taken paths, and the paths that patterns name.
+abbrev pub slashed_paths : List (List ℕ) → List (List ℕ) → List (List ℕ)
+slashed_paths taken patterns = filter is_slashed (free_paths (named_paths patterns ++ taken) (endings patterns) (directories patterns) ++ named_paths patterns)
 
--- The paths that represent all others. Those that no canonical path has, since they have an empty segment before the last
--- (section 3.5.2), come last.
+-- The paths that represent all others, beside paths that are taken. Those that no canonical path has, since they have an
+-- empty segment before the last (section 3.5.2), come last.
+abbrev pub representatives_beside : List (List ℕ) → List (List ℕ) → List (List ℕ)
+representatives_beside taken patterns = filter (λ path. not (has_empty_folder path)) (slashed_paths taken patterns) ++ filter has_empty_folder (slashed_paths taken patterns)
+
 abbrev pub representatives : List (List ℕ) → List (List ℕ)
-representatives patterns = filter (λ path. not (has_empty_folder path)) (slashed_paths patterns) ++ filter has_empty_folder (slashed_paths patterns)
+representatives patterns = representatives_beside [] patterns
 
 -- Each path that is empty or begins with a slash has a representative with the same best match, among all of the
 -- patterns and among any part of them.
 abbrev pub EachPathIsRepresented : Type 0
 EachPathIsRepresented = (patterns : List (List ℕ)) (path : List ℕ) → IsTrue (is_rooted path) → (representative : List ℕ) × IsTrue (lists (representatives patterns) representative)
     × ((part : List (List ℕ)) → ((text : List ℕ) → IsTrue (lists part text) → IsTrue (lists patterns text)) → best_pattern part representative ≡ best_pattern part path)
+
+-- What a representative has in common with its path.
+pub record Resembles (representative path : List ℕ) : Type 0 where
+  -- It is in no other folder.
+  pub below : (folder : List ℕ) → IsTrue (is_at_or_below folder representative) → folder ≢ representative → IsTrue (is_at_or_below folder path)
+  -- It is in a hidden folder only if the path is (section 10.5).
+  pub shown : is_protected path ≡ false → is_protected representative ≡ false
+  -- In each context, requests can have it if they can have the path (section 3.5.2).
+  pub read_back : (context : List ℕ) → IsTrue (is_read_back (context ++ path)) → IsTrue (is_read_back (context ++ representative))
+
+-- Each path that begins with a slash resembles a representative with the same best match, which is the path itself or none
+-- of the taken paths.
+abbrev pub EachPathIsResembled : Type 0
+EachPathIsResembled = (taken patterns : List (List ℕ)) (path : List ℕ) → IsTrue (is_slashed path) → (representative : List ℕ) × IsTrue (lists (representatives_beside taken patterns) representative)
+    × ((part : List (List ℕ)) → ((text : List ℕ) → IsTrue (lists part text) → IsTrue (lists patterns text)) → best_pattern part representative ≡ best_pattern part path)
+    × Resembles representative path × (IsTrue (lists taken representative) → representative ≡ path)

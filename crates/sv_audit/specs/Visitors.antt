@@ -7,8 +7,8 @@ use Rattle.sv_audit.specs.Callers.{is_open, same_callers}
 use Rattle.sv_audit.specs.Reading.{Kind, Passes, NeedsLogin, IsDenied, said_to}
 use Rattle.sv_audit.specs.declared.access.Access.{Access}
 use Rattle.sv_audit.specs.declared.access.Access.TheVariants.{AnyLogin, Precluded, Roles}
-use Rattle.sv_audit.specs.declared.difference.DifferenceKind.{DifferenceKind}
-use Rattle.sv_audit.specs.declared.difference.DifferenceKind.TheVariants.{Changed, Closed, Opened}
+use Rattle.sv_audit.specs.declared.visitors.DifferenceKind.{DifferenceKind}
+use Rattle.sv_audit.specs.declared.visitors.DifferenceKind.TheVariants.{Changed, Closed, Opened}
 
 -- The caller that a context knows: none if it has no login configuration, since nobody can log in.
 abbrev pub known : Bool → Option Caller → Option Caller

@@ -96,9 +96,13 @@ fn is_elsewhere(others: &[Text], path: &str) -> bool
         .any(|other| is_at_or_below(other.as_str(), path))
 }
 
-/// Returns whether reading the location of the path gives the same path, without a query.
+/// Returns whether reading the location of the path gives the same path, without a query. Each canonical path is such a path
+/// (Jakarta Servlet 6.0, section 3.5.2).
+///
+/// # Errors
+/// `NoMemory` if memory runs out.
 #[tactic(auto, unfolding(crate::specs::Examples::is_read_back))]
-fn is_read_back(alloc: Global, path: &str) -> Result<bool, NoMemory>
+pub fn is_read_back(alloc: Global, path: &str) -> Result<bool, NoMemory>
     ensures { GivesAnswer result (spec.is_read_back path.now) }
 {
     let location = location(alloc, path)?;

@@ -1,10 +1,9 @@
-//! Theorems about access tables and their differences, each the contract of a function that only calls other theorems.
+//! Theorems about access tables, each the contract of a function that only calls other theorems.
 
-ghost use Rattle.sv_audit.specs.DifferenceLaws.{DifferencesAreComplete, DifferencesAreRight, NoneExactlyIfSame};
 ghost use Rattle.sv_audit.specs.Examples.{CanonicalIsReadBack, ExamplesAreRight};
 ghost use Rattle.sv_audit.specs.Narrower.{NarrowerAreComplete, NarrowerAreSound};
 ghost use Rattle.sv_audit.specs.Reading.{NumbersAreRight, ServedPathsAreRooted, TablesAreRight};
-ghost use Rattle.sv_audit.specs.Representatives.{EachPathIsRepresented};
+ghost use Rattle.sv_audit.specs.Representatives.{EachPathIsRepresented, EachPathIsResembled};
 ghost use Rattle.sv_audit.specs.Secure.{OnlyTransportChanges};
 ghost use Rattle.sv_audit.specs.Visitors.{EffectiveIsMet, LettingInIsExact, SameCallersAreExact};
 
@@ -60,6 +59,16 @@ pub fn each_path_is_represented()
     ensures { EachPathIsRepresented }
 {}
 
+/// Each path that begins with a slash has such a representative that resembles it: it is in no other folder, it is hidden
+/// only if the path is, and in each context requests can have it if they can have the path. It is the path itself, or none
+/// of the paths that are taken.
+pub fn each_path_is_resembled()
+    ensures { EachPathIsResembled }
+{
+    canonical_has_shape();
+    location_is_read_back();
+}
+
 /// The effective access decides the fate of every visitor. Accesses have the same callers exactly if they decide alike
 /// for every visitor, and one lets others in exactly if some visitor passes by it and not by the one before.
 pub fn visitors_are_decided()
@@ -67,23 +76,3 @@ pub fn visitors_are_decided()
     ensures callers { SameCallersAreExact }
     ensures letting { LettingInIsExact }
 {}
-
-/// Each difference of two configurations is right: its path is in both of its rows, it has methods, and its accesses say
-/// what the constraints decide on all requests with a path of both rows and one of the methods. There is a visitor whose
-/// fate with all of them differs. Its kind says whether some visitor passes only after, or only before.
-pub fn differences_are_right()
-    ensures { DifferencesAreRight }
-{
-    tables_are_right();
-    best_is_of_texts();
-}
-
-/// No difference is missed: a request that passes, leads to a login or is denied before, and does not so after, for some
-/// visitor, has the rows and the method of a difference. There is no difference exactly if there is no such request.
-pub fn differences_are_complete()
-    ensures complete { DifferencesAreComplete }
-    ensures exact { NoneExactlyIfSame }
-{
-    tables_are_right();
-    best_is_of_texts();
-}

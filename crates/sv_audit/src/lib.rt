@@ -1,22 +1,18 @@
 //! Access tables: which methods the security constraints of a context open to whom, by URL pattern (Jakarta Servlet
 //! 6.0, section 13.8). A table says of every path, method and caller what the constraints decide. Each of its rows has an
-//! example, and the patterns that are chosen before it. Two tables have differences: the requests that they decide
-//! differently.
+//! example, and the patterns that are chosen before it.
 #![tactic(auto)]
 
 mod access;
 mod caller_comparison;
 mod cells;
 mod coverage;
-mod difference;
 mod examples;
 mod focus;
 mod forms;
 mod groups;
 mod laws;
-mod meetings;
 mod method_index;
-mod method_sets;
 mod narrower_patterns;
 mod narrowing;
 mod order;
@@ -24,7 +20,6 @@ mod path_shapes;
 mod patterns;
 mod representatives;
 mod roles;
-mod row_differences;
 mod rows;
 mod secure;
 mod tables;
@@ -34,25 +29,22 @@ pub use access::{Access, Cell};
 pub use caller_comparison::is_open;
 pub use cells::{copied_access, covering_findings};
 pub use coverage::covering;
-pub use difference::{Difference, DifferenceKind, Logins, Side};
-pub use examples::{best_text, example_of};
+pub use examples::{best_text, example_of, is_read_back};
 pub use focus::focused;
 pub use forms::form_of;
 pub use laws::{
-    differences_are_complete, differences_are_right, each_path_is_represented, examples_are_right,
+    each_path_is_represented, each_path_is_resembled, examples_are_right,
     narrower_patterns_are_exact, only_transport_changes, served_paths_are_rooted, tables_are_right,
     visitors_are_decided,
 };
-pub use meetings::is_same;
 pub use narrower_patterns::Narrower;
 pub use narrowing::narrower;
 pub use order::{copied_texts, sorted};
 pub use path_shapes::matches_nothing;
-pub use patterns::{all_patterns, is_among, is_extension_pattern, patterns_in};
-pub use representatives::representative_paths;
+pub use patterns::{all_patterns, is_among, is_extension_pattern, is_same, patterns_in};
+pub use representatives::{representative_paths, representative_paths_beside};
 pub use roles::push_meant;
-pub use row_differences::differences;
 pub use rows::{Group, Row, Table};
 pub use secure::without_transport;
 pub use tables::table_of;
-pub use visitors::same_fates;
+pub use visitors::{DifferenceKind, Logins, kind_between, same_fates};

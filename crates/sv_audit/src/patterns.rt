@@ -5,11 +5,12 @@ ghost use Rattle.std.specs.List.{list_any};
 ghost use Rattle.std.specs.Str.{bytes_eq};
 ghost use Rattle.sv_constraints.specs.Covering.{all_patterns, patterns_in};
 ghost use Rattle.sv_mapping.specs.Pattern.{is_extension_pattern};
+ghost use Rattle.sv_audit.specs.Reading.{is_same};
 
 use std::alloc::Global;
 use sv_constraints::Constraint;
 use sv_mapping::Pattern;
-use sv_text::NoMemory;
+use sv_text::{NoMemory, Text};
 
 /// Returns the patterns of constraints, in order and with duplicates.
 pub fn all_patterns(alloc: Global, constraints: &[Constraint]) -> Result<Vec<&str>, NoMemory>
@@ -65,4 +66,15 @@ pub fn is_extension_pattern(text: &str) -> bool
     ensures { result ≡ is_extension_pattern text.now }
 {
     text.starts_with("*.") && !text.as_bytes().contains(&b'/')
+}
+
+/// Returns whether both are the same pattern, or none.
+pub fn is_same(pattern: &Option<Text>, other: &Option<Text>) -> bool
+    ensures { result ≡ is_same pattern.now other.now }
+{
+    match (pattern, other) {
+        (None, None) => true,
+        (Some(pattern), Some(other)) => pattern.as_str() == other.as_str(),
+        _ => false,
+    }
 }

@@ -12,7 +12,7 @@ use crate::path_shapes::has_empty_folder;
 use std::alloc::Global;
 use sv_constraints::lists;
 use sv_mapping::{Form, Pattern};
-use sv_text::{NoMemory, Text};
+use sv_text::{NoMemory, Text, copied_texts};
 
 /// Returns paths of which one matches the same patterns as any path that is empty or begins with a slash: one for each
 /// directory of a prefix pattern and each extension, and the paths that the patterns name. Those with an empty segment
@@ -25,7 +25,22 @@ use sv_text::{NoMemory, Text};
 pub fn representative_paths(alloc: Global, patterns: &[Pattern]) -> Result<Vec<Text>, NoMemory>
     ensures { IfOk result (λ paths. paths.items ≡ spec.representatives patterns.now) }
 {
-    let slashed = slashed_paths(alloc, patterns)?;
+    representative_paths_beside(alloc, &[], patterns)
+}
+
+/// Returns paths of which one matches the same patterns as any path that begins with a slash, as `representative_paths`
+/// does. Each is a path that a pattern names, or none of the taken paths.
+///
+/// # Errors
+/// `NoMemory` if memory runs out.
+pub fn representative_paths_beside(
+    alloc: Global,
+    taken: &[Text],
+    patterns: &[Pattern],
+) -> Result<Vec<Text>, NoMemory>
+    ensures { IfOk result (λ paths. paths.items ≡ spec.representatives_beside taken.now patterns.now) }
+{
+    let slashed = slashed_paths(alloc, taken, patterns)?;
     let mut paths = Vec::new(alloc);
     push_without_empty(&mut paths, alloc, slashed.as_slice())?;
     push_with_empty(&mut paths, alloc, slashed.as_slice())?;
@@ -56,11 +71,12 @@ fn push_with_empty(paths: &mut Vec<Text>, alloc: Global, texts: &[Text]) -> Resu
     Ok(())
 }
 
-/// Returns a path for each directory and extension, and the paths that the patterns name.
-fn slashed_paths(alloc: Global, patterns: &[Pattern]) -> Result<Vec<Text>, NoMemory>
-    ensures { IfOk result (λ paths. paths.items ≡ spec.slashed_paths patterns.now) }
+/// Returns a path for each directory and extension that is none of the taken paths, and the paths that the patterns name.
+fn slashed_paths(alloc: Global, taken: &[Text], patterns: &[Pattern]) -> Result<Vec<Text>, NoMemory>
+    ensures { IfOk result (λ paths. paths.items ≡ spec.slashed_paths taken.now patterns.now) }
 {
     let named = named_paths(alloc, patterns)?;
+    let avoided = avoided_paths(alloc, named.as_slice(), taken)?;
     let endings = endings(alloc, patterns)?;
     let directories = directories(alloc, patterns)?;
     let mut paths = Vec::new(alloc);
@@ -68,12 +84,22 @@ fn slashed_paths(alloc: Global, patterns: &[Pattern]) -> Result<Vec<Text>, NoMem
         push_free(
             &mut paths,
             alloc,
-            named.as_slice(),
+            avoided.as_slice(),
             directory.as_str(),
             endings.as_slice(),
         )?;
     }
     push_slashed(&mut paths, alloc, named.as_slice())?;
+    Ok(paths)
+}
+
+/// Copies the named paths and the taken ones.
+fn avoided_paths(alloc: Global, named: &[Text], taken: &[Text]) -> Result<Vec<Text>, NoMemory>
+    ensures { IfOk result (λ paths. paths.items ≡ named.now ++ taken.now) }
+{
+    let mut paths = copied_texts(alloc, named)?.into_vec();
+    let mut others = copied_texts(alloc, taken)?.into_vec();
+    paths.append(&mut others)?;
     Ok(paths)
 }
 

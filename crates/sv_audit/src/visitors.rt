@@ -7,8 +7,28 @@ ghost use Rattle.sv_audit.specs.declared.access.Access.TheVariants.{Precluded};
 
 use crate::access::Access;
 use crate::caller_comparison::{are_among, is_open, same_callers};
-use crate::difference::{DifferenceKind, Logins};
 use sv_text::Text;
+
+/// Whether visitors can log in, at each of two accesses (Jakarta Servlet 6.0, section 13.6).
+#[derive(Clone, Copy, Drop)]
+pub struct Logins {
+    /// Whether they can at the first access.
+    pub before: bool,
+    /// Whether they can at the second access.
+    pub after: bool,
+}
+
+/// How the fate of visitors differs. A visitor is a caller who logs in wherever the context has a login configuration,
+/// or one who cannot log in.
+#[derive(Clone, Copy, Drop)]
+pub enum DifferenceKind {
+    /// Some visitor passes after and not before.
+    Opened,
+    /// Some visitor passes before and not after, and none only after.
+    Closed,
+    /// The same visitors pass, but some visitor is asked to log in on one side and denied on the other.
+    Changed,
+}
 
 /// Returns whether only callers pass: without a login configuration nobody does (Jakarta Servlet 6.0, section 13.6).
 fn needs_login(access: &Access) -> bool
@@ -40,8 +60,9 @@ pub fn same_fates(logins: Logins, before: &Access, after: &Access) -> bool
     )
 }
 
-/// Returns how the fate of visitors differs by both accesses.
-pub(crate) fn kind_between(logins: Logins, before: &Access, after: &Access) -> DifferenceKind
+/// Returns how the fate of visitors differs by both accesses: whether some visitor passes only after, else whether one
+/// passes only before. Without a login configuration nobody can log in (Jakarta Servlet 6.0, section 13.6).
+pub fn kind_between(logins: Logins, before: &Access, after: &Access) -> DifferenceKind
     ensures { result ≡ spec.kind_of (spec.effective logins.before before.now) (spec.effective logins.after after.now) }
 {
     let nobody = Access::Precluded;

@@ -19,8 +19,8 @@ use Rattle.sv_descriptor.specs.declared.servlet.ServletMapping.{ServletMapping}
 use Rattle.sv_policy.proofs.Rising.{rising_lists}
 use Rattle.sv_policy.proofs.Steps.{passing_lists}
 use Rattle.sv_policy.specs.Uncovered.{rising}
-use Rattle.sv_audit.proofs.DifferenceLemmas.{in_kept}
-use Rattle.sv_audit.proofs.MeetingLemmas.{same_decides, same_itself}
+use Rattle.sv_audit.proofs.Members.{in_kept}
+use Rattle.sv_audit.proofs.SamePatterns.{same_decides, same_itself}
 use Rattle.sv_audit.proofs.Represented.{in_listed, representative_slashed}
 use Rattle.sv_audit.proofs.Shapes.{IsShaped, nothing_matches, served_shaped}
 use Rattle.sv_audit.specs.Reading.{is_same}

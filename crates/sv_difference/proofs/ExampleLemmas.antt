@@ -13,11 +13,12 @@ use Rattle.sv_constraints.specs.declared.constraint.Methods.{Methods}
 use Rattle.sv_constraints.specs.declared.constraint.Methods.TheVariants.{Except, Only}
 use Rattle.sv_constraints.specs.declared.constraint.Methods.TheVariants as methods
 use Rattle.sv_policy.specs.Uncovered.{has_methods}
-use Rattle.sv_audit.proofs.DifferentCells.{all_from, in_along}
+use Rattle.sv_audit.proofs.Members.{all_from, in_along}
 use Rattle.sv_audit.proofs.Represented.{longer}
-use Rattle.sv_audit.specs.DifferenceLaws.{DifferencesAreRight, IsOf, IsRight, best_of}
+use Rattle.sv_audit.specs.Configurations.{best_of}
+use Rattle.sv_difference.specs.DifferenceLaws.{DifferencesAreRight, IsOf, IsRight}
 use Rattle.sv_audit.specs.Representatives.{file_path, long_name}
-use Rattle.sv_audit.specs.declared.difference.Difference.{Difference}
+use Rattle.sv_difference.specs.declared.difference.Difference.{Difference}
 use Rattle.sv_difference.proofs.ServerLemmas.{right_at}
 use Rattle.sv_difference.specs.DifferenceText.{example_of}
 use Rattle.sv_difference.specs.ExampleLaws.{IsChanged, IsForBoth, ReportedExamplesAreChanged, SameOutcomesHaveNoExamples}

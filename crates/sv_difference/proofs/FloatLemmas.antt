@@ -3,7 +3,7 @@ use Rattle.std.proofs.Common.{◌≡◌, Bool, false, ◌||◌, ap, ap₂}
 use Rattle.serde_json.specs.Written.{has_float}
 use Rattle.sv_policy.specs.Covering.{method_names}
 use Rattle.sv_audit.specs.declared.access.Access.{Access}
-use Rattle.sv_audit.specs.declared.difference.Difference.{Difference}
+use Rattle.sv_difference.specs.declared.difference.Difference.{Difference}
 use Rattle.sv_report.proofs.JsonLemmas.{in_strings, in_text, in_truth, no_floats}
 use Rattle.sv_report.specs.JsonParts.{roles_in}
 use Rattle.sv_difference.specs.DifferenceJson.{access_value, context_value, difference_value, file_in, login_in, report_value}

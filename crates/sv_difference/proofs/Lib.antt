@@ -1,3 +1,6 @@
+pub mod DifferentCells
+pub mod MeetingLemmas
+pub mod DifferenceLemmas
 pub mod FloatLemmas
 pub mod ServerLemmas
 pub mod ExampleLemmas

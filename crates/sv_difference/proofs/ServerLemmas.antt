@@ -16,14 +16,15 @@ use Rattle.sv_mapping.proofs.Tried.{In, In-left, In-map, In-right}
 use Rattle.sv_realm.specs.declared.caller.Caller.{Caller}
 use Rattle.sv_constraints.specs.Covering.{all_patterns, covers_method, lists}
 use Rattle.sv_policy.proofs.Best.{any_listed, found_in}
-use Rattle.sv_audit.proofs.DifferenceLemmas.{decisions_apart, decisions_same, in_kept, kept_in, same_decision}
-use Rattle.sv_audit.proofs.DifferentCells.{all_from, found_any, in_along}
-use Rattle.sv_audit.proofs.MeetingLemmas.{same_decides}
+use Rattle.sv_audit.proofs.Members.{all_from, found_any, in_along, in_kept, kept_in}
+use Rattle.sv_audit.proofs.SamePatterns.{same_decides}
+use Rattle.sv_difference.proofs.DifferenceLemmas.{decisions_apart, decisions_same, same_decision}
 use Rattle.sv_audit.proofs.NarrowerLemmas.{contains}
 use Rattle.sv_audit.proofs.Represented.{in_listed}
-use Rattle.sv_audit.specs.DifferenceLaws.{Configuration, DifferencesAreComplete, DifferencesAreRight, IsRight, best_of, differences_of, fate_of, is_of}
+use Rattle.sv_audit.specs.Configurations.{Configuration, best_of, fate_of}
+use Rattle.sv_difference.specs.DifferenceLaws.{DifferencesAreComplete, DifferencesAreRight, IsRight, differences_of, is_of}
 use Rattle.sv_audit.specs.Reading.{Kind, Passes, ServedPathsAreRooted, is_same}
-use Rattle.sv_audit.specs.declared.difference.Difference.{Difference}
+use Rattle.sv_difference.specs.declared.difference.Difference.{Difference}
 use Rattle.sv_constraints.specs.declared.constraint.Constraint.{Constraint}
 use Rattle.sv_uri.specs.Canonical.{canonical}
 use Rattle.sv_uri.specs.declared.path.Canon.{Canon}

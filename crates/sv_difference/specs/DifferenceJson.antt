@@ -7,7 +7,7 @@ use Rattle.serde_json.specs.Written.{compact_text}
 use Rattle.sv_policy.specs.Covering.{method_names}
 use Rattle.sv_uri.specs.ContextPath.{shown_context}
 use Rattle.sv_audit.specs.declared.access.Access.{Access}
-use Rattle.sv_audit.specs.declared.difference.Difference.{Difference}
+use Rattle.sv_difference.specs.declared.difference.Difference.{Difference}
 use Rattle.sv_report.specs.JsonParts.{are_excepted, enters, roles_in, strings, text_value, truth_value}
 use Rattle.sv_difference.specs.DifferenceText.{example_of, has_login, kind_word}
 use Rattle.sv_difference.specs.OpenedFirst.{opened_first}

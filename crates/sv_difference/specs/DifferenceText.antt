@@ -6,9 +6,9 @@ use Rattle.sv_uri.specs.LocationField.{location}
 use Rattle.sv_constraints.specs.declared.constraint.Methods.{Methods}
 use Rattle.sv_constraints.specs.declared.constraint.Methods.TheVariants.{All, Only, Except}
 use Rattle.sv_audit.specs.Reading.{is_same}
-use Rattle.sv_audit.specs.declared.difference.Difference.{Difference}
-use Rattle.sv_audit.specs.declared.difference.DifferenceKind.{DifferenceKind}
-use Rattle.sv_audit.specs.declared.difference.DifferenceKind.TheVariants.{Changed, Closed, Opened}
+use Rattle.sv_difference.specs.declared.difference.Difference.{Difference}
+use Rattle.sv_audit.specs.declared.visitors.DifferenceKind.{DifferenceKind}
+use Rattle.sv_audit.specs.declared.visitors.DifferenceKind.TheVariants.{Changed, Closed, Opened}
 use Rattle.sv_report.specs.Escaped.{escaped}
 use Rattle.sv_report.specs.Folded.{folded}
 use Rattle.sv_report.specs.Parts.{joined}

@@ -6,7 +6,7 @@ use Rattle.sv_realm.specs.declared.caller.Caller.{Caller}
 use Rattle.sv_constraints.specs.Covering.{covers_method}
 use Rattle.sv_uri.specs.Canonical.{canonical}
 use Rattle.sv_uri.specs.declared.path.Canon.{Canon}
-use Rattle.sv_audit.specs.declared.difference.Difference.{Difference}
+use Rattle.sv_difference.specs.declared.difference.Difference.{Difference}
 use Rattle.sv_findings.specs.Reach.{chosen_path}
 use Rattle.sv_difference.specs.DifferenceText.{example_of}
 use Rattle.sv_difference.specs.ServerDifference.{paths_of, server_difference}

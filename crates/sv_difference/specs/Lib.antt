@@ -1,3 +1,5 @@
+pub mod Differences
+pub mod DifferenceLaws
 pub mod ServerDifference
 pub mod OpenedFirst
 pub mod DifferenceText

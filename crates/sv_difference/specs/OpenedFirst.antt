@@ -1,9 +1,9 @@
 -- The order of contexts in the text and the JSON of a report (Jakarta Servlet 6.0, sections 12.1 and 13.8).
 use Rattle.std.specs.Prelude.{Bool, not, ◌||◌, List, ◌++◌, filter, is_none}
 use Rattle.std.specs.List.{list_any}
-use Rattle.sv_audit.specs.Differences.{same_kind}
-use Rattle.sv_audit.specs.declared.difference.Difference.{Difference}
-use Rattle.sv_audit.specs.declared.difference.DifferenceKind.TheVariants.{Opened}
+use Rattle.sv_difference.specs.Differences.{same_kind}
+use Rattle.sv_difference.specs.declared.difference.Difference.{Difference}
+use Rattle.sv_audit.specs.declared.visitors.DifferenceKind.TheVariants.{Opened}
 use Rattle.sv_difference.specs.declared.contexts.ContextDifference.{ContextDifference}
 
 -- Whether only one of the servers has the context. In the other one, another context serves its requests, or none does

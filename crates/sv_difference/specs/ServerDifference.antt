@@ -3,11 +3,11 @@ use Rattle.std.specs.Prelude.{ℕ, Bool, true, ◌&&◌, List, [], ◌++◌, fil
 use Rattle.std.specs.List.{flat_map}
 use Rattle.std.specs.Option.{option_map}
 use Rattle.std.specs.Str.{bytes_eq}
-use Rattle.sv_audit.specs.Differences.{differences, of_kind}
+use Rattle.sv_difference.specs.Differences.{differences, of_kind}
 use Rattle.sv_audit.specs.Rows.{table_of}
-use Rattle.sv_audit.specs.declared.difference.Difference.{Difference}
-use Rattle.sv_audit.specs.declared.difference.DifferenceKind.TheVariants.{Opened}
-use Rattle.sv_audit.specs.declared.difference.Side.{Side}
+use Rattle.sv_difference.specs.declared.difference.Difference.{Difference}
+use Rattle.sv_audit.specs.declared.visitors.DifferenceKind.TheVariants.{Opened}
+use Rattle.sv_difference.specs.declared.difference.Side.{Side}
 use Rattle.sv_constraints.specs.Covering.{all_patterns}
 use Rattle.sv_findings.specs.MetRows.{is_met}
 use Rattle.sv_difference.specs.declared.contexts.ComparedContext.{ComparedContext}

@@ -6,9 +6,10 @@ use Rattle.sv_mapping.specs.Within.{path_within}
 use Rattle.sv_realm.specs.declared.caller.Caller.{Caller}
 use Rattle.sv_uri.specs.Canonical.{canonical}
 use Rattle.sv_uri.specs.declared.path.Canon.{Canon}
-use Rattle.sv_audit.specs.DifferenceLaws.{Configuration, HasUrlPatterns, IsOf, IsRight, fate_of}
+use Rattle.sv_audit.specs.Configurations.{Configuration, HasUrlPatterns, fate_of}
+use Rattle.sv_difference.specs.DifferenceLaws.{IsOf, IsRight}
 use Rattle.sv_audit.specs.Reading.{Kind}
-use Rattle.sv_audit.specs.declared.difference.Difference.{Difference}
+use Rattle.sv_difference.specs.declared.difference.Difference.{Difference}
 use Rattle.sv_findings.specs.Reach.{chosen_path}
 use Rattle.sv_difference.specs.ServerDifference.{context_at, difference_at, paths_of, server_difference}
 use Rattle.sv_difference.specs.declared.contexts.ComparedContext.{ComparedContext}

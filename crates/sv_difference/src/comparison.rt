@@ -4,14 +4,16 @@ ghost use Rattle.std.specs.Prelude.{◌≡◌, ◌++◌, IfOk, OnOk, filter, fin
 ghost use Rattle.std.specs.Option.{option_copied, option_map};
 ghost use Rattle.std.specs.Str.{bytes_eq};
 ghost use Rattle.sv_text.specs.Gives.{GivesAnswer};
-ghost use Rattle.sv_audit.specs.Differences.{differences, of_kind};
-ghost use Rattle.sv_audit.specs.declared.difference.DifferenceKind.TheVariants.{Opened};
+ghost use Rattle.sv_difference.specs.Differences.{differences, of_kind};
+ghost use Rattle.sv_audit.specs.declared.visitors.DifferenceKind.TheVariants.{Opened};
 ghost use Rattle.sv_difference.specs.ServerDifference as spec;
 
 use crate::contexts::{ComparedContext, ContextDifference, ContextSide, ServerDifference};
+use crate::difference::{Difference, Side};
 use crate::met_rows::{SidePatterns, only_met, paths_of};
+use crate::row_differences::differences;
 use std::alloc::Global;
-use sv_audit::{Difference, DifferenceKind, Side, differences, table_of};
+use sv_audit::{DifferenceKind, table_of};
 use sv_text::{Listed, NoMemory, Text};
 
 /// Returns what two configurations of a server decide differently, by their contexts. Contexts with the same path are

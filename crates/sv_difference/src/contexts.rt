@@ -1,6 +1,6 @@
 //! The contexts of two configurations of a server, and what differs between them.
 
-use sv_audit::Difference;
+use crate::difference::Difference;
 use sv_constraints::{Constraint, Rules};
 use sv_text::{Listed, Text};
 

@@ -1,11 +1,33 @@
-//! Theorems about reports, each the contract of a function that only calls other theorems.
+//! Theorems about differences and reports, each the contract of a function that only calls other theorems.
 
+ghost use Rattle.sv_difference.specs.DifferenceLaws.{DifferencesAreComplete, DifferencesAreRight, NoneExactlyIfSame};
 ghost use Rattle.sv_difference.specs.ExampleLaws.{ReportedExamplesAreChanged, SameOutcomesHaveNoExamples};
 ghost use Rattle.sv_difference.specs.ServerLaws.{LoginsChangeOutcomes, ReportedDifferencesAreRight, UnchangedHaveSameOutcomes};
 
-use sv_audit::{differences_are_complete, differences_are_right, served_paths_are_rooted};
+use sv_audit::{served_paths_are_rooted, tables_are_right};
 use sv_findings::{best_patterns_decide, reach_is_right};
 use sv_mapping::laws::{best_is_a_match, the_chosen_context_path_is_unique};
+use sv_policy::best_is_of_texts;
+
+/// Each difference of two configurations is right: its path is in both of its rows, it has methods, and its accesses say
+/// what the constraints decide on all requests with a path of both rows and one of the methods. There is a visitor whose
+/// fate with all of them differs. Its kind says whether some visitor passes only after, or only before.
+pub fn differences_are_right()
+    ensures { DifferencesAreRight }
+{
+    tables_are_right();
+    best_is_of_texts();
+}
+
+/// No difference is missed: a request that passes, leads to a login or is denied before, and does not so after, for some
+/// visitor, has the rows and the method of a difference. There is no difference exactly if there is no such request.
+pub fn differences_are_complete()
+    ensures complete { DifferencesAreComplete }
+    ensures exact { NoneExactlyIfSame }
+{
+    tables_are_right();
+    best_is_of_texts();
+}
 
 /// If a report says that nothing differs, each request of each visitor has the same outcome with both servers: the same
 /// context serves it or none does, it logs in, it is for a hidden folder, or it passes, leads to a login or is denied.

@@ -4,16 +4,23 @@
 
 mod comparison;
 mod contexts;
+mod difference;
 mod laws;
 mod lines;
+mod meetings;
 mod met_rows;
+mod method_sets;
 mod opened_first;
+mod row_differences;
 mod values;
 
 pub use comparison::server_difference;
 pub use contexts::{ComparedContext, ContextDifference, ContextSide, ServerDifference};
+pub use difference::{Difference, Side};
 pub use laws::{
-    reported_differences_are_right, reported_examples_are_changed, unchanged_have_same_outcomes,
+    differences_are_complete, differences_are_right, reported_differences_are_right,
+    reported_examples_are_changed, unchanged_have_same_outcomes,
 };
 pub use lines::difference_text;
+pub use row_differences::differences;
 pub use values::difference_json;

@@ -7,9 +7,10 @@ ghost use Rattle.sv_audit.specs.Reading as reading;
 ghost use Rattle.sv_difference.specs.DifferenceText as spec;
 
 use crate::contexts::{ContextDifference, ContextSide, ServerDifference};
+use crate::difference::Difference;
 use crate::opened_first::opened_first;
 use std::alloc::Global;
-use sv_audit::{Difference, DifferenceKind};
+use sv_audit::DifferenceKind;
 use sv_constraints::Methods;
 use sv_report::escaped::escaped;
 use sv_report::{folded, joined, names_text, pattern_text, push_all, who_text};

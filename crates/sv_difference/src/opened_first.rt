@@ -4,8 +4,9 @@ ghost use Rattle.std.specs.Prelude.{◌≡◌, ◌++◌, IfOk, OnOk, filter, map
 ghost use Rattle.sv_difference.specs.OpenedFirst as spec;
 
 use crate::contexts::ContextDifference;
+use crate::difference::Difference;
 use std::alloc::Global;
-use sv_audit::{Difference, DifferenceKind};
+use sv_audit::DifferenceKind;
 use sv_text::NoMemory;
 
 /// Returns the contexts in which something may have been opened, then the others, each in the order of the report.

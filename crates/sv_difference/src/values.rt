@@ -10,11 +10,12 @@ ghost use Rattle.sv_difference.specs.DifferenceJson as spec;
 ghost use Rattle.sv_difference.specs.DifferenceText.{example_of, has_login};
 
 use crate::contexts::{ContextDifference, ContextSide, ServerDifference};
+use crate::difference::Difference;
 use crate::lines::{example_of, has_login, kind_word};
 use crate::opened_first::opened_first;
 use serde_json::{Map, Value, json};
 use std::alloc::Global;
-use sv_audit::{Access, Difference};
+use sv_audit::Access;
 use sv_report::{
     are_excepted, enters, names_in, put_text, put_text_if, put_texts, put_truth, put_truth_if,
     put_value, roles_in,

@@ -32,7 +32,7 @@ use Rattle.sv_policy.specs.Uncovered.{is_uncovered}
 use Rattle.std.proofs.lemmas.List.Folds.{list_any-append}
 use Rattle.sv_uri.specs.Shape.{CanonicalHasShape}
 use Rattle.sv_audit.proofs.Callers.{apart, opens}
-use Rattle.sv_audit.proofs.DifferenceLemmas.{fate_by}
+use Rattle.sv_audit.proofs.VisitorLemmas.{fate_by}
 use Rattle.sv_audit.proofs.Equal.{and_left, and_right, both}
 use Rattle.sv_audit.proofs.Filters.{all_fail}
 use Rattle.sv_audit.proofs.Found.{any_of, in_texts, ordered_lists, root_matches}
@@ -72,7 +72,7 @@ use Rattle.sv_findings.specs.Unserved.{are_many, is_unserved, may_answer, may_be
 use Rattle.sv_findings.specs.Unreached.{is_unreached, unreached, unreached_in}
 use Rattle.sv_findings.specs.declared.surroundings.Surroundings.{Surroundings}
 use Rattle.sv_findings.specs.Heads.{head_at, head_on, straying, strays}
-use Rattle.sv_audit.specs.DifferenceLaws.{fate_of}
+use Rattle.sv_audit.specs.Configurations.{fate_of}
 use Rattle.sv_audit.specs.Visitors.{decided_by, effective, known, needs_login}
 use Rattle.sv_audit.specs.Reading.{IsDenied, Kind, NeedsLogin, Passes, kind_and_cause, said_to}
 use Rattle.sv_audit.specs.Rows.{in_row_order, match_every_path, other_paths, row_at, table_of}

@@ -18,7 +18,7 @@ use Rattle.sv_policy.specs.Covering.{named_methods}
 use Rattle.sv_policy.specs.Patterns.{lists_pattern}
 use Rattle.sv_policy.specs.Uncovered.{is_uncovered, rising}
 use Rattle.sv_audit.specs.Access.{roles_meant}
-use Rattle.sv_audit.specs.DifferenceLaws.{Configuration, fate_of}
+use Rattle.sv_audit.specs.Configurations.{Configuration, fate_of}
 use Rattle.sv_audit.specs.Shapes.{IsServed, matches_nothing}
 use Rattle.sv_findings.specs.Dead.{decides_nothing, is_dead, is_escaped, is_tried_late}
 use Rattle.sv_overruled.specs.Overruled.{others}

@@ -5,4 +5,4 @@ use Rattle.sv_audit.specs.Representatives as spec
 use Rattle.sv_audit.proofs.representatives.slashed_paths.Given as goal
 
 abbrev pub invariant-loop-directory : goal.invariant-loop-directory
-invariant-loop-directory l = l.paths.items ≡ filter is_slashed (spec.free_paths l.named.items l.endings.items (take l.directory-index l.directory-items))
+invariant-loop-directory l = l.paths.items ≡ filter is_slashed (spec.free_paths l.avoided.items l.endings.items (take l.directory-index l.directory-items))

@@ -1,6 +1,6 @@
 use Rattle.std.proofs.Common.{◌≡◌, ◌++◌, map, take}
-use Rattle.sv_audit.specs.Differences.{of_kind}
-use Rattle.sv_audit.specs.declared.difference.DifferenceKind.TheVariants.{Opened}
+use Rattle.sv_difference.specs.Differences.{of_kind}
+use Rattle.sv_audit.specs.declared.visitors.DifferenceKind.TheVariants.{Opened}
 use Rattle.sv_difference.proofs.comparison.push_opened.Given as goal
 
 abbrev pub invariant-loop-difference : goal.invariant-loop-difference
