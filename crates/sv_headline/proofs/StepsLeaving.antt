@@ -48,8 +48,14 @@ module _ {A : Type 0} (step : A → Call → A → Type 0) (before : List A) (pl
         ∙ ap Some (sym kept ∙ get_or_from_slice_get after other found found is))
   ]
 
--- `Same`: what stays in the exchange. `IsFair`: the servlets that leave it.
-module _ {S F L : Type 0} (moving : ComponentSteps S F L) (location_of : S → Option (List ℕ)) (Same : exchanges.State → exchanges.State → Type 0) (IsFair : S → Type 0) where
+-- the servlet at a place serves nothing by this call
+abbrev pub ServesNothingAt : (ℕ → Type 0) → Record → Type 0
+ServesNothingAt IsSpared (OfServlet place (Serviced before turn step after)) = ¬ (IsSpared place)
+ServesNothingAt IsSpared other = Unit {0}
+
+-- `Same`: what stays in the exchange. `IsFair`: the servlets that leave it. `IsSpared`: the places of servlets that serve nothing.
+module _ {S F L : Type 0} (moving : ComponentSteps S F L) (location_of : S → Option (List ℕ)) (Same : exchanges.State → exchanges.State → Type 0) (IsFair : S → Type 0)
+    (IsSpared : ℕ → Type 0) where
   pub record OthersLeave : Type 0 where
     pub servlets : (before after : S) (call : Call) → location_of before ≡ None → IsFair before → moving.servlet before call after
         → (location_of after ≡ None) × (IsFair after × OnExchange Same call)
@@ -59,45 +65,49 @@ module _ {S F L : Type 0} (moving : ComponentSteps S F L) (location_of : S → O
     abbrev IsOf : ℕ → Type 0
     IsOf place = IsOfApplication moving location_of context place
 
-    -- each servlet had an internal location at the start, or is fair
+    -- the servlet at a place had an internal location at the start, or is spared or fair
+    abbrev IsOfOrFair : ℕ → S → Type 0
+    IsOfOrFair place component = IsOf place ⊎ (IsSpared place ⊎ ((location_of component ≡ None) × IsFair component))
+
     abbrev AreOfOrFair : List (Named S) → Type 0
-    AreOfOrFair servlets =
-        (place : ℕ) (servlet : Named S) → slice_get servlets place ≡ Some servlet
-        → IsOf place ⊎ ((location_of servlet.component ≡ None) × IsFair servlet.component)
+    AreOfOrFair servlets = (place : ℕ) (servlet : Named S) → slice_get servlets place ≡ Some servlet → IsOfOrFair place servlet.component
 
     abbrev Holds : Record → Type 0
     Holds made = HoldsOfOther moving location_of context Same made
 
     module _ (before : List (Named S)) (place : ℕ) (call : Call) (after : List (Named S)) (moves : MovesAt (NamedStep moving.servlet) before place call after)
         (are : AreOfOrFair before) where
-      moved_stays : IsOf place ⊎ ((location_of moves.moved.component ≡ None) × IsFair moves.moved.component)
+      moved_stays : IsOfOrFair place moves.moved.component
       moved_stays = elim (are place moves.old (is_there (NamedStep moving.servlet) before place call after moves)) [
         | inl its ↦ inl its
-        | inr other ↦
+        | inr (inl spared) ↦ inr (inl spared)
+        | inr (inr other) ↦
             let left = leave.servlets moves.old.component moves.moved.component call other.0 other.1 moves.steps.steps in
-            inr (left.0, left.1.0)
+            inr (inr (left.0, left.1.0))
       ]
 
       all_stay : AreOfOrFair after
       all_stay other servlet is = elim (moved_or_there (NamedStep moving.servlet) before place call after moves other servlet is) [
-        | inl here ↦ subst (λ its_place. IsOf its_place ⊎ ((location_of servlet.component ≡ None) × IsFair servlet.component)) here.0
-            (subst (λ (its : Named S). IsOf place ⊎ ((location_of its.component ≡ None) × IsFair its.component)) (sym here.1) moved_stays)
+        | inl here ↦ subst (λ its_place. IsOfOrFair its_place servlet.component) here.0
+            (subst (λ (its : Named S). IsOfOrFair place its.component) (sym here.1) moved_stays)
         | inr there ↦ are other servlet there
       ]
 
-      service_leaves : ¬ (IsOf place) → OnExchange Same call
-      service_leaves apart = elim (are place moves.old (is_there (NamedStep moving.servlet) before place call after moves)) [
+      service_leaves : ¬ (IsOf place) → ¬ (IsSpared place) → OnExchange Same call
+      service_leaves apart serves = elim (are place moves.old (is_there (NamedStep moving.servlet) before place call after moves)) [
         | inl its ↦ absurd (apart its)
-        | inr other ↦ (leave.servlets moves.old.component moves.moved.component call other.0 other.1 moves.steps.steps).1.1
+        | inr (inl spared) ↦ absurd (serves spared)
+        | inr (inr other) ↦ (leave.servlets moves.old.component moves.moved.component call other.0 other.1 moves.steps.steps).1.1
       ]
 
-    of_servlet : (place : ℕ) (call : Call) → (¬ (IsOf place) → OnExchange Same call) → Holds (OfServlet place call)
-    of_servlet place (Serviced before turn step after) leaves = leaves
-    of_servlet place (calls.Inited config init) leaves = tt
-    of_servlet place (calls.Entered before gate after) leaves = tt
-    of_servlet place (calls.Left before done after) leaves = tt
-    of_servlet place (calls.Heard event) leaves = tt
-    of_servlet place calls.Destroyed leaves = tt
+    of_servlet : (place : ℕ) (call : Call) → (¬ (IsOf place) → ¬ (IsSpared place) → OnExchange Same call) → ServesNothingAt IsSpared (OfServlet place call)
+        → Holds (OfServlet place call)
+    of_servlet place (Serviced before turn step after) leaves serves = λ apart. leaves apart serves
+    of_servlet place (calls.Inited config init) leaves serves = tt
+    of_servlet place (calls.Entered before gate after) leaves serves = tt
+    of_servlet place (calls.Left before done after) leaves serves = tt
+    of_servlet place (calls.Heard event) leaves serves = tt
+    of_servlet place calls.Destroyed leaves serves = tt
 
     of_filter : (place : ℕ) (call : Call) → OnExchange Same call → Holds (OfFilter place call)
     of_filter place (Serviced before turn step after) leaves = tt
@@ -107,40 +117,57 @@ module _ {S F L : Type 0} (moving : ComponentSteps S F L) (location_of : S → O
     of_filter place (calls.Heard event) leaves = tt
     of_filter place calls.Destroyed leaves = tt
 
-    all_leave : (from to : World S F L) (made : List Record) → IsRun moving from made to → AreOfOrFair from.servlets → AllByRecursion Holds made
+    all_leave : (from to : World S F L) (made : List Record) → IsRun moving from made to → AreOfOrFair from.servlets → AllByRecursion (ServesNothingAt IsSpared) made
+        → AllByRecursion Holds made
     unfolding IsRun
-    all_leave from to [] run are = tt
-    all_leave from to (OfServlet place call ∷ others) run are =
+    all_leave from to [] run are spares = tt
+    all_leave from to (OfServlet place call ∷ others) run are spares =
         let moves : Moves moving from (OfServlet place call) run.0 = run.1 in (
-          of_servlet place call (service_leaves from.servlets place call run.0.servlets moves.component.0 are),
-          all_leave run.0 to others run.2 (all_stay from.servlets place call run.0.servlets moves.component.0 are),
+          of_servlet place call (service_leaves from.servlets place call run.0.servlets moves.component.0 are) spares.0,
+          all_leave run.0 to others run.2 (all_stay from.servlets place call run.0.servlets moves.component.0 are) spares.1,
         )
-    all_leave from to (OfFilter place call ∷ others) run are =
+    all_leave from to (OfFilter place call ∷ others) run are spares =
         let moves : Moves moving from (OfFilter place call) run.0 = run.1 in
         let moved : MovesAt (NamedStep moving.filter) from.filters place call run.0.filters = moves.component.0 in (
           of_filter place call (leave.filters moved.old.component moved.moved.component call moved.steps.steps),
-          all_leave run.0 to others run.2 (subst AreOfOrFair (sym moves.component.1) are),
+          all_leave run.0 to others run.2 (subst AreOfOrFair (sym moves.component.1) are) spares.1,
         )
-    all_leave from to (OfListener place event ∷ others) run are =
+    all_leave from to (OfListener place event ∷ others) run are spares =
         let moves : Moves moving from (OfListener place event) run.0 = run.1 in
-        (tt, all_leave run.0 to others run.2 (subst AreOfOrFair (sym moves.component.1) are))
+        (tt, all_leave run.0 to others run.2 (subst AreOfOrFair (sym moves.component.1) are) spares.1)
 
-  -- in a lawful message the other servlets and the filters leave what their steps leave, if all servlets are fair at first
+  -- in a lawful message the other servlets and the filters leave what their steps leave, if each servlet is fair at first or
+  -- serves nothing
   pub others_leave : (handling : Handling (ContextState S F L)) (made : List Record) → OthersLeave → IsLawfulMessage moving handling made
-      → ((place : ℕ) (servlet : Named S) → slice_get handling.context.servlets place ≡ Some servlet → IsFair servlet.component)
+      → ((place : ℕ) (servlet : Named S) → slice_get handling.context.servlets place ≡ Some servlet → IsSpared place ⊎ IsFair servlet.component)
+      → AllByRecursion (ServesNothingAt IsSpared) made
       → AllByRecursion (HoldsOfOther moving location_of handling.context Same) made
-  others_leave handling made leave lawful fair =
+  others_leave handling made leave lawful fair spares =
       all_leave leave handling.context (world_of handling.context unnoted) (world_of handling.after unnoted) made (ran moving handling made lawful)
-      (λ place servlet is. by place servlet is (location_of servlet.component) refl)
+      (λ place servlet is. by place servlet is (location_of servlet.component) refl) spares
     where
       by : (place : ℕ) (servlet : Named S) → slice_get handling.context.servlets place ≡ Some servlet
           → (found : Option (List ℕ)) → location_of servlet.component ≡ found
-          → IsOfApplication moving location_of handling.context place ⊎ ((location_of servlet.component ≡ None) × IsFair servlet.component)
+          → IsOfApplication moving location_of handling.context place ⊎ (IsSpared place ⊎ ((location_of servlet.component ≡ None) × IsFair servlet.component))
       by place servlet is (Some internal) located = inl (internal, (servlet, is, located))
-      by place servlet is None none = inr (none, fair place servlet is)
+      by place servlet is None none = elim (fair place servlet is) [
+        | inl spared ↦ inr (inl spared)
+        | inr its ↦ inr (inr (none, its))
+      ]
+
+spares_none : (made : List Record) → AllByRecursion (ServesNothingAt (λ place. ⊥)) made
+spares_none [] = tt
+spares_none (OfServlet place (Serviced before turn step after) ∷ others) = (λ none. none, spares_none others)
+spares_none (OfServlet place (calls.Inited config init) ∷ others) = (tt, spares_none others)
+spares_none (OfServlet place (calls.Entered before gate after) ∷ others) = (tt, spares_none others)
+spares_none (OfServlet place (calls.Left before done after) ∷ others) = (tt, spares_none others)
+spares_none (OfServlet place (calls.Heard event) ∷ others) = (tt, spares_none others)
+spares_none (OfServlet place calls.Destroyed ∷ others) = (tt, spares_none others)
+spares_none (OfFilter place call ∷ others) = (tt, spares_none others)
+spares_none (OfListener place event ∷ others) = (tt, spares_none others)
 
 module _ {S F L : Type 0} (moving : ComponentSteps S F L) where
-  fields_left : (location_of : S → Option (List ℕ)) → StepsLeaveFields moving location_of → OthersLeave moving location_of SameProxyFields (λ servlet. Unit {0})
+  fields_left : (location_of : S → Option (List ℕ)) → StepsLeaveFields moving location_of → OthersLeave moving location_of SameProxyFields (λ servlet. Unit {0}) (λ place. ⊥)
   fields_left location_of leave = record {
     servlets = λ before after call none fair step. let left = leave.servlets before after call none step in (left.0, (tt, left.1));
     filters = leave.filters;
@@ -151,5 +178,6 @@ module _ {S F L : Type 0} (moving : ComponentSteps S F L) where
   steps_hand_over_only_entries draws in_runs location_of steps_as leave before after happenings answers lawful earlier later place text handling made internal is redirect =
       let message = (message_of moving draws before after happenings answers lawful earlier later place handling made text is).3 in
       in_runs before after happenings answers lawful earlier later place text location_of handling made internal is steps_as
-      (others_leave moving location_of SameProxyFields (λ servlet. Unit {0}) handling made (fields_left location_of leave) message (λ place servlet there. tt))
+      (others_leave moving location_of SameProxyFields (λ servlet. Unit {0}) (λ place. ⊥) handling made (fields_left location_of leave) message (λ place servlet there. inr tt)
+      (spares_none made))
       redirect

@@ -1,6 +1,8 @@
 -- Requests that the classes of the program hand over to an application behind a proxy.
 use Rattle.std.specs.Prelude.{◌≡◌, ◌≢◌, ℕ, List, ◌∷◌, ◌++◌, Option, None, Some, slice_get}
-use Rattle.sv_component.specs.Runs.{Record}
+use Rattle.std.specs.List.{AllByRecursion}
+use Rattle.sv_component.specs.Call.{Serviced}
+use Rattle.sv_component.specs.Runs.{OfServlet, Record}
 use Rattle.sv_component.specs.Steps.{ComponentSteps, steps_of}
 use Rattle.sv_component.specs.declared.components.Named.{Named}
 use Rattle.sv_context.specs.State.{ContextState}
@@ -39,17 +41,18 @@ TheProgramHandsOverOnlyEntries draws = OnlyEntriesAreHandedOver program_steps lo
 abbrev pub ProgramContext : Type 0
 ProgramContext = ContextState ProgramServlet ProgramFilter ProgramListener
 
--- no servlet of the context is of a class that may remove the caller
-abbrev pub EndsNoLogins : ProgramContext → Type 0
-EndsNoLogins context =
-    (place : ℕ) (servlet : Named ProgramServlet) → slice_get context.servlets place ≡ Some servlet → kind_of servlet.component ≢ EndsLogins
+-- the call serves no request by a servlet of a class that may remove the caller
+abbrev pub IsNoEndOfLogins : ProgramContext → Record → Type 0
+IsNoEndOfLogins context (OfServlet place (Serviced before turn step after)) =
+    (servlet : Named ProgramServlet) → slice_get context.servlets place ≡ Some servlet → kind_of servlet.component ≢ EndsLogins
+IsNoEndOfLogins context other = Unit {0}
 
--- in each message of a lawful run, the other components of such a context undo no login
+-- in each message of a lawful run that calls no such servlet, the other components undo no login
 abbrev pub TheProgramUndoesNoLogins : {Words : Type 0} → (Words → ℕ × ℕ → Words → Type 0) → Type 0
 TheProgramUndoesNoLogins {Words} draws =
     (before after : State ProgramContext Words) (happenings : List Happening) (answers : List (Answer ProgramContext))
     (lawful : IsLawfulRun program_steps draws before happenings answers after) (earlier later : List (Transition ProgramServlet ProgramFilter ProgramListener))
     (place : ℕ) (text : List ℕ) (handling : Handling ProgramContext) (made : List Record)
     → lawful.transitions ≡ earlier ++ ContextAnswer place handling made text ∷ later
-    → EndsNoLogins handling.context
+    → AllByRecursion (IsNoEndOfLogins handling.context) made
     → OthersLeaveCaller program_steps location_of handling.context made

@@ -71,8 +71,9 @@ pub fn the_program_hands_over_only_entries<W: Words>()
     steps_hand_over_only_entries::<ProgramServlet, ProgramFilter, ProgramListener, W>();
 }
 
-/// If no servlet of a context is of the class `Bye` or `Out`, no component but a servlet of the class `Application` changes
-/// the caller in a message of a lawful run.
+/// In a message of a lawful run in which no servlet of the class `Bye` or `Out` serves, no component but a servlet of the
+/// class `Application` changes the caller. So a logout path beside the application's own paths takes nothing away from
+/// the law above.
 pub fn the_program_undoes_no_logins<W: Words>()
     ensures { TheProgramUndoesNoLogins W.draws }
 {}
