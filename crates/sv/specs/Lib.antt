@@ -1,3 +1,4 @@
+pub mod Accesses
 pub mod CheckCommand
 pub mod Replies
 pub mod Execution

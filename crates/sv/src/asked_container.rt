@@ -2,9 +2,10 @@
 
 ghost use Rattle.std.specs.Option.{option_copied};
 ghost use Rattle.std.specs.Prelude.{◌++◌, codes};
+ghost use Rattle.sv.specs.Accesses.{answered_in};
 ghost use Rattle.sv.specs.Replies as spec;
 ghost use Rattle.sv_component.specs.Steps.{steps_of};
-ghost use Rattle.sv_container.specs.Container.{state_of};
+ghost use Rattle.sv_container.specs.Container.{logs_of, state_of};
 ghost use Rattle.sv_container.specs.Explaining.{explanation_of};
 ghost use Rattle.sv_context.specs.Theory.{theory};
 ghost use Rattle.sv_policy.specs.Text.{explanation_text};
@@ -14,11 +15,14 @@ ghost use Rattle.sv_text.specs.Gives.{GivesAnswer};
 
 use crate::gaps::{constraints_of, standing_of, uncovered_of};
 use std::alloc::Global;
+use sv_access_log::AccessSource;
 use sv_component::{Filter, Listener, Servlet};
 use sv_connection::Queries;
 use sv_container::{Container, ExplainFault, Explanation};
 use sv_journal::Journal;
-use sv_run::{EventHandler, Happening, Reaction, StepFault, Words};
+use sv_mapping::HasContextPath;
+use sv_policy::HasPolicy;
+use sv_run::{Access, EventHandler, Happening, Reaction, StepFault, Words};
 use sv_text::{Bytes, NoMemory};
 use sv_wire::Awaited;
 
@@ -53,6 +57,38 @@ impl<S, F, L, W> AskedContainer<S, F, L, W> {
             events: _events,
         } = self;
         container
+    }
+}
+
+impl<S: Servlet, F: Filter, L: Listener, W: Words> AskedContainer<S, F, L, W> {
+    ghost use Rattle.std.specs.Prelude.{◌≡◌};
+
+    /// Sets whether a log wants the accesses of later events.
+    pub fn set_logs(&mut self, logs: bool)
+        ensures state { state_of self.new.container ≡ state_of self.old.container }
+        ensures events { self.new.events ≡ self.old.events }
+        ensures logs { logs_of self.new.container ≡ logs }
+    {
+        self.container.set_logs(logs);
+    }
+}
+
+impl<S: Servlet, F: Filter, L: Listener, W: Words> AccessSource for AskedContainer<S, F, L, W> {
+    ghost answered = { λ asked. answered_in asked.container };
+
+    fn accesses(&self) -> &[Access] {
+        self.container.accesses()
+    }
+
+    fn user_name(&self, context: usize, number: u32) -> Option<&str> {
+        let context = self.container.contexts().get(context)?;
+        let caller = context.users().caller(number)?;
+        Some(caller.name.as_str())
+    }
+
+    fn context_path(&self, context: usize) -> Option<&str> {
+        let context = self.container.contexts().get(context)?;
+        Some(context.context_path())
     }
 }
 

@@ -13,10 +13,11 @@ use std::net::{IpAddr, Ipv4Addr, Net, SocketAddr};
 use std::random::RandomSource;
 use std::rt::Files;
 use std::time::Clock;
-use sv_arguments::RunOptions;
+use sv_arguments::{AccessLogFormat, RunOptions};
 use sv_component::{Filter, Listener, Servlet};
 use sv_deployments::{FolderStore, ProgramFilter, ProgramListener, ProgramServlet};
-use sv_listening::{ListenOptions, run_controlled, run_recorded};
+use sv_access_log::LogFormat;
+use sv_listening::{AccessLogOptions, LastAccepted, ListenOptions, run_journaled, run_logged};
 use sv_program::{CommandFault, FileStore};
 
 /// Starts the container of the server file with the random words of the options' seeding, and listens at the address.
@@ -24,11 +25,11 @@ use sv_program::{CommandFault, FileStore};
 /// all connections within the options' limits, none waiting for another. This ends when the control socket, if one is
 /// named, receives `stop`, when the descriptor of signals, if one is given, reports SIGTERM or SIGINT, or when the process
 /// is ended from outside. Shuts the container down, even after a fault. If a journal is named, appends the effects of the
-/// events to that file.
+/// events to that file. If an access log is named, appends a line for each request to that file.
 ///
 /// # Errors
-/// The first fault: those of [`start_server`], with nothing written; then [`CommandFault::File`] if a journal, a
-/// descriptor of signals or a control socket cannot be opened; then [`CommandFault::Socket`], [`CommandFault::Output`] or
+/// The first fault: those of [`start_server`], with nothing written; then [`CommandFault::File`] if an access
+/// log, a journal, a descriptor of signals or a control socket cannot be opened; then [`CommandFault::Socket`], [`CommandFault::Output`] or
 /// [`CommandFault::NoMemory`] as the run meets them.
 pub fn run<S: FileStore + FolderStore, H: Net + Clock + RandomSource + Files + Eprint, W: Write>(
     alloc: Global,
@@ -51,19 +52,32 @@ pub fn run<S: FileStore + FolderStore, H: Net + Clock + RandomSource + Files + E
         Ok(started) => started,
         Err(fault) => return Err(fault),
     };
+    let last = LastAccepted::new();
     let listening = ListenOptions {
         address: address_or(options.listen, port),
         limits: limits_of(options),
         control: options.control,
         signals: options.signal_descriptor,
+        last: &last,
     };
-    let asked = AskedContainer::new(container);
-    let (served, asked) = match options.journal {
-        Some(name) => run_recorded(alloc, host, writer, listening, name, asked),
-        None => run_controlled(alloc, host, writer, listening, asked),
+    let mut asked = AskedContainer::new(container);
+    asked.set_logs(options.access_log.is_some());
+    let (served, asked) = match access_log(options) {
+        Some(log) => run_logged(alloc, host, writer, listening, options.journal, log, asked),
+        None => run_journaled(alloc, host, writer, listening, options.journal, asked),
     };
     asked.into_container().shutdown().let_go();
     served
+}
+
+// Returns the access log that the options name, if any.
+fn access_log<'a>(options: &RunOptions<'a>) -> Option<AccessLogOptions<'a>> {
+    let name = options.access_log?;
+    let format = match options.access_log_format {
+        AccessLogFormat::Combined => LogFormat::Combined,
+        AccessLogFormat::Json => LogFormat::Json,
+    };
+    Some(AccessLogOptions { name, format })
 }
 
 // Returns the address, or 127.0.0.1 with this port if none is given.

@@ -2,10 +2,10 @@
 
 ghost use Rattle.std.specs.Prelude.{◌≡◌};
 ghost use Rattle.sv_component.specs.Steps.{steps_of};
-ghost use Rattle.sv_container.specs.Container.{state_of};
+ghost use Rattle.sv_container.specs.Container.{accesses_of, logs_of, state_of};
 ghost use Rattle.sv_context.specs.Conduct.{conduct};
 ghost use Rattle.sv_context.specs.Theory.{theory};
-ghost use Rattle.sv_run.specs.Host.{StepsSo};
+ghost use Rattle.sv_run.specs.Host.{LogsSo, StepsSo};
 ghost use Rattle.sv_run.specs.Connections.{awaited_in};
 ghost use Rattle.sv_run.specs.Events.{AltersAll};
 ghost use Rattle.sv_run.specs.Seen.{happening_of};
@@ -13,7 +13,7 @@ ghost use Rattle.sv_run.specs.Seen.{happening_of};
 use crate::container::Container;
 use sv_component::{Filter, Listener, Servlet};
 use sv_journal::Journal;
-use sv_run::{EventHandler, Happening, Reaction, StepFault, Words};
+use sv_run::{Access, EventHandler, Happening, Reaction, StepFault, Words};
 use sv_wire::Awaited;
 
 impl<S: Servlet, F: Filter, L: Listener, W: Words> Container<S, F, L, W> {
@@ -28,6 +28,9 @@ impl<S: Servlet, F: Filter, L: Listener, W: Words> Container<S, F, L, W> {
     pub fn step(&mut self, happening: Happening) -> Result<Reaction, StepFault>
         ensures steps { StepsSo (theory (steps_of S.servlet_step F.filter_step L.listener_step) W.draws)
             (state_of self.old) (happening_of happening.entry) result (state_of self.new) }
+        ensures logs { LogsSo (theory (steps_of S.servlet_step F.filter_step L.listener_step) W.draws)
+            (logs_of self.old) (state_of self.old) (happening_of happening.entry) result (state_of self.new) (accesses_of self.new) }
+        ensures kept { logs_of self.new ≡ logs_of self.old }
         ensures alters { AltersAll (conduct (steps_of S.servlet_step F.filter_step L.listener_step)) (state_of self.old).world.contexts (state_of self.new).world.contexts }
     {
         self.host.step(happening)
@@ -39,6 +42,22 @@ impl<S: Servlet, F: Filter, L: Listener, W: Words> Container<S, F, L, W> {
         ensures { result ≡ awaited_in (state_of self.now).connections connection }
     {
         self.host.awaits(connection)
+    }
+
+    /// Sets whether a log wants the accesses of later events. A new container logs none.
+    pub fn set_logs(&mut self, logs: bool)
+        ensures state { state_of self.new ≡ state_of self.old }
+        ensures logs { logs_of self.new ≡ logs }
+    {
+        self.host.set_logs(logs);
+    }
+
+    /// Returns the accesses of the last event: the messages that it answered, in the order of their responses. There are
+    /// none if no log wants them, or if the event had a fault.
+    pub fn accesses(&self) -> &[Access]
+        ensures { result.now ≡ accesses_of self.now }
+    {
+        self.host.accesses()
     }
 
     /// Reclaims the memory of an earlier event's bytes and journal, which the caller no longer needs. Later events

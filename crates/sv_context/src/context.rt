@@ -1,6 +1,7 @@
 //! A deployed context.
 
 ghost use Rattle.std.specs.Prelude.{length, ◌≡◌};
+ghost use Rattle.sv_context.specs.Conduct.{caller_in};
 ghost use Rattle.sv_context.specs.Forgetting.{without_sessions};
 
 use crate::deployment::no_sessions;
@@ -9,6 +10,8 @@ use std::alloc::Global;
 use std::marker::Model;
 use sv_component::{Filter, Listener, Servlet};
 use sv_lifecycle::Deployment;
+use sv_login::held;
+use sv_message::Message;
 use sv_policy::{HasPolicy, Policy};
 use sv_realm::Realm;
 use sv_session::Sessions;
@@ -40,6 +43,17 @@ impl<S, F, L> Context<S, F, L> {
         ensures { result ≡ length self.now.store.sessions }
     {
         self.sessions.count()
+    }
+
+    /// Returns the number of the user who is logged in to the session that a message's cookies name, if any (Jakarta
+    /// Servlet 6.0, sections 7.1.1 and 13.3).
+    pub fn caller(&self, message: &Message) -> Option<u32>
+        ensures { result ≡ caller_in self.now message.now }
+    {
+        let app = self.responder.site.descriptor().web_app();
+        let name = app.session.cookie.name.as_str();
+        let number = held(message.fields.as_slice(), name, &self.sessions)?;
+        self.sessions.caller(number)
     }
 }
 

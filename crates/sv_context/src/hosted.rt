@@ -18,7 +18,7 @@ impl<S, F, L> HasContextPath for Context<S, F, L> {
     }
 }
 
-// `handle` and `expire` forward to the public methods of the same names. The contracts of those are stronger than the
+// `handle`, `caller` and `expire` forward to the public methods of the same names. The contracts of those are stronger than the
 // trait's: they also cover a journal that breaks.
 impl<S: Servlet, F: Filter, L: Listener> sv_run::Context for Context<S, F, L> {
     ghost use Rattle.sv_component.specs.Steps.{steps_of};
@@ -38,6 +38,10 @@ impl<S: Servlet, F: Filter, L: Listener> sv_run::Context for Context<S, F, L> {
         journal: &mut Journal,
     ) -> Result<Response, NoMemory> {
         self.handle(alloc, message, canon, moment, words, journal)
+    }
+
+    fn caller(&self, message: &Message) -> Option<u32> {
+        self.caller(message)
     }
 
     #[inline(always)]

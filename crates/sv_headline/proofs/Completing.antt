@@ -7,7 +7,7 @@ use Rattle.sv_component.specs.Laws.{RunsAreJournalled}
 use Rattle.sv_component.specs.Runs.{IsRun, Record, record_entry}
 use Rattle.sv_component.specs.Steps.{ComponentSteps}
 use Rattle.sv_context.proofs.Journals.{runs_note}
-use Rattle.sv_context.specs.Conduct.{asked_of, conduct, unnoted}
+use Rattle.sv_context.specs.Conduct.{asked_of, caller_in, conduct, unnoted}
 use Rattle.sv_context.specs.Handled.{admitted}
 use Rattle.sv_context.specs.State.{ContextState, world_of}
 use Rattle.sv_context.specs.Theory.{theory}
@@ -138,7 +138,7 @@ module _ {S F L : Type 0} (moving : ComponentSteps S F L) (journalled : RunsAreJ
             record { there = its.there; handles = handles_of answers.0 answers.1 its.lawful; is_after = its.is_after },
             answers.4,
             ap effect_of answers.5
-                ∙ ap (λ (request : Request). handled place answers.0 answers.2 (closes_behind request.message answers.0.response)) answers.3,
+                ∙ ap (λ (request : Request). handled place (caller_in answers.0.context request.message) answers.0 answers.2 (closes_behind request.message answers.0.response)) answers.3,
           )
 
       item_takes : (item : Item) (transition : Transition S F L) (before after : Contexts) (words words_after : Words)

@@ -5,7 +5,7 @@ use Rattle.std.specs.List.{AllByRecursion, flat_map}
 use Rattle.sv_component.specs.Laws.{RunsAreJournalled, RunsMoveComponents}
 use Rattle.sv_component.specs.Runs.{Record}
 use Rattle.sv_component.specs.Steps.{ComponentSteps}
-use Rattle.sv_context.specs.Conduct.{conduct, unnoted}
+use Rattle.sv_context.specs.Conduct.{caller_in, conduct, unnoted}
 use Rattle.sv_context.specs.State.{ContextState, world_of}
 use Rattle.sv_context.specs.Theory.{theory}
 use Rattle.sv_headline.proofs.Leading.{GoesOn, leads_paths, path_of, same_destination, some_is, through_all, through_on, through_parts}
@@ -106,7 +106,7 @@ module _ {S F L Words : Type 0} (moving : ComponentSteps S F L) (draws : Words �
           };
           effect_is =
               responds.5
-              ∙ ap (λ (request : Request). handled place handling responds.1 (closes_behind request.message handling.response)) (sym responds.2);
+              ∙ ap (λ (request : Request). handled place (caller_in handling.context request.message) handling responds.1 (closes_behind request.message handling.response)) (sym responds.2);
         }
 
     one_brought : (item : Item) (before after : World (ContextState S F L) Words) (effect : Effect (ContextState S F L))

@@ -5,7 +5,7 @@ use Rattle.std.specs.List.{AllByRecursion, flat_map}
 use Rattle.std.specs.Option.{option_map_or}
 use Rattle.sv_component.specs.Runs.{IsRun, Record, record_entry}
 use Rattle.sv_component.specs.Steps.{ComponentSteps}
-use Rattle.sv_context.specs.Conduct.{unnoted}
+use Rattle.sv_context.specs.Conduct.{caller_in, unnoted}
 use Rattle.sv_context.specs.Expiry.{ends_told}
 use Rattle.sv_context.specs.State.{ContextState, IsSameDeployment, world_of}
 use Rattle.sv_headline.specs.Message.{IsLawfulMessage}
@@ -22,8 +22,10 @@ use Rattle.sv_policy.specs.declared.edit_fault.EditFault.TheVariants as faults
 use Rattle.sv_run.specs.Contexts.{Handling}
 use Rattle.sv_run.specs.Effect.{Effect, answered, closing, editing, handled, joined_all, sending, telling}
 use Rattle.sv_run.specs.Items.{closes_behind, continue_text}
+use Rattle.sv_run.specs.Messages.{plain_response}
 use Rattle.sv_session.specs.Runs as sessions
 use Rattle.sv_session.specs.declared.ended_sessions.EndedSession.{EndedSession}
+use Rattle.sv_wire.specs.WireFault.{fault_status}
 use Rattle.sv_wire.specs.declared.wire_fault.WireFault.{WireFault}
 
 -- the end of a context's expired sessions: the context before and after it, and the sessions that end, in order
@@ -56,14 +58,15 @@ module _ {S F L : Type 0} where
   abbrev pub entries_of : Expiry S F L → List Entry
   entries_of expiry = map (record_entry (world_of expiry.context unnoted)) (told_of expiry)
 
-  -- the bytes that are sent, the entries of the journal, the deed of a message, the answer to an edit, and whether the
-  -- connection closes
+  -- the bytes that are sent, the entries of the journal, the deed and the access of a message, the answer to an edit, and
+  -- whether the connection closes
   abbrev pub effect_of : Transition S F L → Effect (ContextState S F L)
   effect_of (Expiries moment expiries) = telling (flat_map entries_of expiries)
   effect_of Continuation = sending continue_text
-  effect_of (Refusal fault text) = answered (Refused (causes.Wire fault)) text true
-  effect_of (OwnAnswer message entry response text) = answered entry text (closes_behind message response)
-  effect_of (ContextAnswer place handling made text) = handled place handling text (closes_behind handling.request.message handling.response)
+  effect_of (Refusal fault text) = answered None (plain_response (fault_status fault)) (Refused (causes.Wire fault)) text true
+  effect_of (OwnAnswer message entry response text) = answered (Some message) response entry text (closes_behind message response)
+  effect_of (ContextAnswer place handling made text) =
+      handled place (caller_in handling.context handling.request.message) handling text (closes_behind handling.request.message handling.response)
   effect_of (EditAnswer place edit answer) = editing answer
   effect_of Closing = closing
 

@@ -1,5 +1,6 @@
 //! Listeners and sockets for an event handler. They serve the connections of a port, one after another or all at once,
-//! and record the entries of events in a journal. The crate also makes the seed of a container's random words.
+//! record the entries of events in a journal, and write a line for each request to an access log. The crate also makes
+//! the seed of a container's random words.
 #![tactic(auto)]
 
 mod bounds;
@@ -7,6 +8,7 @@ mod control_request;
 mod laws;
 mod limits;
 mod lines;
+mod logged_run;
 mod own_acceptor;
 mod pace;
 mod part_len;
@@ -36,6 +38,7 @@ pub use limits::{
     STOP_SECONDS,
 };
 pub use lines::event_lines;
+pub use logged_run::{AccessLogOptions, run_journaled, run_logged};
 pub use own_acceptor::OwnAcceptor;
 pub use part_stream::PartStream;
 pub use record::Record;
@@ -47,6 +50,7 @@ pub use self_test::{SELF_TEST_REQUEST, ask, first_line};
 pub use serial_server::listen_and_serve;
 pub use serve::serve_on;
 pub use server::{ListenOptions, listen_and_run, run_controlled};
+pub use sv_readiness::LastAccepted;
 pub use socket_acceptor::SocketAcceptor;
 pub use socket_stream::SocketStream;
 pub use sockets::fault_of_run;

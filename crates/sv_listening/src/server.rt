@@ -9,10 +9,11 @@ use std::rt::Files;
 use std::time::Clock;
 use sv_connection::{Limits, LoopEnd, Queries, WithoutQueries, run_event_loop};
 use sv_program::{CommandFault, SocketFault, print_line};
-use sv_readiness::{Listening, RoundClock, Sockets};
+use sv_readiness::{LastAccepted, Listening, RoundClock, Sockets};
 use sv_run::{EventHandler, RunFault};
 
-/// The address that a server listens on, the limits of its connections, its control socket and its signals.
+/// The address that a server listens on, the limits of its connections, its control socket, its signals, and the place
+/// for the addresses of its clients.
 #[derive(Clone, Copy)]
 pub struct ListenOptions<'a> {
     /// The address. Port 0 selects any free port.
@@ -23,6 +24,8 @@ pub struct ListenOptions<'a> {
     pub control: Option<&'a str>,
     /// The number of the descriptor at which the signals of the process are read, if there is one.
     pub signals: Option<u32>,
+    /// Where the address of the client that was accepted last is noted.
+    pub last: &'a LastAccepted,
 }
 
 /// Listens at the address and writes the line `listening ADDRESS:PORT`. Port 0 selects any free port. Then serves all
@@ -42,9 +45,14 @@ pub fn listen_and_run<H: Net + Clock, W: Write, R: EventHandler>(
         Ok(listening) => listening,
         Err(error) => return (Err(address_fault(address, error)), handler),
     };
-    let limits = Limits::standard();
+    let last = LastAccepted::new();
+    let serving = Serving {
+        listening,
+        limits: Limits::standard(),
+        last: &last,
+    };
     let without_queries = WithoutQueries::new(handler);
-    let (served, handler) = tell_and_run(alloc, host, writer, listening, limits, without_queries);
+    let (served, handler) = tell_and_run(alloc, host, writer, serving, without_queries);
     (served, handler.into_within())
 }
 
@@ -71,9 +79,23 @@ pub fn run_controlled<H: Net + Clock + Files, W: Write, R: EventHandler + Querie
         return (Err(fault), handler);
     }
     match take_lines(alloc, host, &mut listening, options.control) {
-        Ok(()) => tell_and_run(alloc, host, writer, listening, options.limits, handler),
+        Ok(()) => {
+            let serving = Serving {
+                listening,
+                limits: options.limits,
+                last: options.last,
+            };
+            tell_and_run(alloc, host, writer, serving, handler)
+        }
         Err(fault) => (Err(fault), handler),
     }
+}
+
+// A listener, the limits of its connections, and the place for the addresses of its clients.
+struct Serving<'a> {
+    listening: Listening,
+    limits: Limits,
+    last: &'a LastAccepted,
 }
 
 // Writes the address of the listener, and serves.
@@ -81,12 +103,11 @@ fn tell_and_run<H: Net + Clock, W: Write, R: EventHandler + Queries>(
     alloc: Global,
     host: &H,
     writer: &mut W,
-    listening: Listening,
-    limits: Limits,
+    serving: Serving<'_>,
     handler: R,
 ) -> (Result<(), CommandFault>, R) {
-    match tell_address(alloc, writer, &listening) {
-        Ok(()) => run_listening(alloc, host, listening, limits, handler),
+    match tell_address(alloc, writer, &serving.listening) {
+        Ok(()) => run_listening(alloc, host, serving, handler),
         Err(fault) => (Err(fault), handler),
     }
 }
@@ -139,15 +160,19 @@ fn tell_address<W: Write>(
 fn run_listening<H: Net + Clock, R: EventHandler + Queries>(
     alloc: Global,
     host: &H,
-    listening: Listening,
-    limits: Limits,
+    serving: Serving<'_>,
     handler: R,
 ) -> (Result<(), CommandFault>, R) {
+    let Serving {
+        listening,
+        limits,
+        last,
+    } = serving;
     let Ok(registry) = listening.registry() else {
         return (Err(CommandFault::Socket(SocketFault::Poll)), handler);
     };
     let moment = Cell::new(0);
-    match Sockets::new(alloc, host, &registry, listening, &moment) {
+    match Sockets::new(alloc, host, &registry, listening, &moment, last) {
         Ok(sockets) => run_sockets(alloc, &moment, sockets, limits, handler),
         Err(_) => (Err(CommandFault::NoMemory), handler),
     }

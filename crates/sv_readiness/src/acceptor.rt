@@ -1,6 +1,7 @@
 //! A nonblocking listener that accepts connections.
 
 use crate::crowd::{Crowd, lacks_room};
+use crate::last_accepted::LastAccepted;
 use crate::listener::LISTENER;
 use mio::net::{TcpListener, TcpStream};
 use mio::{Interest, Registry, Token};
@@ -11,6 +12,7 @@ use std::io::ErrorKind;
 pub(crate) struct Acceptor<'a> {
     registry: &'a Registry,
     listener: TcpListener,
+    last: &'a LastAccepted,
     crowd: Crowd,
     // Whether an accept is tried; whether an unreported client may be waiting; and whether the listener was reported
     // and no client was accepted since.
@@ -20,11 +22,17 @@ pub(crate) struct Acceptor<'a> {
 }
 
 impl<'a> Acceptor<'a> {
-    /// Returns the acceptor of a listener that is registered with this registry. No client has connected yet.
-    pub fn new(registry: &'a Registry, listener: TcpListener) -> Acceptor<'a> {
+    /// Returns the acceptor of a listener that is registered with this registry, which notes the address of each client.
+    /// No client has connected yet.
+    pub fn new(
+        registry: &'a Registry,
+        listener: TcpListener,
+        last: &'a LastAccepted,
+    ) -> Acceptor<'a> {
         Acceptor {
             registry,
             listener,
+            last,
             crowd: Crowd::None,
             is_tried: false,
             may_come: false,
@@ -64,7 +72,8 @@ impl<'a> Acceptor<'a> {
         self.may_come = false;
         for _ in 0..u64::MAX {
             match self.listener.accept() {
-                Ok((stream, _)) => {
+                Ok((stream, address)) => {
+                    self.last.note(address);
                     self.has_come = false;
                     self.crowd = Crowd::None;
                     self.look_for_next(was_alone);

@@ -15,6 +15,7 @@ mod crowd;
 mod drain;
 mod gathering;
 mod laws;
+mod last_accepted;
 mod limits;
 mod lingering_close;
 mod listener;
@@ -37,6 +38,7 @@ pub use limits::{
     MAX_DROPPED_BYTES, MAX_DROPPED_READS, MAX_LINE_BYTES, MAX_LINGERING, MAX_READY_BEFORE_ACCEPT,
     MAX_READY_BEFORE_READING, MAX_SENT_AT_ONCE, SIGNAL_BYTES_AT_ONCE, SLEW_DIVISOR,
 };
+pub use last_accepted::LastAccepted;
 pub use listener::Listening;
 pub use round_clock::RoundClock;
 pub use slewed_clock::{Reading, SlewedClock};

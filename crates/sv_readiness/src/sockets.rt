@@ -8,6 +8,7 @@ ghost use Rattle.sv_readiness.specs.declared.control.TheConstants.{FIRST_CLIENT}
 use crate::acceptor::Acceptor;
 use crate::clock_reading::read_clocks;
 use crate::control::{CONTROL, Control, FIRST_CLIENT};
+use crate::last_accepted::LastAccepted;
 use crate::limits::{EVENTS_AT_ONCE, MAX_READY_BEFORE_ACCEPT, MAX_READY_BEFORE_READING};
 use crate::lingering_close::Lingering;
 use crate::listener::{LISTENER, Listening};
@@ -57,7 +58,8 @@ pub struct Sockets<'a, C> {
 impl<'a, C: Clock> Sockets<'a, C> {
     /// Returns the poller of a listener and its registry, with the time of a clock. Each time the clock is read, the
     /// cell `moment` is set to the time of the container in seconds since 1970. That is a [`SlewedClock`], which begins
-    /// at the wall clock. While the wall clock or the boot time cannot be read, its previous value is kept.
+    /// at the wall clock. While the wall clock or the boot time cannot be read, its previous value is kept. The address of
+    /// each accepted client is noted in `last`.
     ///
     /// # Errors
     /// Memory ran out.
@@ -67,6 +69,7 @@ impl<'a, C: Clock> Sockets<'a, C> {
         registry: &'a Registry,
         listening: Listening,
         moment: &'a Cell<u64>,
+        last: &'a LastAccepted,
     ) -> Result<Sockets<'a, C>, AllocError> {
         let Listening {
             poll,
@@ -79,7 +82,7 @@ impl<'a, C: Clock> Sockets<'a, C> {
             clock,
             registry,
             poll,
-            acceptor: Acceptor::new(registry, listener),
+            acceptor: Acceptor::new(registry, listener, last),
             events,
             ready: Ready::new(),
             lingering: Lingering::new(alloc),

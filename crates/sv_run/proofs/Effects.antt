@@ -28,6 +28,7 @@ module _ {Context : Type 0} where
         journal = append_assoc a.journal b.journal c.journal i;
         deeds = append_assoc a.deeds b.deeds c.deeds i;
         edited = first-assoc a.edited b.edited c.edited i;
+        accesses = append_assoc a.accesses b.accesses c.accesses i;
       }
 
   pub joined-nothing : (a : Effect Context) → joined a nothing ≡ a
@@ -38,4 +39,5 @@ module _ {Context : Type 0} where
         journal = append-nil a.journal i;
         deeds = append-nil a.deeds i;
         edited = first-at_none a.edited i;
+        accesses = append-nil a.accesses i;
       }

@@ -1,8 +1,8 @@
 -- Items that are handled one after another.
-use Rattle.std.proofs.Common.{◌≡◌, ℕ, true, false, List, [], ◌∷◌, Result, Ok, Err, IfOk, refl, sym, subst}
+use Rattle.std.proofs.Common.{◌≡◌, ℕ, true, false, List, [], ◌∷◌, None, Result, Ok, Err, IfOk, refl, sym, subst}
 use Rattle.sv_wire.proofs.BoolLemmas.{MatchBool-from_true, MatchBool-from_false}
 use Rattle.sv_run.proofs.Effects.{joined-assoc, joined-nothing}
-use Rattle.sv_run.specs.Output.{then_brings}
+use Rattle.sv_run.specs.Output.{Growth, then_brings}
 use Rattle.sv_journal.specs.declared.entry.Entry.TheVariants.{Refused}
 use Rattle.sv_journal.specs.declared.refusal_cause.RefusalCause.TheVariants as causes
 use Rattle.sv_run.specs.Contexts.{Theory}
@@ -10,7 +10,6 @@ use Rattle.sv_run.specs.Effect.{Effect, answered, joined, nothing, sending}
 use Rattle.sv_run.specs.Items.{IsTextAt, Takes, TakesItem, continue_text}
 use Rattle.sv_run.specs.Messages.{plain_response}
 use Rattle.sv_run.specs.State.{World}
-use Rattle.sv_run.specs.declared.happening.Reaction.{Reaction}
 use Rattle.sv_wire.specs.WireFault.{fault_status}
 use Rattle.sv_wire.specs.declared.item.Item.{Item}
 use Rattle.sv_wire.specs.declared.item.Item.TheVariants.{Continue, Refuse}
@@ -43,24 +42,24 @@ module _ {C W : Type 0} (theory : Theory C W) (moment : ℕ) (all : List Item) w
 
 module _ {C W : Type 0} (theory : Theory C W) (moment : ℕ) where
   -- the item is handled, and its effect is added to the reaction
-  abbrev pub TakesAndBrings : World C W → World C W → Reaction → Reaction → Item → Type 0
+  abbrev pub TakesAndBrings : World C W → World C W → Growth → Growth → Item → Type 0
   TakesAndBrings before after start end item = (effect : Effect C) × TakesItem theory moment item before effect after × (end ≡ then_brings start effect)
 
-  pub takes_as : {T E : Type 0} (result : Result T E) (before after : World C W) (start end : Reaction) (item same : Item) → item ≡ same
+  pub takes_as : {T E : Type 0} (result : Result T E) (before after : World C W) (start end : Growth) (item same : Item) → item ≡ same
       → IfOk result (λ _. TakesAndBrings before after start end same) → IfOk result (λ _. TakesAndBrings before after start end item)
   takes_as result before after start end item same is takes =
       subst (λ at. IfOk result (λ _. TakesAndBrings before after start end at)) (sym is) takes
 
-  pub takes_continue : {T E : Type 0} (result : Result T E) (world : World C W) (start end : Reaction)
+  pub takes_continue : {T E : Type 0} (result : Result T E) (world : World C W) (start end : Growth)
       → IfOk result (λ _. end ≡ then_brings start (sending {Context = C} continue_text))
       → IfOk result (λ _. TakesAndBrings world world start end Continue)
   takes_continue (Err fault) world start end brings = tt
   takes_continue (Ok done) world start end brings = (sending continue_text, (refl, refl), brings)
 
-  pub takes_refusal : {T E : Type 0} (result : Result T E) (world : World C W) (start end : Reaction) (fault : WireFault)
+  pub takes_refusal : {T E : Type 0} (result : Result T E) (world : World C W) (start end : Growth) (fault : WireFault)
       → IfOk result (λ _. (text : List ℕ) × IsTextAt moment (plain_response (fault_status fault)) false false text
-      × (end ≡ then_brings start (answered {Context = C} (Refused (causes.Wire fault)) text true)))
+      × (end ≡ then_brings start (answered {Context = C} None (plain_response (fault_status fault)) (Refused (causes.Wire fault)) text true)))
       → IfOk result (λ _. TakesAndBrings world world start end (Refuse fault))
   takes_refusal (Err wanted) world start end fault brings = tt
   takes_refusal (Ok done) world start end fault brings =
-      (answered (Refused (causes.Wire fault)) brings.0 true, (brings.0, brings.1, refl, refl), brings.2)
+      (answered None (plain_response (fault_status fault)) (Refused (causes.Wire fault)) brings.0 true, (brings.0, brings.1, refl, refl), brings.2)

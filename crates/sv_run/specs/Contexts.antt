@@ -35,6 +35,8 @@ pub record Conduct (Context : Type 0) : Type 1 where
   pub policy_of : Context → Standing
   -- the findings about a request, which decide its outcome
   pub findings : Context → Request → Findings
+  -- the number of the user who is logged in to the session that a message's cookies name, if any
+  pub caller_of : Context → Message → Option ℕ
   -- the caller whose name and password a request sends as a login does, if they fit one
   pub caller_sent : Context → Request → Option ℕ
   -- the handling of a request

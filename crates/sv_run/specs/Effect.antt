@@ -1,10 +1,14 @@
 -- The effects of an event. Effects are joined in order.
-use Rattle.std.specs.Prelude.{ℕ, Bool, true, false, ◌||◌, List, [], ◌∷◌, ◌++◌, Option, None, Some, Result}
+use Rattle.std.specs.Prelude.{ℕ, Bool, true, false, ◌||◌, List, [], ◌∷◌, ◌++◌, length, Option, None, Some, Result}
 use Rattle.std.specs.Option.{option_or}
 use Rattle.sv_journal.specs.Journal.{JournalState}
 use Rattle.sv_journal.specs.declared.entry.Entry.{Entry}
+use Rattle.sv_message.specs.declared.message.Message.{Message}
+use Rattle.sv_message.specs.declared.response.Response.{Response}
 use Rattle.sv_policy.specs.declared.edit_fault.EditFault.{EditFault}
+use Rattle.sv_run.specs.Accesses.{context_access, logged_request, own_access}
 use Rattle.sv_run.specs.Contexts.{Handling}
+use Rattle.sv_run.specs.declared.access.Access.{Access}
 use Rattle.sv_run.specs.declared.happening.Reaction.{Reaction}
 
 -- the deed for a message: the container answered it itself, with that entry, or the context at a place handled it
@@ -12,14 +16,15 @@ pub data Deed (Context : Type 0) : Type 0 where
   Answered : Entry → Deed Context
   Handled : ℕ → Handling Context → Deed Context
 
--- the bytes for the connection and whether it closes, the entries of the journal, the deed of each message, and the
--- answer to an edit
+-- the bytes for the connection and whether it closes, the entries of the journal, the deed of each message, the answer to
+-- an edit, and the access of each message
 pub record Effect (Context : Type 0) : Type 0 where
   pub sends : List ℕ
   pub closes : Bool
   pub journal : List Entry
   pub deeds : List (Deed Context)
   pub edited : Option (Result ℕ EditFault)
+  pub accesses : List Access
 
 abbrev pub whole : List Entry → JournalState
 whole entries = record { entries = entries; whole = true }
@@ -34,7 +39,7 @@ module _ {Context : Type 0} where
   shown effect = record { sends = effect.sends; closes = effect.closes; journal = whole effect.journal; edited = effect.edited }
 
   abbrev pub nothing : Effect Context
-  nothing = record { sends = []; closes = false; journal = []; deeds = []; edited = None }
+  nothing = record { sends = []; closes = false; journal = []; deeds = []; edited = None; accesses = [] }
 
   -- an effect that only sends bytes
   abbrev pub sending : List ℕ → Effect Context
@@ -52,14 +57,25 @@ module _ {Context : Type 0} where
   abbrev pub editing : Result ℕ EditFault → Effect Context
   editing answer = record nothing { edited = Some answer }
 
-  -- the effect of a message that the container answered itself
-  abbrev pub answered : Entry → List ℕ → Bool → Effect Context
-  answered entry text closes = record nothing { sends = text; closes = closes; journal = entry ∷ []; deeds = Answered entry ∷ [] }
+  -- the effect of a message that the container answered itself with this response, or of bytes that were no message
+  abbrev pub answered : Option Message → Response → Entry → List ℕ → Bool → Effect Context
+  answered asked response entry text closes = record nothing {
+    sends = text;
+    closes = closes;
+    journal = entry ∷ [];
+    deeds = Answered entry ∷ [];
+    accesses = own_access asked response.status (length text) ∷ [];
+  }
 
-  -- the effect of a message that the context at a place handled
-  abbrev pub handled : ℕ → Handling Context → List ℕ → Bool → Effect Context
-  handled place handling text closes =
-      record nothing { sends = text; closes = closes; journal = handling.entries; deeds = Handled place handling ∷ [] }
+  -- the effect of a message, with this caller, that the context at a place handled
+  abbrev pub handled : ℕ → Option ℕ → Handling Context → List ℕ → Bool → Effect Context
+  handled place caller handling text closes = record nothing {
+    sends = text;
+    closes = closes;
+    journal = handling.entries;
+    deeds = Handled place handling ∷ [];
+    accesses = context_access place caller (logged_request handling.request.message) handling.response.status (length text) (length handling.entries) ∷ [];
+  }
 
   -- one effect followed by another; the first answer to an edit counts
   abbrev pub joined : Effect Context → Effect Context → Effect Context
@@ -70,6 +86,7 @@ module _ {Context : Type 0} where
         journal = first.journal ++ second.journal;
         deeds = first.deeds ++ second.deeds;
         edited = option_or first.edited second.edited;
+        accesses = first.accesses ++ second.accesses;
       }
 
   abbrev pub joined_all : List (Effect Context) → Effect Context

@@ -1,5 +1,5 @@
 -- Handling the items of a stream, in order (RFC 9112, sections 9.2, 9.3 and 9.6).
-use Rattle.std.specs.Prelude.{◌≡◌, ℕ, Bool, true, false, ◌||◌, not, List, [], ◌∷◌, codes, bytes_eq, slice_get, slice_set, Some}
+use Rattle.std.specs.Prelude.{◌≡◌, ℕ, Bool, true, false, ◌||◌, not, List, [], ◌∷◌, codes, bytes_eq, slice_get, slice_set, None, Some}
 use Rattle.std.specs.Bool.{MatchBool}
 use Rattle.httpdate.specs.declared.date.HttpDate.{HttpDate}
 use Rattle.sv_journal.specs.declared.entry.Entry.TheVariants.{Refused}
@@ -42,12 +42,13 @@ module _ {Context Words : Type 0} (theory : Theory Context Words) (moment : ℕ)
   -- a message is answered by the container itself, or by the context at its destination
   abbrev pub Responds : Destination → MessageRecord → ℕ × ℕ → List Context → Effect Context → List Context → Type 0
   Responds (Itself entry response) message words before effect after =
-      (text : List ℕ) × IsAnswerTo message moment response text × (effect ≡ answered entry text (closes_behind message response)) × (after ≡ before)
+      (text : List ℕ) × IsAnswerTo message moment response text × (effect ≡ answered (Some message) response entry text (closes_behind message response)) × (after ≡ before)
   Responds (Within place canon) message words before effect after =
       (handling : Handling Context) × (text : List ℕ)
       × (handling.request ≡ request_of message canon moment words)
       × HandlesAt place before handling after
-      × IsAnswerTo message moment handling.response text × (effect ≡ handled place handling text (closes_behind message handling.response))
+      × IsAnswerTo message moment handling.response text
+      × (effect ≡ handled place (theory.conduct.caller_of handling.context message) handling text (closes_behind message handling.response))
 
   -- a message draws a pair of words, no matter what answers it
   abbrev pub TakesMessage : MessageRecord → World Context Words → Effect Context → World Context Words → Type 0
@@ -58,7 +59,7 @@ module _ {Context Words : Type 0} (theory : Theory Context Words) (moment : ℕ)
   abbrev pub TakesRefusal : WireFault → World Context Words → Effect Context → World Context Words → Type 0
   TakesRefusal fault before effect after =
       (text : List ℕ) × IsTextAt moment (plain_response (fault_status fault)) false false text
-      × (effect ≡ answered (Refused (causes.Wire fault)) text true) × (after ≡ before)
+      × (effect ≡ answered None (plain_response (fault_status fault)) (Refused (causes.Wire fault)) text true) × (after ≡ before)
 
   abbrev pub TakesItem : Item → World Context Words → Effect Context → World Context Words → Type 0
   TakesItem Continue before effect after = (effect ≡ sending continue_text) × (after ≡ before)

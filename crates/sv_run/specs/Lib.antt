@@ -1,3 +1,4 @@
+pub mod Accesses
 pub mod HostConnections
 pub mod Host
 pub mod Output
@@ -15,6 +16,7 @@ pub mod Laws
 pub mod Messages
 pub mod Orders
 pub mod Reacting
+pub mod Replies
 pub mod RunFault
 pub mod Runs
 pub mod Seeded

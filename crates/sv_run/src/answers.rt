@@ -1,8 +1,10 @@
 //! Answers to messages.
 
-ghost use Rattle.std.specs.Prelude.{◌≡◌, ◌++◌, ◌||◌, ℕ, true, false, List, IfOk, bytes_eq, codes, not};
+ghost use Rattle.std.specs.Prelude.{◌≡◌, ◌++◌, ◌∷◌, [], ◌||◌, ℕ, true, false, List, IfOk, None, OnOk, Some, bytes_eq, codes, length, not};
+ghost use Rattle.std.specs.Option.{option_copied, option_map};
 ghost use Rattle.http.specs.StatusCode.{IsStatusCode};
-ghost use Rattle.sv_run.specs.Output.{Adds, reaction_of};
+ghost use Rattle.sv_run.specs.Accesses.{logged, logged_request, own_access};
+ghost use Rattle.sv_run.specs.Output.{Adds, growth_of};
 ghost use Rattle.sv_journal.specs.Journal.{with_entry};
 ghost use Rattle.sv_journal.specs.declared.entry.Entry.TheVariants as entries;
 ghost use Rattle.sv_journal.specs.declared.refusal_cause.RefusalCause.TheVariants as causes;
@@ -14,6 +16,7 @@ ghost use Rattle.sv_message.specs.Content.{ends_connection};
 ghost use Rattle.sv_message.specs.Phrases.{phrase_of};
 ghost use Rattle.sv_wire.specs.WireFault.{fault_status};
 
+use crate::access::{Access, LoggedRequest};
 use crate::output::Output;
 use http::StatusCode;
 use std::alloc::Global;
@@ -81,26 +84,27 @@ pub(crate) fn send_continue<C>(output: &mut Output) -> Result<(), NoMemory>
     Ok(())
 }
 
-// Appends the response to a message to the output. A response to HEAD has no body. The connection closes after the
-// response if the message does not keep it open.
+// Appends the response to a message to the output, and returns the number of its bytes. A response to HEAD has no body.
+// The connection closes after the response if the message does not keep it open.
 pub(crate) fn send(
     head_only: bool,
     keep: bool,
     response: &Response,
     date: &DateText,
     output: &mut Output,
-) -> Result<(), NoMemory>
+) -> Result<usize, NoMemory>
     requires { IsStatusCode response.now.status }
-    ensures { IfOk result (λ _. (text : List ℕ) × IsTextAt date.now response.now head_only keep text
-        × (reaction_of output.new ≡ record (reaction_of output.old) {
+    ensures { IfOk result (λ count. (text : List ℕ) × IsTextAt date.now response.now head_only keep text × (count ≡ length text)
+        × (growth_of output.new ≡ record (growth_of output.old) {
           sends = output.old.sends ++ text;
           closes = output.old.closes || (not keep || ends_connection response.now.body);
         })) }
 {
+    let before = output.sends.len();
     let room = taken(&mut output.room);
     send_response(response, head_only, keep, date, room, &mut output.sends)?;
     output.closes |= closes_behind(keep, &response.body);
-    Ok(())
+    Ok(output.sends.len() - before)
 }
 
 // Takes the buffer, and leaves an empty one.
@@ -124,8 +128,43 @@ pub(crate) fn is_head(message: &Message) -> bool
     message.method.as_str() == "HEAD"
 }
 
+// Adds the access of a message that no context handles, or of bytes that were no message, if a log wants it.
+fn log_own(
+    alloc: Global,
+    asked: Option<&Message>,
+    status: u16,
+    sent: usize,
+    output: &mut Output,
+) -> Result<(), NoMemory>
+    ensures { OnOk result (growth_of output.new ≡ record (growth_of output.old) {
+      accesses = output.old.accesses.items ++ logged output.old.logs (own_access (option_copied asked.entry) status sent ∷ []);
+    }) }
+{
+    if !output.logs {
+        return Ok(());
+    }
+    output.log(Access {
+        request: logged_request(alloc, asked)?,
+        context: None,
+        caller: None,
+        status,
+        sent,
+        entries: 1,
+    })
+}
+
+fn logged_request(alloc: Global, asked: Option<&Message>) -> Result<Option<LoggedRequest>, NoMemory>
+    ensures { GivesAnswer result (option_map logged_request (option_copied asked.entry)) }
+{
+    match asked {
+        Some(message) => Ok(Some(LoggedRequest::copy_of(alloc, message)?)),
+        None => Ok(None),
+    }
+}
+
 // Answers a message that no context handles.
 fn answer_itself<C>(
+    alloc: Global,
     message: &Message,
     entry: Entry,
     response: &Response,
@@ -134,10 +173,11 @@ fn answer_itself<C>(
 ) -> Result<(), NoMemory>
     requires { IsStatusCode response.now.status }
     ensures { IfOk result (λ _. (text : List ℕ) × IsAnswerTo message.now date.now response.now text
-        × Adds {Context = C} output.old (answered entry text (closes_behind message.now response.now)) output.new) }
+        × Adds {Context = C} output.old (answered (Some message.now) response.now entry text (closes_behind message.now response.now)) output.new) }
 {
     note(entry, output)?;
-    send(is_head(message), message.keep, response, date, output)
+    let sent = send(is_head(message), message.keep, response, date, output)?;
+    log_own(alloc, Some(message), response.status, sent, output)
 }
 
 // Answers a message whose target is `*`, the server itself. This function and the three cold ones below are
@@ -151,11 +191,11 @@ pub(crate) fn answer_star<C>(
     output: &mut Output,
 ) -> Result<(), NoMemory>
     ensures { IfOk result (λ _. (text : List ℕ) × IsAnswerTo message.now date.now empty_response text
-        × Adds {Context = C} output.old (answered (entries.Refused causes.Star) text (closes_behind message.now empty_response)) output.new) }
+        × Adds {Context = C} output.old (answered (Some message.now) empty_response (entries.Refused causes.Star) text (closes_behind message.now empty_response)) output.new) }
 {
     let response = empty_response(alloc);
     let entry = Entry::Refused(RefusalCause::Star);
-    answer_itself::<C>(message, entry, &response, date, output)
+    answer_itself::<C>(alloc, message, entry, &response, date, output)
 }
 
 // Answers a message whose target has no canonical path.
@@ -169,11 +209,11 @@ pub(crate) fn answer_bad_path<C>(
     output: &mut Output,
 ) -> Result<(), NoMemory>
     ensures { IfOk result (λ _. (text : List ℕ) × IsAnswerTo message.now date.now (plain_response 400) text
-        × Adds {Context = C} output.old (answered (entries.Refused (causes.Path fault)) text (closes_behind message.now (plain_response 400))) output.new) }
+        × Adds {Context = C} output.old (answered (Some message.now) (plain_response 400) (entries.Refused (causes.Path fault)) text (closes_behind message.now (plain_response 400))) output.new) }
 {
     let response = plain_response(alloc, 400)?;
     let entry = Entry::Refused(RefusalCause::Path(fault));
-    answer_itself::<C>(message, entry, &response, date, output)
+    answer_itself::<C>(alloc, message, entry, &response, date, output)
 }
 
 // Answers a message whose path no context serves.
@@ -186,11 +226,11 @@ pub(crate) fn answer_hidden<C>(
     output: &mut Output,
 ) -> Result<(), NoMemory>
     ensures { IfOk result (λ _. (text : List ℕ) × IsAnswerTo message.now date.now (plain_response 404) text
-        × Adds {Context = C} output.old (answered (entries.Hidden causes.NoContext) text (closes_behind message.now (plain_response 404))) output.new) }
+        × Adds {Context = C} output.old (answered (Some message.now) (plain_response 404) (entries.Hidden causes.NoContext) text (closes_behind message.now (plain_response 404))) output.new) }
 {
     let response = plain_response(alloc, 404)?;
     let entry = Entry::Hidden(RefusalCause::NoContext);
-    answer_itself::<C>(message, entry, &response, date, output)
+    answer_itself::<C>(alloc, message, entry, &response, date, output)
 }
 
 // Answers input that was refused before it became a message. The connection closes.
@@ -203,19 +243,17 @@ pub(crate) fn refuse<C>(
     output: &mut Output,
 ) -> Result<(), NoMemory>
     ensures { IfOk result (λ _. (text : List ℕ) × IsTextAt date.now (plain_response (fault_status fault)) false false text
-        × Adds {Context = C} output.old (answered (entries.Refused (causes.Wire fault)) text true) output.new) }
+        × Adds {Context = C} output.old (answered None (plain_response (fault_status fault)) (entries.Refused (causes.Wire fault)) text true) output.new) }
 {
     note(Entry::Refused(RefusalCause::Wire(fault)), output)?;
     let response = plain_response(alloc, fault.status())?;
-    let room = taken(&mut output.room);
-    send_response(&response, false, false, date, room, &mut output.sends)?;
-    output.closes = true;
-    Ok(())
+    let sent = send(false, false, &response, date, output)?;
+    log_own(alloc, None, response.status, sent, output)
 }
 
 // Notes an entry. Fails if the journal has run out of memory.
 fn note(entry: Entry, output: &mut Output) -> Result<(), NoMemory>
-    ensures { IfOk result (λ _. reaction_of output.new ≡ record (reaction_of output.old) { journal = with_entry entry output.old.journal }) }
+    ensures { IfOk result (λ _. growth_of output.new ≡ record (growth_of output.old) { journal = with_entry entry output.old.journal }) }
 {
     output.journal.note(Ok(entry));
     if output.journal.whole() {

@@ -52,6 +52,10 @@ pub trait Context: HasContextPath + Sized {
         ensures cut_short { IfErr result (λ _. conduct.CutsShort self.old (request_of message.old canon.now moment words) self.new) }
         ensures moves { conduct.Moves self.old self.new };
 
+    /// Returns the number of the user who is logged in to the session that a message's cookies name, if any.
+    fn caller(&self, message: &Message) -> Option<u32>
+        ensures { result ≡ conduct.caller_of self.now message.now };
+
     /// Reclaims the memory of a response that has been written.
     fn recycle(&mut self, response: Response)
         ensures { self.new ≡ self.old };

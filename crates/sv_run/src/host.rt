@@ -1,8 +1,9 @@
 //! The host of a container's contexts, which handles the events of their connections.
 
 ghost use Rattle.std.specs.Prelude.{◌≡◌, ◌⊎◌, [], List, None, IfErr, IfOk, IsSome, false, map};
-ghost use Rattle.sv_run.specs.Host.{StepsSo, opening, state_of};
-ghost use Rattle.sv_run.specs.Output.{Adds, reaction_of};
+ghost use Rattle.sv_run.specs.Accesses.{logged};
+ghost use Rattle.sv_run.specs.Host.{LogsSo, StepsSo, opening, state_of};
+ghost use Rattle.sv_run.specs.Output.{Adds, growth_of};
 ghost use Rattle.sv_journal.specs.Journal.{new_journal};
 ghost use Rattle.sv_journal.specs.declared.entry.Entry.{Entry};
 ghost use Rattle.sv_run.specs.Breaking.{BreaksPiece, DoesNothing, Given};
@@ -14,6 +15,7 @@ ghost use Rattle.sv_run.specs.Events.{Accepts, AltersAll, BreaksOff, ExpiresAll,
 ghost use Rattle.sv_run.specs.Seen.{happening_of};
 ghost use Rattle.sv_run.specs.State.{settled_at};
 
+use crate::access::Access;
 use crate::connections::Connections;
 use crate::context::{Context, Words};
 use crate::edits::told_of;
@@ -43,14 +45,18 @@ pub struct Host<C: HasContextPath, W> {
     // The items of the last piece, which are unspecified after its event. The next piece reuses their memory.
     items: Vec<Item>,
     spare: Spare,
+    logs: bool,
+    // The accesses of the last event, if a log wants them.
+    accesses: Vec<Access>,
 }
 
 impl<C: HasContextPath, W> Host<C, W> {
     /// Creates a host of the contexts in order, with the index of their paths, before any event: no connection is
-    /// known, and the time is 0. It does not allocate.
+    /// known, and the time is 0. No log wants accesses. It does not allocate.
     pub fn new(alloc: Global, contexts: Vec<C>, index: ContextIndex, words: W) -> Host<C, W>
         requires { index ≡ map C.path_of contexts.items }
-        ensures { state_of result ≡ opening contexts.items words }
+        ensures state { state_of result ≡ opening contexts.items words }
+        ensures logs { result.logs ≡ false }
     {
         Host {
             alloc,
@@ -61,7 +67,24 @@ impl<C: HasContextPath, W> Host<C, W> {
             connections: Connections::new(alloc),
             items: Vec::new(alloc),
             spare: Spare::new(alloc),
+            logs: false,
+            accesses: Vec::new(alloc),
         }
+    }
+
+    /// Sets whether a log wants the accesses of later events.
+    pub fn set_logs(&mut self, logs: bool)
+        ensures { self.new ≡ record self.old { logs = logs } }
+    {
+        self.logs = logs;
+    }
+
+    /// Returns the accesses of the last event, in the order of their responses; none if no log wants them, or if the
+    /// event had a fault.
+    pub fn accesses(&self) -> &[Access]
+        ensures { result.now ≡ self.now.accesses.items }
+    {
+        self.accesses.as_slice()
     }
 
     /// Returns whether an event ran out of memory.
@@ -99,8 +122,11 @@ impl<C: Context, W: Words> Host<C, W> {
     /// sessions ended.
     pub fn step(&mut self, happening: Happening) -> Result<Reaction, StepFault>
         ensures steps { StepsSo (theory_of C.path_of C.conduct W.draws) (state_of self.old) (happening_of happening.entry) result (state_of self.new) }
+        ensures logs { LogsSo (theory_of C.path_of C.conduct W.draws) self.old.logs (state_of self.old) (happening_of happening.entry) result (state_of self.new) self.new.accesses.items }
+        ensures kept { self.new.logs ≡ self.old.logs }
         ensures alters { AltersAll C.conduct (state_of self.old).world.contexts (state_of self.new).world.contexts }
     {
+        self.accesses.clear();
         if self.stopped {
             return Err(StepFault::Stopped);
         }
@@ -122,7 +148,9 @@ impl<C: Context, W: Words> Host<C, W> {
         requires fits { fault_of (state_of self.old).connections (happening_of happening) ≡ None }
         ensures accepts { IfOk result (λ reaction. (effect : Effect C)
             × Accepts (theory_of C.path_of C.conduct W.draws) (state_of self.old) (happening_of happening.entry) effect (state_of self.new)
-            × (reaction ≡ shown effect)) }
+            × (reaction ≡ shown effect) × (self.new.accesses.items ≡ logged self.old.logs effect.accesses)) }
+        ensures kept { self.new.logs ≡ self.old.logs }
+        ensures refused { IfErr result (λ _. self.new.accesses ≡ self.old.accesses) }
         ensures breaks { IfErr result (λ _. (told : List Entry) × (contexts : List C) × (given : List (Given C))
             × ExpiresAll C.conduct (state_of self.old).world.contexts (moment_after (state_of self.old).moment (happening_of happening.entry)) told contexts
             × BreaksOff (theory_of C.path_of C.conduct W.draws)
@@ -142,15 +170,22 @@ impl<C: Context, W: Words> Host<C, W> {
         let Ok(()) = self.happen(happening, &mut output) else {
             return Err(NoMemory);
         };
-        Ok(output.into_reaction())
+        let (reaction, accesses) = output.into_parts();
+        self.accesses = accesses;
+        Ok(reaction)
     }
 
     // Returns the empty output of an event.
     fn output(&self) -> Output
-        ensures { reaction_of result ≡ record { sends = []; closes = false; journal = new_journal; edited = None } }
+        ensures { growth_of result ≡ record { sends = []; closes = false; journal = new_journal; edited = None; logs = self.now.logs; accesses = [] } }
     {
         let room = self.spare.take_room(self.alloc);
-        Output::new(self.alloc, room, self.spare.take_journal(self.alloc))
+        Output::new(
+            self.alloc,
+            room,
+            self.spare.take_journal(self.alloc),
+            self.logs,
+        )
     }
 
     /// Reclaims the memory of an earlier event's bytes and journal, which the caller no longer needs. Later events
@@ -170,6 +205,7 @@ impl<C: Context, W: Words> Host<C, W> {
             × BreaksOff (theory_of C.path_of C.conduct W.draws) (state_of self.old) (happening_of happening.entry) given (state_of self.new).world) }
         ensures moves { IfErr result (λ _. MovesAll C.conduct (state_of self.old).world.contexts (state_of self.new).world.contexts) }
         ensures alters { AltersAll C.conduct (state_of self.old).world.contexts (state_of self.new).world.contexts }
+        ensures kept { (self.new.logs ≡ self.old.logs) × (self.new.accesses ≡ self.old.accesses) }
     {
         match happening {
             Happening::Opened { connection } => self.connections.open(connection),
@@ -200,6 +236,7 @@ impl<C: Context, W: Words> Host<C, W> {
         ensures refused { IfErr result (λ _. (state_of self.new).world ≡ (state_of self.old).world) }
         ensures moves { IfErr result (λ _. MovesAll C.conduct (state_of self.old).world.contexts (state_of self.new).world.contexts) }
         ensures alters { AltersAll C.conduct (state_of self.old).world.contexts (state_of self.new).world.contexts }
+        ensures kept { (self.new.logs ≡ self.old.logs) × (self.new.accesses ≡ self.old.accesses) }
     {
         let Ok(told) = told_of(self.contexts.edit::<W>(self.alloc, path, edit)) else {
             return Err(NoMemory);
@@ -220,6 +257,7 @@ impl<C: Context, W: Words> Host<C, W> {
             × (DoesNothing (state_of self.old).world given (state_of self.new).world
             ⊎ BreaksPiece (theory_of C.path_of C.conduct W.draws) (state_of self.old) number piece.now given (state_of self.new).world)) }
         ensures moves { MovesAll C.conduct (state_of self.old).world.contexts (state_of self.new).world.contexts }
+        ensures kept { (self.new.logs ≡ self.old.logs) × (self.new.accesses ≡ self.old.accesses) }
     {
         self.connections.feed(number, piece, &mut self.items)?;
         take_items::<C, W>(

@@ -14,10 +14,10 @@ ghost use Rattle.sv_run.specs.Events.{AltersAll, ExpiresAll, MovesAll};
 ghost use Rattle.sv_run.specs.Items.{Responds};
 ghost use Rattle.sv_run.specs.Messages.{Within};
 
-use crate::answers::{is_head, send};
 use crate::context::{Context, Words, expire_all};
 use crate::edits::place_of;
 use crate::output::Output;
+use crate::reply::Reply;
 use std::alloc::Global;
 use std::marker::Model;
 use sv_journal::Journal;
@@ -129,8 +129,7 @@ impl<C: Context> Indexed<C> {
             × BreaksAnswer (theory_of C.path_of C.conduct W.draws) date.now (Within place canon.now) message.old words self.old given self.new) }
         ensures moves { MovesAll C.conduct self.old self.new }
     {
-        let head_only = is_head(message);
-        let keep = message.keep;
+        let reply = Reply::to(alloc, place, &self.contexts[place], message, output)?;
         let context = &mut self.contexts[place];
         let response = context.handle(
             alloc,
@@ -140,7 +139,7 @@ impl<C: Context> Indexed<C> {
             words,
             &mut output.journal,
         )?;
-        let sent = send(head_only, keep, &response, date, output);
+        let sent = reply.send(&response, date, output);
         context.recycle(response);
         sent
     }

@@ -2,6 +2,7 @@
 //! runs, and the code that handles events over any such contexts.
 #![tactic(auto)]
 
+mod access;
 mod answers;
 mod connections;
 mod context;
@@ -17,11 +18,13 @@ mod laws;
 mod limits;
 mod messages;
 mod output;
+mod reply;
 mod run_fault;
 mod seeded_words;
 mod spare;
 mod step_fault;
 
+pub use access::{Access, LoggedRequest};
 pub use connections::Connections;
 pub use context::{Context, Words, expire_all};
 pub use counted_words::CountedWords;

@@ -6,7 +6,7 @@ use Rattle.sv_run.specs.Messages.{Itself, destination, empty_response, plain_res
 use Rattle.sv_run.proofs.HostBreaking.{none_given, none_given_if}
 use Rattle.sv_run.proofs.Contexts.{moves_none}
 use Rattle.sv_run.proofs.Handling.{answers_itself, at_fault, at_star, same_fault, sent_to}
-use Rattle.sv_run.specs.Output.{reaction_of}
+use Rattle.sv_run.specs.Output.{growth_of}
 use Rattle.sv_run.proofs.messages.respond.Goals as goal
 
 pub returns-in-Star-clause-moves : goal.returns-in-Star-clause-moves
@@ -23,11 +23,11 @@ returns-in-Star-clause-responds g c =
     let theory = theory_of g.C.HasContextPath.path_of g.C.Context.conduct g.W.Words.draws in
     let before = c.args.contexts.now in
     let message = c.args.message.now in
-    sent_to theory c.args.date.now message c.args.words before (reaction_of c.args.output.now) c.answer_star.result
+    sent_to theory c.args.date.now message c.args.words before (growth_of c.args.output.now) c.answer_star.result
     (destination theory before message.target) (Itself (Refused causes.Star) empty_response) before
-    (reaction_of c.answer_star.new.output) (at_star theory before message.target c.in-Star.is)
-    (answers_itself theory c.args.date.now message c.args.words before (reaction_of c.args.output.now) c.answer_star.result
-    (Refused causes.Star) empty_response (reaction_of c.answer_star.new.output) c.answer_star.ensures)
+    (growth_of c.answer_star.new.output) (at_star theory before message.target c.in-Star.is)
+    (answers_itself theory c.args.date.now message c.args.words before (growth_of c.args.output.now) c.answer_star.result
+    (Refused causes.Star) empty_response (growth_of c.answer_star.new.output) c.answer_star.ensures)
 
 pub returns-in-Err-Path-clause-responds : goal.returns-in-Err-Path-clause-responds
 returns-in-Err-Path-clause-responds g c =
@@ -35,14 +35,14 @@ returns-in-Err-Path-clause-responds g c =
     let before = c.args.contexts.now in
     let message = c.args.message.now in
     let reads = rw c.in-Err-Path.field-0-is at c.in-Err-Path.ensures in
-    sent_to theory c.args.date.now message c.args.words before (reaction_of c.args.output.now) c.answer_bad_path.result
+    sent_to theory c.args.date.now message c.args.words before (growth_of c.args.output.now) c.answer_bad_path.result
     (destination theory before message.target) (Itself (Refused (causes.Path c.in-Err-Path.fault)) (plain_response 400)) before
-    (reaction_of c.answer_bad_path.new.output)
+    (growth_of c.answer_bad_path.new.output)
     (at_fault theory before message.target c.in-Path.target c.as_slice.result.now c.in-Err-Path.fault c.in-Path.is c.as_slice.ensures reads)
-    (answers_itself theory c.args.date.now message c.args.words before (reaction_of c.args.output.now) c.answer_bad_path.result
-    (Refused (causes.Path c.in-Err-Path.fault)) (plain_response 400) (reaction_of c.answer_bad_path.new.output)
-    (same_fault theory c.args.date.now message c.args.words before (reaction_of c.args.output.now) c.answer_bad_path.result
-    (plain_response 400) (reaction_of c.answer_bad_path.new.output) _ c.in-Err-Path.fault (sym c.in-Err-Path.fault-is)
+    (answers_itself theory c.args.date.now message c.args.words before (growth_of c.args.output.now) c.answer_bad_path.result
+    (Refused (causes.Path c.in-Err-Path.fault)) (plain_response 400) (growth_of c.answer_bad_path.new.output)
+    (same_fault theory c.args.date.now message c.args.words before (growth_of c.args.output.now) c.answer_bad_path.result
+    (plain_response 400) (growth_of c.answer_bad_path.new.output) _ c.in-Err-Path.fault (sym c.in-Err-Path.fault-is)
     c.answer_bad_path.ensures))
 
 pub returns-in-Star-clause-breaks : goal.returns-in-Star-clause-breaks

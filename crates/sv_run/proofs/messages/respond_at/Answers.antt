@@ -6,7 +6,7 @@ use Rattle.sv_run.specs.Messages.{Itself, Within, destination_in, place_for, pla
 use Rattle.sv_run.proofs.HostBreaking.{broken_to, none_given_if}
 use Rattle.sv_run.proofs.Contexts.{moves_none}
 use Rattle.sv_run.proofs.Handling.{answers_itself, sent_to}
-use Rattle.sv_run.specs.Output.{reaction_of}
+use Rattle.sv_run.specs.Output.{growth_of}
 use Rattle.sv_run.proofs.messages.respond_at.Goals as goal
 
 pub returns-in-None-clause-moves : goal.returns-in-None-clause-moves
@@ -17,8 +17,8 @@ returns-in-Some-clause-responds g c =
     let theory = theory_of g.C.HasContextPath.path_of g.C.Context.conduct g.W.Words.draws in
     let before = c.args.contexts.now in
     let canon = c.args.canon.now in
-    sent_to theory c.args.date.now c.args.message.now c.args.words before (reaction_of c.args.output.now) c.handle_at.result
-    (destination_in canon (place_for theory before canon.path)) (Within c.in-Some.place canon) c.handle_at.new.self (reaction_of c.handle_at.new.output)
+    sent_to theory c.args.date.now c.args.message.now c.args.words before (growth_of c.args.output.now) c.handle_at.result
+    (destination_in canon (place_for theory before canon.path)) (Within c.in-Some.place canon) c.handle_at.new.self (growth_of c.handle_at.new.output)
     (ap (destination_in canon) (ap (place_for theory before) (sym c.as_str.ensures) ∙ sym c.place.ensures.chosen ∙ c.in-Some.is)) c.handle_at.ensures.responds
 
 pub returns-in-None-clause-responds : goal.returns-in-None-clause-responds
@@ -26,11 +26,11 @@ returns-in-None-clause-responds g c =
     let theory = theory_of g.C.HasContextPath.path_of g.C.Context.conduct g.W.Words.draws in
     let before = c.args.contexts.now in
     let canon = c.args.canon.now in
-    sent_to theory c.args.date.now c.args.message.now c.args.words before (reaction_of c.args.output.now) c.answer_hidden.result
+    sent_to theory c.args.date.now c.args.message.now c.args.words before (growth_of c.args.output.now) c.answer_hidden.result
     (destination_in canon (place_for theory before canon.path)) (Itself (Hidden causes.NoContext) (plain_response 404)) before
-    (reaction_of c.answer_hidden.new.output) (ap (destination_in canon) (ap (place_for theory before) (sym c.as_str.ensures) ∙ sym c.place.ensures.chosen ∙ c.in-None.is))
-    (answers_itself theory c.args.date.now c.args.message.now c.args.words before (reaction_of c.args.output.now) c.answer_hidden.result
-    (Hidden causes.NoContext) (plain_response 404) (reaction_of c.answer_hidden.new.output) c.answer_hidden.ensures)
+    (growth_of c.answer_hidden.new.output) (ap (destination_in canon) (ap (place_for theory before) (sym c.as_str.ensures) ∙ sym c.place.ensures.chosen ∙ c.in-None.is))
+    (answers_itself theory c.args.date.now c.args.message.now c.args.words before (growth_of c.args.output.now) c.answer_hidden.result
+    (Hidden causes.NoContext) (plain_response 404) (growth_of c.answer_hidden.new.output) c.answer_hidden.ensures)
 
 pub returns-in-Some-clause-breaks : goal.returns-in-Some-clause-breaks
 returns-in-Some-clause-breaks g c =

@@ -34,12 +34,14 @@ returns-clause-accepts g c =
     let theory = theory_of g.C.HasContextPath.path_of g.C.Context.conduct g.W.Words.draws in
     let told = c.expire_all.ensures.expires in
     let noted = told.2 (sym c.whole.ensures ∙ c.if-not-whole.false) in
-    let happened = c.in-Ok.ensures.happens in (
+    let happened = c.in-Ok.ensures.happens in
+    let brought = brings_all c.output-output.result c.expire_all.new.journal told.0 happened.0 _ _ c.output-output.ensures noted happened.2 in (
       joined (telling told.0) happened.0,
       accepts_at theory (state_of c.args.self.now) (happening_of c.args.happening) (state_of c.happen.new.self) c.set.new.self told.0
           c.expire_all.new.self happened.0 (raised_to (happening_of c.args.happening) c.args.self.now.date c.moment.result c.moment_after-moment.result c.set.new.self
           c.moment.ensures c.moment_after-moment.ensures c.set.ensures) c.requires.runs c.requires.fits (rw (sym c.set.ensures) at told.1) happened.1,
-      c.into_reaction.ensures ∙ brings_all c.output-output.result c.expire_all.new.journal told.0 happened.0 _ c.output-output.ensures noted happened.2,
+      c.into_parts-reaction.ensures.reaction ∙ brought.0,
+      c.into_parts-reaction.ensures.accesses ∙ brought.1,
     )
 
 pub returns-then-not-whole-clause-breaks : goal.returns-then-not-whole-clause-breaks
