@@ -21,6 +21,22 @@ DIGITS = 48
 WAITS = 30
 
 
+# What differs from run to run in a journal or an access log, and the words that stand for it in a case.
+VARYING = (
+    (re.compile(rb"(?m)^\d+ "), b"MOMENT "),
+    (re.compile(rb"\[\d\d/[A-Z][a-z][a-z]/\d{4}:\d\d:\d\d:\d\d \+0000\]"), b"[TIME]"),
+    (re.compile(rb'"\d{4}-\d\d-\d\dT\d\d:\d\d:\d\dZ"'), b'"TIME"'),
+    (re.compile(rb'"micros":\d+'), b'"micros":MICROS'),
+)
+
+
+def varying(text):
+    """The text of a file with words for what differs from run to run."""
+    for pattern, word in VARYING:
+        text = pattern.sub(word, text)
+    return text
+
+
 class Fault(Exception):
     """Says why a step failed."""
 
@@ -143,7 +159,7 @@ class Steps:
             with contextlib.suppress(FileNotFoundError), open(
                 f"{self.program.room}/{name}", "rb"
             ) as file:
-                held = re.sub(rb"(?m)^\d+ ", b"MOMENT ", file.read())
+                held = varying(file.read())
             if held == expected:
                 return
             time.sleep(0.1)
