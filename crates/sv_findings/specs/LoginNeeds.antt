@@ -17,6 +17,7 @@ use Rattle.sv_mapping.specs.Pattern.{Form, Root, Default, Extension, Prefix, Exa
 use Rattle.sv_mapping.specs.Within.{path_within}
 use Rattle.sv_policy.specs.Patterns.{different}
 use Rattle.sv_uri.specs.Canonical.{canonical}
+use Rattle.sv_uri.specs.LocationField.{location}
 use Rattle.sv_uri.specs.declared.fault.PathFault.{PathFault}
 use Rattle.sv_uri.specs.declared.fault.PathFault.TheVariants.{Climbs}
 use Rattle.sv_uri.specs.declared.path.Canon.{Canon}
@@ -145,9 +146,10 @@ needed_at contexts context constraints rules target = needed_of contexts context
 abbrev pub is_absolute : List ℕ → Bool
 is_absolute reference = starts_with nat_eq reference (codes "/")
 
--- The target of a relative path in a folder of the context.
+-- The target of a relative path in a folder of the context. The path of the folder is written with escapes, the reference
+-- has its own.
 abbrev pub in_folder : List ℕ → List ℕ → List ℕ → List ℕ
-in_folder context folder relative = context ++ folder ++ codes "/" ++ relative
+in_folder context folder relative = location (context ++ folder) ++ codes "/" ++ relative
 
 abbrev pub is_climb : PathFault → Bool
 is_climb Climbs = true

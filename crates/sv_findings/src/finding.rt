@@ -39,7 +39,8 @@ pub enum Finding {
     /// The number of a constraint, and one of its patterns that has a percent sign. Patterns are compared with decoded
     /// paths, so it matches only targets that are escaped twice.
     Escaped(u64, Text),
-    /// A path within the context that the login page refers to, and that a request without a caller may not get.
+    /// A path within the context that the login page refers to, and that a request without a caller may not get. The page
+    /// is the answer to requests that need a login (section 13.6.3), so its references also count in their folders.
     LoginNeeds(Text),
     /// The number of a constraint, and a role that it names and the descriptor does not declare.
     UnknownRole(u64, Text),

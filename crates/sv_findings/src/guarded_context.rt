@@ -10,8 +10,8 @@ use std::alloc::Global;
 use sv_constraints::{Cause, Constraint, Decision, Rules, decide_plain};
 use sv_mapping::{is_at_or_below, is_protected, path_within};
 use sv_text::{NoMemory, Text};
-use sv_uri::canon;
 use sv_uri::fault::{CanonFault, PathFault};
+use sv_uri::{canon, location};
 
 /// A context beside others, with the constraints that guard its paths.
 #[derive(Drop)]
@@ -96,11 +96,13 @@ fn target_in(alloc: Global, context: &str, folder: &str, relative: &str) -> Resu
     Ok(target)
 }
 
+/// Returns the target of a relative path in a folder of the context. The path of the folder is written with escapes.
 fn in_folder(alloc: Global, context: &str, folder: &str, relative: &str) -> Result<Text, NoMemory>
     ensures { GivesAnswer result (spec.in_folder context.now folder.now relative.now) }
 {
-    let mut target = Text::copy_of(alloc, context)?;
-    target.push_str(alloc, folder)?;
+    let mut path = Text::copy_of(alloc, context)?;
+    path.push_str(alloc, folder)?;
+    let mut target = Text::from_string(location(alloc, path.as_str())?);
     target.push_str(alloc, "/")?;
     target.push_str(alloc, relative)?;
     Ok(target)
