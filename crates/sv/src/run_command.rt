@@ -13,10 +13,10 @@ use std::net::{IpAddr, Ipv4Addr, Net, SocketAddr};
 use std::random::RandomSource;
 use std::rt::Files;
 use std::time::Clock;
+use sv_access_log::LogFormat;
 use sv_arguments::{AccessLogFormat, RunOptions};
 use sv_component::{Filter, Listener, Servlet};
 use sv_deployments::{FolderStore, ProgramFilter, ProgramListener, ProgramServlet};
-use sv_access_log::LogFormat;
 use sv_listening::{AccessLogOptions, LastAccepted, ListenOptions, run_journaled, run_logged};
 use sv_program::{CommandFault, FileStore};
 

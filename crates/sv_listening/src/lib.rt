@@ -50,7 +50,7 @@ pub use self_test::{SELF_TEST_REQUEST, ask, first_line};
 pub use serial_server::listen_and_serve;
 pub use serve::serve_on;
 pub use server::{ListenOptions, listen_and_run, run_controlled};
-pub use sv_readiness::LastAccepted;
 pub use socket_acceptor::SocketAcceptor;
 pub use socket_stream::SocketStream;
 pub use sockets::fault_of_run;
+pub use sv_readiness::LastAccepted;

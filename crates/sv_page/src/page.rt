@@ -13,8 +13,8 @@ use crate::ranks::RANKED_KINDS;
 use crate::shares::{MAX_LISTED_FINDINGS, MAX_SHOWN_ROWS, first_of};
 use std::alloc::Global;
 use sv_report::{
-    ContextReport, ReportedFinding, ReportedRow, heading, joined, kind_name, place_text, problem_text,
-    remedy,
+    ContextReport, ReportedFinding, ReportedRow, heading, joined, kind_name, place_text,
+    problem_text, remedy,
 };
 use sv_text::{NoMemory, Text};
 use sv_uri::shown_context;
@@ -123,11 +123,7 @@ fn items_html(alloc: Global, contexts: &[ContextReport]) -> Result<Text, NoMemor
 }
 
 /// Returns the items of the findings of one kind that the page lists.
-fn items_of_kind(
-    alloc: Global,
-    contexts: &[ContextReport],
-    kind: &str,
-) -> Result<Text, NoMemory>
+fn items_of_kind(alloc: Global, contexts: &[ContextReport], kind: &str) -> Result<Text, NoMemory>
     ensures { GivesAnswer result (spec.items_of_kind contexts.now kind.now) }
 {
     let mut text = String::new(alloc);

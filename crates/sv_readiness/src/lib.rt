@@ -14,8 +14,8 @@ mod control_replies;
 mod crowd;
 mod drain;
 mod gathering;
-mod laws;
 mod last_accepted;
+mod laws;
 mod limits;
 mod lingering_close;
 mod listener;
@@ -28,6 +28,7 @@ mod sockets;
 mod stream_peer;
 
 pub use gathering::GatheringWrite;
+pub use last_accepted::LastAccepted;
 pub use laws::{
     a_short_read_asks_for_nothing, a_stop_has_a_record, limits_are_as_stated,
     time_comes_to_the_wall_clock, time_follows_the_wall_clock, time_keeps_pace,
@@ -38,7 +39,6 @@ pub use limits::{
     MAX_DROPPED_BYTES, MAX_DROPPED_READS, MAX_LINE_BYTES, MAX_LINGERING, MAX_READY_BEFORE_ACCEPT,
     MAX_READY_BEFORE_READING, MAX_SENT_AT_ONCE, SIGNAL_BYTES_AT_ONCE, SLEW_DIVISOR,
 };
-pub use last_accepted::LastAccepted;
 pub use listener::Listening;
 pub use round_clock::RoundClock;
 pub use slewed_clock::{Reading, SlewedClock};
