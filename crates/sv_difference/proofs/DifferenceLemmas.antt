@@ -1,5 +1,6 @@
 -- Each difference is right, and none is missed.
 use Rattle.std.proofs.lemmas.Bool.{and_from, and_parts, false≢true, ne_eqb, not-true, not_from_false, or_left, or_right}
+use Rattle.std.proofs.lemmas.List.Elements.{All-head, All-tail}
 use Rattle.std.proofs.lemmas.List.Folds.{list_any-append}
 use Rattle.std.proofs.lemmas.Slice.Eq.{bytes_eq-Decides}
 use Rattle.std.proofs.Math.Bool.{and_comm}
@@ -30,11 +31,11 @@ use Rattle.sv_audit.proofs.Members.{all_from, any_found, found_any, in_along, in
 use Rattle.sv_audit.proofs.SamePatterns.{same_decides, same_itself}
 use Rattle.sv_difference.proofs.DifferentCells.{best_url, groups_say, only_all, only_some}
 use Rattle.sv_difference.proofs.MeetingLemmas.{of_each, path_met}
-use Rattle.sv_audit.proofs.Represented.{in_joined, in_listed, longer, representative_slashed, represented}
+use Rattle.sv_audit.proofs.Represented.{in_joined, in_listed, listed_in, longer}
 use Rattle.sv_audit.specs.Configurations.{Configuration, HasUrlPatterns, best_of, fate_of, said_by}
-use Rattle.sv_difference.specs.DifferenceLaws.{DifferencesAreComplete, DifferencesAreRight, HaveSameFates, IsOf, IsOfKind, IsRight, LetsIn, LetsNobodyIn, NoneExactlyIfSame, differences_of, is_of}
-use Rattle.sv_difference.specs.Differences.{between, by_kind, difference_of, differences_at, groups_at, meet, meeting_of, meetings, met_after, met_before, of_kind, same_kind, same_rows, url_patterns}
-use Rattle.sv_audit.specs.Representatives.{file_path, long_name, representatives}
+use Rattle.sv_difference.specs.DifferenceLaws.{AreRooted, DifferencesAreComplete, DifferencesAreRight, HasRows, HaveSameFates, IsOf, IsOfKind, IsRight, LetsIn, LetsNobodyIn, NoneExactlyIfSame, differences_of, is_of}
+use Rattle.sv_difference.specs.Differences.{between, by_kind, difference_of, differences_at, groups_at, meet, meeting_of, meetings, met_after, met_before, of_kind, row_path, same_kind, same_rows, url_patterns}
+use Rattle.sv_audit.specs.Representatives.{file_path, long_name}
 use Rattle.sv_audit.proofs.VisitorLemmas.{Letting, fate_by, letting_at, letting_in_exact}
 use Rattle.sv_audit.specs.Visitors.{answered, decided_by, effective, known, lets_in}
 use Rattle.sv_audit.specs.declared.access.Access.{Access}
@@ -79,7 +80,7 @@ has_some (Only names) method there = some_names names method there
 has_some (Except names) method there = refl
 
 -- A set that is not empty has a method.
-some_method : (one : Methods) → has_methods one ≡ true → (method : List ℕ) × (covers_method one method ≡ true)
+pub some_method : (one : Methods) → has_methods one ≡ true → (method : List ℕ) × (covers_method one method ≡ true)
 some_method methods.All some = ([], refl)
 some_method (Only []) some = absurd (false≢true some)
 some_method (Only (name ∷ names)) some = (name, or_left _ _ ((bytes_eq-Decides name name).1 refl))
@@ -149,38 +150,42 @@ decision_itself IsDenied = refl
 pub decisions_apart : (one other : Kind) → same_decision one other ≡ false → one ≢ other
 decisions_apart one other differ same = false≢true (sym differ ∙ (ap (same_decision one) (sym same) ∙ decision_itself one))
 
-module _ (right : TablesAreRight) (best_same : BestIsOfTexts) (one other : Configuration) (one_url : HasUrlPatterns one) (other_url : HasUrlPatterns other) where
+-- ---- Paths.
+pub all_in : {X : Type 0} (P : X → Type 0) (x : X) (xs : List X) → All P xs → In x xs → P x
+all_in P x [] all there = absurd there
+all_in P x (y ∷ ys) all (inl same) = rw same (All-head P y ys all)
+all_in P x (y ∷ ys) all (inr later) = all_in P x ys (All-tail P y ys all) later
+
+pub row_rooted : (path : List ℕ) → is_rooted path ≡ true → is_rooted (row_path path) ≡ true
+row_rooted [] rooted = refl
+row_rooted (b ∷ path) rooted = rooted
+
+module _ (right : TablesAreRight) (best_same : BestIsOfTexts) (paths : List (List ℕ)) (one other : Configuration) (one_url : HasUrlPatterns one) (other_url : HasUrlPatterns other) where
   abbrev befores : List Row
   befores = (table_of one.constraints one.rules).rows
 
   abbrev afters : List Row
   afters = (table_of other.constraints other.rules).rows
 
-  abbrev patterns : List (List ℕ)
-  patterns = url_patterns befores ++ url_patterns afters
+  abbrev its_meetings : List Meeting
+  its_meetings = meetings (url_patterns befores) (url_patterns afters) paths
 
   -- ---- None is missed.
   -- A meeting of the rows of a path.
   record Meets (path : List ℕ) (meeting : Meeting) : Type 0 where
-    is_one : In meeting (meetings (url_patterns befores) (url_patterns afters))
+    is_one : In meeting its_meetings
     before : meeting.before ≡ best_of one path
     after : meeting.after ≡ best_of other path
 
-  meeting_for : (path : List ℕ) → is_rooted path ≡ true → (meeting : Meeting) × Meets path meeting
-  meeting_for path rooted =
-      let it = represented patterns path rooted in
-      let known = found_any (same_rows (meeting_of (url_patterns befores) (url_patterns afters) it.0)) (meetings (url_patterns befores) (url_patterns afters))
-      (path_met (url_patterns befores) (url_patterns afters) (representatives patterns) [] it.0 (in_listed (representatives patterns) it.0 it.1)) in
-      let same = and_parts (is_same (best_pattern (url_patterns befores) it.0) known.0.before) (is_same (best_pattern (url_patterns afters) it.0) known.0.after) known.2 in (
+  meeting_for : (path : List ℕ) → HasRows paths one other path → (meeting : Meeting) × Meets path meeting
+  meeting_for path (shown, there, same_before, same_after) =
+      let known = found_any (same_rows (meeting_of (url_patterns befores) (url_patterns afters) shown)) its_meetings (path_met (url_patterns befores) (url_patterns afters) paths [] shown (in_listed paths shown there)) in
+      let same = and_parts (is_same (best_pattern (url_patterns befores) (row_path shown)) known.0.before) (is_same (best_pattern (url_patterns afters) (row_path shown)) known.0.after) known.2 in (
         known.0,
         record {
           is_one = known.1;
-          before =
-              sym (same_decides (best_pattern (url_patterns befores) it.0) known.0.before same.0)
-              ∙ (it.2 (url_patterns befores) (λ text there. list_any-append (λ listed. bytes_eq listed text) (url_patterns befores) (url_patterns afters) ∙ or_left _ _ there) ∙ best_url one best_same one_url path);
-          after =
-              sym (same_decides (best_pattern (url_patterns afters) it.0) known.0.after same.1)
-              ∙ (it.2 (url_patterns afters) (λ text there. list_any-append (λ listed. bytes_eq listed text) (url_patterns befores) (url_patterns afters) ∙ or_right _ _ there) ∙ best_url other best_same other_url path);
+          before = sym (same_decides (best_pattern (url_patterns befores) (row_path shown)) known.0.before same.0) ∙ (best_url one best_same one_url (row_path shown) ∙ same_before);
+          after = sym (same_decides (best_pattern (url_patterns afters) (row_path shown)) known.0.after same.1) ∙ (best_url other best_same other_url (row_path shown) ∙ same_after);
         },
       )
 
@@ -188,15 +193,15 @@ module _ (right : TablesAreRight) (best_same : BestIsOfTexts) (one other : Confi
   logins = record { before = one.has_login; after = other.has_login }
 
   abbrev all_found : List Difference
-  all_found = flat_map (differences_at logins befores afters) (meetings (url_patterns befores) (url_patterns afters))
+  all_found = flat_map (differences_at logins befores afters) its_meetings
 
-  module _ (method path : List ℕ) (visitor : Option Caller) (rooted : is_rooted path ≡ true) (apart_is : fate_of one method path visitor ≢ fate_of other method path visitor) where
+  module _ (method path : List ℕ) (visitor : Option Caller) (rooted : is_rooted path ≡ true) (rows : HasRows paths one other path) (apart_is : fate_of one method path visitor ≢ fate_of other method path visitor) where
     in_differences : (meeting : Meeting) → Meets path meeting → (first second : Group) → In first (groups_at befores meeting.before) → In second (groups_at afters meeting.after)
         → same_callers (met_before logins first) (met_after logins second) ≡ false → has_methods (meet first.methods second.methods) ≡ true
-        → In (difference_of logins meeting first second) (differences_of one other)
+        → In (difference_of logins meeting first second) (differences_of paths one other)
     in_differences meeting meets first second is_first is_second differ some =
         in_kind (difference_of logins meeting first second).kind (difference_of logins meeting first second) all_found refl
-        (in_joined (differences_at logins befores afters) meeting (difference_of logins meeting first second) (meetings (url_patterns befores) (url_patterns afters)) meets.is_one
+        (in_joined (differences_at logins befores afters) meeting (difference_of logins meeting first second) its_meetings meets.is_one
         (in_joined (λ group. flat_map (between logins meeting group) (groups_at afters meeting.after)) first (difference_of logins meeting first second) (groups_at befores meeting.before) is_first
         (in_joined (between logins meeting first) second (difference_of logins meeting first second) (groups_at afters meeting.after) is_second
         (in_along (difference_of logins meeting first second ∷ []) (between logins meeting first second) (difference_of logins meeting first second) (sym (between_from logins meeting first second differ some)) (inl refl)))))
@@ -204,16 +209,16 @@ module _ (right : TablesAreRight) (best_same : BestIsOfTexts) (one other : Confi
     abbrev caller_of : Configuration → Option Caller
     caller_of it = known it.has_login visitor
 
-    complete : list_any (is_of one other method path) (differences_of one other) ≡ true
+    complete : list_any (is_of one other method path) (differences_of paths one other) ≡ true
     complete =
-        let meets = meeting_for path rooted in
+        let meets = meeting_for path rows in
         let first = only_some (λ (group : Group). said_to (caller_of one) group.cell.access) (has_method method) (said_by one method path (caller_of one)) (groups_at befores (best_of one path)) (groups_say one right best_same method path (caller_of one) rooted) in
         let second = only_some (λ (group : Group). said_to (caller_of other) group.cell.access) (has_method method) (said_by other method path (caller_of other)) (groups_at afters (best_of other path)) (groups_say other right best_same method path (caller_of other) rooted) in
         let covered : covers_method (meet first.0.methods second.0.methods) method ≡ true = meet_covers first.0.methods second.0.methods method ∙ and_from (has_method method first.0) (has_method method second.0) first.2 second.2 in
         let differ : same_callers (met_before logins first.0) (met_after logins second.0) ≡ false =
         not-true _ (differ_at visitor (met_before logins first.0) (met_after logins second.0) (same_callers (met_before logins first.0) (met_after logins second.0)) refl
         (λ same. apart_is (fate_by one method path visitor first.0.cell.access (sym first.3) ∙ (same ∙ sym (fate_by other method path visitor second.0.cell.access (sym second.3)))))) in
-        any_found (is_of one other method path) (difference_of logins meets.0 first.0 second.0) (differences_of one other)
+        any_found (is_of one other method path) (difference_of logins meets.0 first.0 second.0) (differences_of paths one other)
         (in_differences meets.0 meets.1 first.0 second.0
         (in_along (groups_at befores (best_of one path)) (groups_at befores meets.0.before) first.0 (ap (groups_at befores) (sym meets.1.before)) first.1)
         (in_along (groups_at afters (best_of other path)) (groups_at afters meets.0.after) second.0 (ap (groups_at afters) (sym meets.1.after)) second.1)
@@ -223,23 +228,23 @@ module _ (right : TablesAreRight) (best_same : BestIsOfTexts) (one other : Confi
         covered)
 
   -- ---- Each is right.
-  -- A meeting at a path that begins with a slash.
+  -- A meeting at one of the paths.
   record IsMet (meeting : Meeting) : Type 0 where
-    rooted : is_rooted meeting.path ≡ true
-    before : best_of one meeting.path ≡ meeting.before
-    after : best_of other meeting.path ≡ meeting.after
+    listed : lists paths meeting.path ≡ true
+    before : best_of one (row_path meeting.path) ≡ meeting.before
+    after : best_of other (row_path meeting.path) ≡ meeting.after
 
-  are_met : (meeting : Meeting) → In meeting (meetings (url_patterns befores) (url_patterns afters)) → IsMet meeting
+  are_met : (meeting : Meeting) → In meeting its_meetings → IsMet meeting
   are_met =
-      of_each (url_patterns befores) (url_patterns afters) IsMet (representatives patterns) [] (λ meeting none. absurd none)
+      of_each (url_patterns befores) (url_patterns afters) IsMet paths [] (λ meeting none. absurd none)
       (λ path there. record {
-        rooted = or_right _ _ (representative_slashed patterns path there);
-        before = sym (best_url one best_same one_url path);
-        after = sym (best_url other best_same other_url path);
+        listed = listed_in paths path there;
+        before = sym (best_url one best_same one_url (row_path path));
+        after = sym (best_url other best_same other_url (row_path path));
       })
 
   module _ (meeting : Meeting) (is_met : IsMet meeting) (first second : Group) (is_first : In first (groups_at befores meeting.before)) (is_second : In second (groups_at afters meeting.after))
-      (differ : same_callers (met_before logins first) (met_after logins second) ≡ false) (some : has_methods (meet first.methods second.methods) ≡ true) where
+      (rooted : AreRooted paths) (differ : same_callers (met_before logins first) (met_after logins second) ≡ false) (some : has_methods (meet first.methods second.methods) ≡ true) where
     abbrev it : Difference
     it = difference_of logins meeting first second
 
@@ -291,7 +296,7 @@ module _ (right : TablesAreRight) (best_same : BestIsOfTexts) (one other : Confi
     is_right =
         let visitor = apart (met_before logins first) (met_after logins second) (not_from_false _ differ) in
         record {
-          rooted = is_met.rooted;
+          rooted = all_in (λ path. is_rooted path ≡ true) meeting.path paths rooted (in_listed paths meeting.path is_met.listed);
           before = is_met.before;
           after = is_met.after;
           some = some;
@@ -301,46 +306,53 @@ module _ (right : TablesAreRight) (best_same : BestIsOfTexts) (one other : Confi
           of_kind = right_kind it.kind (letting_at (met_before logins first) (met_after logins second));
         }
 
-  right_at : (difference : Difference) → In difference (differences_of one other) → IsRight one other difference
-  right_at difference there =
-      let meeting = joined_from (differences_at logins befores afters) difference (meetings (url_patterns befores) (url_patterns afters)) (of_some_kind difference all_found there) in
+  abbrev IsRightThere : Difference → Type 0
+  IsRightThere difference = IsRight one other difference × (lists paths difference.path ≡ true)
+
+  right_at : AreRooted paths → (difference : Difference) → In difference (differences_of paths one other) → IsRightThere difference
+  right_at rooted difference there =
+      let meeting = joined_from (differences_at logins befores afters) difference its_meetings (of_some_kind difference all_found there) in
       let first = joined_from (λ group. flat_map (between logins meeting.0 group) (groups_at afters meeting.0.after)) difference (groups_at befores meeting.0.before) meeting.2 in
       let second = joined_from (between logins meeting.0 first.0) difference (groups_at afters meeting.0.after) first.2 in
       let shown = between_shows logins meeting.0 first.0 second.0 difference second.2 in
-      along difference (difference_of logins meeting.0 first.0 second.0) shown.0 (is_right meeting.0 (are_met meeting.0 meeting.1) first.0 second.0 first.1 second.1 shown.1 shown.2)
+      let met = are_met meeting.0 meeting.1 in
+      along difference (difference_of logins meeting.0 first.0 second.0) shown.0 (is_right meeting.0 met first.0 second.0 first.1 second.1 rooted shown.1 shown.2, met.listed)
     where
-      along : (a b : Difference) → a ≡ b → IsRight one other b → IsRight one other a
+      along : (a b : Difference) → a ≡ b → IsRightThere b → IsRightThere a
       along a b same shown = rw same shown
 
-  all_right : All (IsRight one other) (differences_of one other)
-  all_right = all_from (IsRight one other) (differences_of one other) right_at
+  all_right : AreRooted paths → All IsRightThere (differences_of paths one other)
+  all_right rooted = all_from IsRightThere (differences_of paths one other) (right_at rooted)
 
   -- ---- There is none exactly if each request has the same fate.
-  same_if_none : differences_of one other ≡ [] → HaveSameFates one other
-  same_if_none none method path visitor rooted = go (same_decision (fate_of one method path visitor) (fate_of other method path visitor)) refl
+  same_if_none : ((path : List ℕ) → is_rooted path ≡ true → HasRows paths one other path) → differences_of paths one other ≡ [] → HaveSameFates one other
+  same_if_none rows none method path visitor rooted = go (same_decision (fate_of one method path visitor) (fate_of other method path visitor)) refl
     where
       go : (same : Bool) → same_decision (fate_of one method path visitor) (fate_of other method path visitor) ≡ same → fate_of one method path visitor ≡ fate_of other method path visitor
       go true is = decisions_same (fate_of one method path visitor) (fate_of other method path visitor) is
       go false is =
-          absurd (false≢true (sym (ap (list_any (is_of one other method path)) none) ∙ complete method path visitor rooted (decisions_apart (fate_of one method path visitor) (fate_of other method path visitor) is)))
+          absurd (false≢true (sym (ap (list_any (is_of one other method path)) none) ∙ complete method path visitor rooted (rows path rooted) (decisions_apart (fate_of one method path visitor) (fate_of other method path visitor) is)))
 
   none_right : HaveSameFates one other → (difference : Difference) → IsRight one other difference → ⊥
   none_right same difference is =
       let method = some_method difference.methods is.some in
-      is.differs.1 method.0 difference.path (record { rooted = is.rooted; before = is.before; after = is.after; covered = method.1 }) (same method.0 difference.path is.differs.0 is.rooted)
+      let path = row_path difference.path in
+      let rooted = row_rooted difference.path is.rooted in
+      is.differs.1 method.0 path (record { rooted = rooted; before = is.before; after = is.after; covered = method.1 }) (same method.0 path is.differs.0 rooted)
 
   none_in : HaveSameFates one other → (found : List Difference) → ((difference : Difference) → In difference found → IsRight one other difference) → found ≡ []
   none_in same [] each = refl
   none_in same (difference ∷ found) each = absurd (none_right same difference (each difference (inl refl)))
 
-  none_if_same : HaveSameFates one other → differences_of one other ≡ []
-  none_if_same same = none_in same (differences_of one other) right_at
+  none_if_same : AreRooted paths → HaveSameFates one other → differences_of paths one other ≡ []
+  none_if_same rooted same = none_in same (differences_of paths one other) (λ difference there. (right_at rooted difference there).0)
 
 pub are_right : TablesAreRight → BestIsOfTexts → DifferencesAreRight
-are_right right best_same one other one_url other_url = all_right right best_same one other one_url other_url
+are_right right best_same paths one other rooted one_url other_url = all_right right best_same paths one other one_url other_url rooted
 
 pub are_complete : TablesAreRight → BestIsOfTexts → DifferencesAreComplete
-are_complete right best_same one other method path visitor one_url other_url rooted apart_is = complete right best_same one other one_url other_url method path visitor rooted apart_is
+are_complete right best_same paths one other method path visitor one_url other_url rooted rows apart_is = complete right best_same paths one other one_url other_url method path visitor rooted rows apart_is
 
 pub none_exactly : TablesAreRight → BestIsOfTexts → NoneExactlyIfSame
-none_exactly right best_same one other one_url other_url = (same_if_none right best_same one other one_url other_url, none_if_same right best_same one other one_url other_url)
+none_exactly right best_same paths one other rooted one_url other_url rows =
+    (same_if_none right best_same paths one other one_url other_url rows, none_if_same right best_same paths one other one_url other_url rooted)

@@ -1,7 +1,8 @@
 -- The requests whose fates differ between two sides: access tables with or without a login configuration (Jakarta Servlet 6.0, sections 12.1 and 13.8).
-use Rattle.std.specs.Prelude.{ℕ, Bool, true, false, not, ◌&&◌, ◌||◌, List, [], ◌∷◌, ◌++◌, filter, fold, Option, if◌then◌else◌}
+use Rattle.std.specs.Prelude.{ℕ, Bool, true, false, not, ◌&&◌, ◌||◌, List, [], ◌∷◌, ◌++◌, codes, filter, fold, Option, if◌then◌else◌}
 use Rattle.std.specs.List.{flat_map, list_any}
 use Rattle.std.specs.Option.{option_to_list}
+use Rattle.std.specs.Str.{bytes_eq}
 use Rattle.sv_mapping.specs.BestMatch.{best_pattern}
 use Rattle.sv_mapping.specs.Pattern.{is_pattern}
 use Rattle.sv_constraints.specs.Covering.{lists}
@@ -13,7 +14,6 @@ use Rattle.sv_audit.specs.Visitors.{effective, kind_of}
 use Rattle.sv_audit.specs.Reading.{is_same}
 use Rattle.sv_audit.specs.declared.rows.Group.{Group}
 use Rattle.sv_audit.specs.declared.rows.Row.{Row}
-use Rattle.sv_audit.specs.Representatives.{representatives}
 use Rattle.sv_audit.specs.declared.access.Access.{Access}
 use Rattle.sv_difference.specs.declared.difference.Difference.{Difference}
 use Rattle.sv_audit.specs.declared.visitors.DifferenceKind.{DifferenceKind}
@@ -29,9 +29,14 @@ url_pattern row = filter is_pattern (option_to_list row.pattern)
 abbrev pub url_patterns : List Row → List (List ℕ)
 url_patterns rows = flat_map url_pattern rows
 
+-- The path within a context of a request, by what follows the context path in its canonical path: `/` if nothing does
+-- (section 3.5).
+abbrev pub row_path : List ℕ → List ℕ
+row_path path = if bytes_eq path [] then codes "/" else path
+
 -- A path with the patterns of its rows in both tables.
 abbrev pub meeting_of : List (List ℕ) → List (List ℕ) → List ℕ → Meeting
-meeting_of befores afters its_path = record { path = its_path; before = best_pattern befores its_path; after = best_pattern afters its_path }
+meeting_of befores afters its_path = record { path = its_path; before = best_pattern befores (row_path its_path); after = best_pattern afters (row_path its_path) }
 
 abbrev pub same_rows : Meeting → Meeting → Bool
 same_rows meeting other = is_same meeting.before other.before && is_same meeting.after other.after
@@ -40,9 +45,9 @@ same_rows meeting other = is_same meeting.before other.before && is_same meeting
 abbrev pub met : List (List ℕ) → List (List ℕ) → List Meeting → List ℕ → List Meeting
 met befores afters known path = if list_any (same_rows (meeting_of befores afters path)) known then known else known ++ meeting_of befores afters path ∷ []
 
--- Each pair of rows that share a path, with the first representative of such paths.
-abbrev pub meetings : List (List ℕ) → List (List ℕ) → List Meeting
-meetings befores afters = fold (met befores afters) [] (representatives (befores ++ afters))
+-- Each pair of rows that share one of the paths, with the first of these.
+abbrev pub meetings : List (List ℕ) → List (List ℕ) → List (List ℕ) → List Meeting
+meetings befores afters paths = fold (met befores afters) [] paths
 
 -- The methods that are in both.
 abbrev pub meet : Methods → Methods → Methods
@@ -91,9 +96,13 @@ differences_at logins befores afters meeting = flat_map (λ first. flat_map (bet
 abbrev pub logins_of : Side → Side → Logins
 logins_of one other = record { before = one.has_login; after = other.has_login }
 
--- The differences of two sides, in the order of the pairs of rows.
-abbrev pub all_differences : Side → Side → List Difference
-all_differences one other = flat_map (differences_at (logins_of one other) one.table.rows other.table.rows) (meetings (url_patterns one.table.rows) (url_patterns other.table.rows))
+-- The URL patterns of both tables.
+abbrev pub patterns_of : Side → Side → List (List ℕ)
+patterns_of one other = url_patterns one.table.rows ++ url_patterns other.table.rows
+
+-- The differences of two sides at these paths, in the order of the pairs of rows.
+abbrev pub all_differences : List (List ℕ) → Side → Side → List Difference
+all_differences paths one other = flat_map (differences_at (logins_of one other) one.table.rows other.table.rows) (meetings (url_patterns one.table.rows) (url_patterns other.table.rows) paths)
 
 abbrev pub same_kind : DifferenceKind → DifferenceKind → Bool
 same_kind Opened Opened = true
@@ -108,6 +117,6 @@ of_kind kind found = filter (λ difference. same_kind kind difference.kind) foun
 abbrev pub by_kind : List Difference → List Difference
 by_kind found = of_kind Opened found ++ of_kind Closed found ++ of_kind Changed found
 
--- The differences of two sides.
-abbrev pub differences : Side → Side → List Difference
-differences one other = by_kind (all_differences one other)
+-- The differences of two sides at these paths.
+abbrev pub differences : List (List ℕ) → Side → Side → List Difference
+differences paths one other = by_kind (all_differences paths one other)

@@ -1,5 +1,6 @@
 pub mod Differences
 pub mod DifferenceLaws
+pub mod ShownPaths
 pub mod ServerDifference
 pub mod OpenedFirst
 pub mod DifferenceText

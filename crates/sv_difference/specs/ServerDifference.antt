@@ -1,15 +1,14 @@
 -- What two configurations of a server decide differently (Jakarta Servlet 6.0, sections 12.1, 13.6 and 13.8).
-use Rattle.std.specs.Prelude.{ℕ, Bool, true, ◌&&◌, List, [], ◌++◌, filter, find, length, map, is_none, Option, None, Some}
+use Rattle.std.specs.Prelude.{ℕ, List, [], ◌++◌, filter, find, length, map, is_none, Option, None, Some}
 use Rattle.std.specs.List.{flat_map}
 use Rattle.std.specs.Option.{option_map}
 use Rattle.std.specs.Str.{bytes_eq}
-use Rattle.sv_difference.specs.Differences.{differences, of_kind}
+use Rattle.sv_difference.specs.Differences.{differences, of_kind, patterns_of}
 use Rattle.sv_audit.specs.Rows.{table_of}
 use Rattle.sv_difference.specs.declared.difference.Difference.{Difference}
 use Rattle.sv_audit.specs.declared.visitors.DifferenceKind.TheVariants.{Opened}
 use Rattle.sv_difference.specs.declared.difference.Side.{Side}
-use Rattle.sv_constraints.specs.Covering.{all_patterns}
-use Rattle.sv_findings.specs.MetRows.{is_met}
+use Rattle.sv_difference.specs.ShownPaths.{shown_paths}
 use Rattle.sv_difference.specs.declared.contexts.ComparedContext.{ComparedContext}
 use Rattle.sv_difference.specs.declared.contexts.ContextDifference.{ContextDifference}
 use Rattle.sv_difference.specs.declared.contexts.ContextSide.{ContextSide}
@@ -32,26 +31,15 @@ shown_side context = record { file = context.file; has_login = context.has_login
 abbrev pub side_of : ComparedContext → Side
 side_of context = record { table = table_of context.constraints context.rules; has_login = context.has_login }
 
--- Whether some requests may meet the row of a pattern in the context with this path and these patterns, or that of other
--- paths.
-abbrev pub row_is_met : List (List ℕ) → List ℕ → List (List ℕ) → Option (List ℕ) → Bool
-row_is_met contexts path patterns None = true
-row_is_met contexts path patterns (Some pattern) = is_met contexts path patterns pattern
+-- The differences of two contexts with this path, given the context paths of both servers.
+abbrev pub found_between : List (List ℕ) → List (List ℕ) → List ℕ → Side → Side → List Difference
+found_between befores afters path one other = differences (shown_paths befores afters path (patterns_of one other)) one other
 
--- Whether some requests may meet both rows of a difference, given the context paths of both servers.
-abbrev pub rows_are_met : List (List ℕ) → List (List ℕ) → List ℕ → ComparedContext → ComparedContext → Difference → Bool
-rows_are_met befores afters path before after difference =
-    row_is_met befores path (all_patterns before.constraints) difference.before && row_is_met afters path (all_patterns after.constraints) difference.after
-
--- The differences of two contexts whose rows requests may meet.
-abbrev pub met_between : List ComparedContext → List ComparedContext → List ℕ → ComparedContext → ComparedContext → List Difference
-met_between befores afters path before after = filter (rows_are_met (paths_of befores) (paths_of afters) path before after) (differences (side_of before) (side_of after))
-
--- The differences of two contexts whose rows requests may meet, if both sides have such a context.
+-- The differences of two contexts at the paths that requests have on both servers, if both sides have such a context.
 abbrev pub differences_between : List ComparedContext → List ComparedContext → List ℕ → Option ComparedContext → Option ComparedContext → List Difference
 differences_between befores afters path None after = []
 differences_between befores afters path (Some before) None = []
-differences_between befores afters path (Some before) (Some after) = met_between befores afters path before after
+differences_between befores afters path (Some before) (Some after) = found_between (paths_of befores) (paths_of afters) path (side_of before) (side_of after)
 
 -- What differs at a context path.
 abbrev pub difference_at : List ComparedContext → List ComparedContext → List ℕ → ContextDifference

@@ -16,13 +16,13 @@ use Rattle.sv_difference.specs.declared.contexts.ComparedContext.{ComparedContex
 use Rattle.sv_difference.specs.declared.contexts.ContextDifference.{ContextDifference}
 use Rattle.sv_difference.specs.declared.contexts.ContextSide.{ContextSide}
 
--- What happens to a request: no context serves it, it logs in, it is for a folder that is never served, or it has a fate
--- by the constraints.
+-- What happens to a request: no context serves it, or the context with this path does, and the request logs in, is for a
+-- folder that is never served, or has a fate by the constraints.
 pub data Outcome : Type 0 where
   NoContext : Outcome
-  LogsIn : Outcome
-  IsHidden : Outcome
-  HasFate : Kind → Outcome
+  LogsIn : List ℕ → Outcome
+  IsHidden : List ℕ → Outcome
+  HasFate : List ℕ → Kind → Outcome
 
 -- A test of the method and the canonical path of requests: whether they log in, if the context has a login
 -- configuration. The laws hold for each such test, also for POST to `j_security_check`.
@@ -35,9 +35,9 @@ configuration_of context = record { constraints = context.constraints; rules = c
 -- The outcome in the context that serves the path.
 abbrev pub outcome_in : LoginTest → ComparedContext → List ℕ → List ℕ → List ℕ → Option Caller → Outcome
 outcome_in logs_in context its_path method path visitor =
-    if context.has_login && logs_in method path then LogsIn
-    else if is_protected (path_within its_path path) then IsHidden
-    else HasFate (fate_of (configuration_of context) method (path_within its_path path) visitor)
+    if context.has_login && logs_in method path then LogsIn its_path
+    else if is_protected (path_within its_path path) then IsHidden its_path
+    else HasFate its_path (fate_of (configuration_of context) method (path_within its_path path) visitor)
 
 abbrev pub outcome_at : LoginTest → List ComparedContext → List ℕ → List ℕ → Option Caller → List ℕ → Outcome
 outcome_at logs_in contexts method path visitor its_path = option_map_or (λ context. outcome_in logs_in context its_path method path visitor) (context_at contexts its_path) NoContext
@@ -95,4 +95,4 @@ ReportedDifferencesAreRight = (befores afters : List ComparedContext) (path : Li
 abbrev pub LoginsChangeOutcomes : Type 0
 LoginsChangeOutcomes = (contexts others : List ComparedContext) (its_path : List ℕ) (context other : ComparedContext) → context_at contexts its_path ≡ Some context → context_at others its_path ≡ Some other →
     IsTrue context.has_login → other.has_login ≡ false → (logs_in : LoginTest) (method path : List ℕ) (visitor : Option Caller) → chosen_path (paths_of contexts) path ≡ Some its_path →
-    chosen_path (paths_of others) path ≡ Some its_path → IsTrue (logs_in method path) → (outcome logs_in contexts method path visitor ≡ LogsIn) × (outcome logs_in others method path visitor ≢ LogsIn)
+    chosen_path (paths_of others) path ≡ Some its_path → IsTrue (logs_in method path) → (outcome logs_in contexts method path visitor ≡ LogsIn its_path) × (outcome logs_in others method path visitor ≢ LogsIn its_path)

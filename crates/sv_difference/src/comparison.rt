@@ -4,14 +4,15 @@ ghost use Rattle.std.specs.Prelude.{◌≡◌, ◌++◌, IfOk, OnOk, filter, fin
 ghost use Rattle.std.specs.Option.{option_copied, option_map};
 ghost use Rattle.std.specs.Str.{bytes_eq};
 ghost use Rattle.sv_text.specs.Gives.{GivesAnswer};
-ghost use Rattle.sv_difference.specs.Differences.{differences, of_kind};
+ghost use Rattle.sv_difference.specs.Differences.{of_kind};
 ghost use Rattle.sv_audit.specs.declared.visitors.DifferenceKind.TheVariants.{Opened};
 ghost use Rattle.sv_difference.specs.ServerDifference as spec;
 
 use crate::contexts::{ComparedContext, ContextDifference, ContextSide, ServerDifference};
 use crate::difference::{Difference, Side};
-use crate::met_rows::{SidePatterns, only_met, paths_of};
+use crate::meetings::patterns_of;
 use crate::row_differences::differences;
+use crate::shown_paths::shown_paths;
 use std::alloc::Global;
 use sv_audit::{DifferenceKind, table_of};
 use sv_text::{Listed, NoMemory, Text};
@@ -113,7 +114,8 @@ fn shown_side(
     }
 }
 
-/// Returns the differences of two contexts whose rows requests may meet, if both sides have such a context.
+/// Returns the differences of two contexts at the paths that requests have on both servers, if both sides have such a
+/// context.
 fn differences_between(
     alloc: Global,
     befores: &[ComparedContext],
@@ -130,39 +132,44 @@ fn differences_between(
     let Some(after) = after else {
         return Ok(Listed::from_vec(Vec::new(alloc)));
     };
-    met_between(alloc, befores, afters, path, before, after)
+    let before = side_of(alloc, before)?;
+    let after = side_of(alloc, after)?;
+    found_between(alloc, befores, afters, path, &before, &after)
 }
 
-/// Returns the differences of two contexts whose rows requests may meet.
-fn met_between(
+/// Returns the differences of two contexts with this path.
+fn found_between(
     alloc: Global,
     befores: &[ComparedContext],
     afters: &[ComparedContext],
     path: &str,
-    before: &ComparedContext,
-    after: &ComparedContext,
+    before: &Side,
+    after: &Side,
 ) -> Result<Listed<Difference>, NoMemory>
-    ensures { GivesAnswer result (spec.met_between befores.now afters.now path.now before.now after.now) }
+    ensures { GivesAnswer result (spec.found_between (spec.paths_of befores.now) (spec.paths_of afters.now) path.now before.now after.now) }
 {
-    let found = found_between(alloc, before, after)?;
     let before_paths = paths_of(alloc, befores)?;
     let after_paths = paths_of(alloc, afters)?;
-    let first = SidePatterns::of(alloc, before_paths.as_slice(), path, before)?;
-    let second = SidePatterns::of(alloc, after_paths.as_slice(), path, after)?;
-    only_met(alloc, &first, &second, found)
+    let patterns = patterns_of(alloc, before, after)?;
+    let paths = shown_paths(
+        alloc,
+        before_paths.as_slice(),
+        after_paths.as_slice(),
+        path,
+        patterns.as_slice(),
+    )?;
+    differences(alloc, paths.as_slice(), before, after)
 }
 
-/// Returns the differences of two contexts.
-fn found_between(
-    alloc: Global,
-    before: &ComparedContext,
-    after: &ComparedContext,
-) -> Result<Listed<Difference>, NoMemory>
-    ensures { GivesAnswer result (differences (spec.side_of before.now) (spec.side_of after.now)) }
+/// Returns the paths of contexts.
+fn paths_of(alloc: Global, contexts: &[ComparedContext]) -> Result<Vec<Text>, NoMemory>
+    ensures { IfOk result (λ paths. paths.items ≡ spec.paths_of contexts.now) }
 {
-    let before = side_of(alloc, before)?;
-    let after = side_of(alloc, after)?;
-    differences(alloc, &before, &after)
+    let mut paths = Vec::with_capacity(alloc, contexts.len())?;
+    for context in contexts {
+        paths.push(Text::copy_of(alloc, context.path.as_str())?)?;
+    }
+    Ok(paths)
 }
 
 fn side_of(alloc: Global, context: &ComparedContext) -> Result<Side, NoMemory>

@@ -38,7 +38,8 @@ pub struct ContextDifference {
     pub before: Option<ContextSide>,
     /// The context after, or none if only the first server has one.
     pub after: Option<ContextSide>,
-    /// The differences between both contexts at rows that requests may meet; none unless both sides have a context.
+    /// The differences between both contexts at paths that requests have on both servers; none unless both sides have a
+    /// context.
     pub differences: Listed<Difference>,
 }
 

@@ -23,7 +23,8 @@ pub struct Difference {
     pub before: Option<Text>,
     /// The pattern of the row after, or none for the paths that no pattern matches.
     pub after: Option<Text>,
-    /// A path of both rows.
+    /// What follows the context path in the path of a request that has both rows: nothing for that of the context itself,
+    /// which has the rows of `/` (section 3.5).
     pub path: Text,
     /// The methods: the listed ones, or all except the listed ones. There is at least one.
     pub methods: Methods,

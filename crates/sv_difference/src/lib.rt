@@ -8,10 +8,10 @@ mod difference;
 mod laws;
 mod lines;
 mod meetings;
-mod met_rows;
 mod method_sets;
 mod opened_first;
 mod row_differences;
+mod shown_paths;
 mod values;
 
 pub use comparison::server_difference;
@@ -19,7 +19,7 @@ pub use contexts::{ComparedContext, ContextDifference, ContextSide, ServerDiffer
 pub use difference::{Difference, Side};
 pub use laws::{
     differences_are_complete, differences_are_right, reported_differences_are_right,
-    reported_examples_are_changed, unchanged_have_same_outcomes,
+    reported_examples_are_changed, same_outcomes_are_unchanged, unchanged_have_same_outcomes,
 };
 pub use lines::difference_text;
 pub use row_differences::differences;

@@ -6,15 +6,16 @@ ghost use Rattle.sv_mapping.specs.BestMatch.{best_pattern};
 ghost use Rattle.sv_text.specs.Gives.{GivesAnswer};
 ghost use Rattle.sv_difference.specs.Differences as spec;
 
+use crate::difference::Side;
 use std::alloc::Global;
-use sv_audit::{Row, best_text, is_same, representative_paths};
+use sv_audit::{Row, best_text, is_same};
 use sv_mapping::{Pattern, PatternFault, PatternTable};
 use sv_text::{NoMemory, Text};
 
 /// A path with the patterns of its rows in two tables.
 #[derive(Drop)]
 pub(crate) struct Meeting {
-    /// The path.
+    /// What follows the context path in the path of a request.
     pub(crate) path: Text,
     /// The pattern of its row before, or none if no pattern matches.
     pub(crate) before: Option<Text>,
@@ -22,20 +23,31 @@ pub(crate) struct Meeting {
     pub(crate) after: Option<Text>,
 }
 
-/// Returns each pair of rows that share a path, with such a path.
+/// Returns each pair of rows that share one of the paths, with the first of these.
 pub(crate) fn meetings(
     alloc: Global,
+    paths: &[Text],
     befores: &[Row],
     afters: &[Row],
 ) -> Result<Vec<Meeting>, NoMemory>
-    ensures { IfOk result (λ found. found.items ≡ spec.meetings (spec.url_patterns befores.now) (spec.url_patterns afters.now)) }
+    ensures { IfOk result (λ found. found.items ≡ spec.meetings (spec.url_patterns befores.now) (spec.url_patterns afters.now) paths.now) }
 {
-    let mut patterns = url_patterns(alloc, befores)?;
-    let before = PatternTable::compile(alloc, patterns.as_slice())?;
+    let before = PatternTable::compile(alloc, url_patterns(alloc, befores)?.as_slice())?;
     let after = PatternTable::compile(alloc, url_patterns(alloc, afters)?.as_slice())?;
-    push_url_patterns(&mut patterns, alloc, afters)?;
-    let paths = representative_paths(alloc, patterns.as_slice())?;
-    meetings_at(alloc, &before, &after, paths.as_slice())
+    meetings_at(alloc, &before, &after, paths)
+}
+
+/// Returns the URL patterns of the rows of both tables.
+pub(crate) fn patterns_of(
+    alloc: Global,
+    before: &Side,
+    after: &Side,
+) -> Result<Vec<Pattern>, NoMemory>
+    ensures { IfOk result (λ patterns. patterns.items ≡ spec.patterns_of before.now after.now) }
+{
+    let mut patterns = url_patterns(alloc, before.table.rows.as_slice())?;
+    push_url_patterns(&mut patterns, alloc, after.table.rows.as_slice())?;
+    Ok(patterns)
 }
 
 /// Returns the patterns of the rows whose texts are URL patterns.
@@ -132,9 +144,16 @@ fn meeting_of(
 {
     Ok(Meeting {
         path: Text::copy_of(alloc, path)?,
-        before: copied_best(alloc, before, path)?,
-        after: copied_best(alloc, after, path)?,
+        before: copied_best(alloc, before, row_path(path))?,
+        after: copied_best(alloc, after, row_path(path))?,
     })
+}
+
+/// Returns the path within a context of a request, by what follows the context path (Jakarta Servlet 6.0, section 3.5).
+fn row_path(path: &str) -> &str
+    ensures { result.now ≡ spec.row_path path.now }
+{
+    if path.is_empty() { "/" } else { path }
 }
 
 /// Copies the text of the best match for a path, if there is one.

@@ -15,32 +15,37 @@ use sv_audit::{
 use sv_constraints::Methods;
 use sv_text::{Listed, NoMemory, Text};
 
-/// Returns what differs between two configurations of a context: for each pair of rows that share a path, the methods
-/// for which other visitors pass, or are asked to log in (Jakarta Servlet 6.0, sections 12.1, 13.6 and 13.8). Opened
-/// differences come first, then closed ones, then changed ones, each in the order of the rows before. Rows whose pattern
-/// is not a URL pattern have no paths.
-///
-/// The time grows with the product of the number of prefix patterns and the number of extension patterns of both tables.
+/// Returns what differs between two configurations of a context: for each pair of rows that share one of the paths, the
+/// methods for which other visitors pass, or are asked to log in (Jakarta Servlet 6.0, sections 12.1, 13.6 and 13.8). The
+/// paths are what follows the context path in the paths of requests. Opened differences come first, then closed ones, then
+/// changed ones, each in the order of the paths. Rows whose pattern is not a URL pattern have no paths.
 ///
 /// # Errors
 /// `NoMemory` if memory runs out.
 pub fn differences(
     alloc: Global,
+    paths: &[Text],
     before: &Side,
     after: &Side,
 ) -> Result<Listed<Difference>, NoMemory>
-    ensures { GivesAnswer result (spec.differences before.now after.now) }
+    ensures { GivesAnswer result (spec.differences paths.now before.now after.now) }
 {
-    let found = all_differences(alloc, before, after)?;
+    let found = all_differences(alloc, paths, before, after)?;
     by_kind(alloc, found)
 }
 
 /// Returns the differences in the order of the pairs of rows.
-fn all_differences(alloc: Global, before: &Side, after: &Side) -> Result<Vec<Difference>, NoMemory>
-    ensures { IfOk result (λ found. found.items ≡ spec.all_differences before.now after.now) }
+fn all_differences(
+    alloc: Global,
+    paths: &[Text],
+    before: &Side,
+    after: &Side,
+) -> Result<Vec<Difference>, NoMemory>
+    ensures { IfOk result (λ found. found.items ≡ spec.all_differences paths.now before.now after.now) }
 {
     let meetings = meetings(
         alloc,
+        paths,
         before.table.rows.as_slice(),
         after.table.rows.as_slice(),
     )?;
