@@ -92,6 +92,7 @@ pub fn run_controlled<H: Net + Clock + Files, W: Write, R: EventHandler + Querie
 }
 
 // A listener, the limits of its connections, and the place for the addresses of its clients.
+#[derive(Drop)]
 struct Serving<'a> {
     listening: Listening,
     limits: Limits,

@@ -5,6 +5,7 @@ use std::net::SocketAddr;
 
 /// The address of the client whose connection was accepted last. A poller notes it before the connection is opened, and
 /// none is accepted in between, so a handler finds here the address of the connection that it is told of.
+#[derive(Drop)]
 pub struct LastAccepted {
     address: Cell<Option<SocketAddr>>,
 }
