@@ -8,6 +8,7 @@ _sv() {
     2:help:*) names="$commands config";;
     3:ctl:*) names="status constraints uncovered explain append withdraw stop";;
     *:audit:--format:*) names="text json html keys";;
+    *:run:--access-log-format:*) names="combined json";;
     *:help:--format:*) names="man md bash";;
     *:audit:--format:*) return;;
     *:audit:--as:*) return;;
@@ -20,6 +21,8 @@ _sv() {
     *:audit:--diff:*) ;;
     *:run:--control:*) ;;
     *:run:--journal:*) ;;
+    *:run:--access-log:*) ;;
+    *:run:--access-log-format:*) return;;
     *:run:--listen:*) return;;
     *:run:--connections:*) return;;
     *:run:--idle-seconds:*) return;;
@@ -33,7 +36,7 @@ _sv() {
     *:check:*:-*) names="";;
     *:replay:*:-*) names="";;
     *:serve:*:-*) names="";;
-    *:run:*:-*) names="--control --journal --listen --same-seed --connections --idle-seconds --held-mebibytes --signal-descriptor ";;
+    *:run:*:-*) names="--control --journal --access-log --access-log-format --listen --same-seed --connections --idle-seconds --held-mebibytes --signal-descriptor ";;
     *:ctl:*:-*) names="";;
     *:selftest:*:-*) names="";;
     *:help:*:-*) names="--format ";;

@@ -7,7 +7,7 @@ use Rattle.std.specs.Str.{bytes_eq}
 use Rattle.sv_arguments.specs.Options.{IsProper, IsValue}
 use Rattle.sv_arguments.specs.Settings.{Setting, Keyed, key_word, own_words, setting_words, takes_word, words_of}
 use Rattle.sv_arguments.specs.declared.key.Key.{Key}
-use Rattle.sv_arguments.specs.declared.key.Key.TheVariants.{Control, Journal, Listen, SameSeed, Connections, IdleSeconds, HeldMebibytes, SignalDescriptor, Secure, Format, As, Role, FailOn, Accept, Lines, UnknownFiles, Path, Method, Diff}
+use Rattle.sv_arguments.specs.declared.key.Key.TheVariants.{Control, Journal, AccessLog, AccessLogFormat, Listen, SameSeed, Connections, IdleSeconds, HeldMebibytes, SignalDescriptor, Secure, Format, As, Role, FailOn, Accept, Lines, UnknownFiles, Path, Method, Diff}
 use Rattle.sv_arguments.specs.declared.option_set.OptionSet.{OptionSet}
 
 -- the option of a word
@@ -15,6 +15,8 @@ key_at : List ℕ → Option Key
 key_at word =
     if bytes_eq word (codes "--control") then Some Control
     else if bytes_eq word (codes "--journal") then Some Journal
+    else if bytes_eq word (codes "--access-log") then Some AccessLog
+    else if bytes_eq word (codes "--access-log-format") then Some AccessLogFormat
     else if bytes_eq word (codes "--listen") then Some Listen
     else if bytes_eq word (codes "--same-seed") then Some SameSeed
     else if bytes_eq word (codes "--connections") then Some Connections
@@ -38,6 +40,8 @@ key_at-key_word : (key : Key) → key_at (key_word key) ≡ Some key
 unfolding key_at
 key_at-key_word Control = refl
 key_at-key_word Journal = refl
+key_at-key_word AccessLog = refl
+key_at-key_word AccessLogFormat = refl
 key_at-key_word Listen = refl
 key_at-key_word SameSeed = refl
 key_at-key_word Connections = refl

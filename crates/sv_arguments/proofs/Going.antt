@@ -1,16 +1,15 @@
 -- The arguments read so far.
-use Rattle.std.proofs.Common.{◌≡◌, ℕ, List, [], ◌∷◌, ◌++◌, Bool, true, false, ◌&&◌, not, Some, None, Result, Ok, Err, arith, length, map, subst, sym, ap, refl, ◌∙◌, append-nil, append_assoc}
-use Rattle.std.proofs.lemmas.Bool.{false≢true, true≢false}
+use Rattle.std.proofs.Common.{◌≡◌, ℕ, List, [], ◌∷◌, ◌++◌, None, Result, Ok, Err, arith, length, map, subst, sym, ap, refl, ◌∙◌, append-nil, append_assoc}
+use Rattle.std.proofs.lemmas.Bool.{false≢true}
 use Rattle.std.proofs.lemmas.Grind.{flat_map-append}
 use Rattle.std.specs.Prelude.{IfErr}
 use Rattle.std.specs.Result.{IsErrAnd}
+use Rattle.sv_arguments.proofs.Lone.{needed_given}
 use Rattle.sv_arguments.specs.Given.{AreAllOf, AreOf, IsNext}
-use Rattle.sv_arguments.specs.OptionFault.{IsRefused, IsWrong}
+use Rattle.sv_arguments.specs.OptionFault.{IsLone, IsRefused, IsWrong}
 use Rattle.sv_arguments.specs.Options.{AreProper, HasUnfit}
-use Rattle.sv_arguments.specs.Settings.{Setting, is_given, needed, setting_words, words_of}
+use Rattle.sv_arguments.specs.Settings.{Setting, setting_words, words_of}
 use Rattle.sv_arguments.specs.Values.{Finds}
-use Rattle.sv_arguments.specs.declared.key.Key.{Key}
-use Rattle.sv_arguments.specs.declared.key.Key.TheVariants.{Method, Path}
 use Rattle.sv_arguments.specs.declared.option_fault.OptionFault.{OptionFault}
 use Rattle.sv_arguments.specs.declared.option_fault.OptionFault.TheVariants.{NoServer, Unknown, Twice, Excluded, NoValue, BadValue, Alone, Unfit}
 use Rattle.sv_arguments.specs.declared.option_set.OptionSet.{OptionSet}
@@ -54,37 +53,16 @@ module _ (set : OptionSet) (words rest left : List (List ℕ)) (reached : IsReac
   refused_at arguments config (Alone key other) is wrong = absurd wrong
   refused_at arguments config (Unfit form) is wrong = absurd wrong
 
-pub needs_target : (key other : Key) → needed key ≡ Some other → (key ≡ Method) × (other ≡ Path)
-needs_target Method other is = let same : other ≡ Path = cc in (refl, same)
-needs_target key other is = absurd (none_some other is)
-  where
-    none_some : (any : Key) → None ≡ Some any → ⊥
-    none_some any same = cc
-
-other_test : (one other : Bool) → one && not other ≡ false → one ≡ true → other ≡ true
-other_test true true fails holds = refl
-other_test true false fails holds = absurd (true≢false fails)
-other_test false other fails holds = absurd (false≢true holds)
-
 -- all words are read
-module _ (set : OptionSet) (words rest : List (List ℕ)) (reached : IsReached set words rest) (none : rest ≡ []) (lacks : Bool)
-    (is : (settings : List Setting) → AreOf set words settings → lacks ≡ (is_given settings Method && not (is_given settings Path))) where
+module _ (set : OptionSet) (words rest : List (List ℕ)) (reached : IsReached set words rest) (none : rest ≡ []) where
   all_words : words ≡ words_of reached.0
   all_words = reached.1 ∙ ap (λ (all : List (List ℕ)). words_of reached.0 ++ all) none ∙ append-nil (words_of reached.0)
 
-  test : lacks ≡ (is_given reached.0 Method && not (is_given reached.0 Path))
-  test = is reached.0 (all_words, reached.2)
-
-  met : lacks ≡ false → (key other : Key) → needed key ≡ Some other → is_given reached.0 key ≡ true → is_given reached.0 other ≡ true
-  met fails key other needs given =
-      let both = needs_target key other needs in
-      ap (is_given reached.0) both.1
-      ∙ other_test (is_given reached.0 Method) (is_given reached.0 Path) (sym test ∙ fails) (sym (ap (is_given reached.0) both.0) ∙ given)
-
-  pub all_complete : lacks ≡ false → ((settings : List Setting) → AreOf set words settings → Finds (HasUnfit settings) None)
-      → (settings : List Setting) × AreAllOf set words settings
-  all_complete fails fits =
-      (reached.0, (all_words, (reached.2, met fails, λ form unfit. false≢true ((fits reached.0 (all_words, reached.2)).1 form unfit))))
+  pub all_complete : ((settings : List Setting) → AreOf set words settings → Finds (IsLone settings) None)
+      → ((settings : List Setting) → AreOf set words settings → Finds (HasUnfit settings) None) → (settings : List Setting) × AreAllOf set words settings
+  all_complete met fits =
+      let are : AreOf set words reached.0 = (all_words, reached.2) in
+      (reached.0, (all_words, (reached.2, needed_given reached.0 (met reached.0 are), λ form unfit. false≢true ((fits reached.0 are).1 form unfit))))
 
 -- a fault that is passed on
 pub passed_on : {A E : Type 0} (Says : E → Type 0) (fault : E) (result : Result A E) → IsErrAnd result (λ passed. passed ≡ fault) → Says fault → IfErr result Says

@@ -4,6 +4,7 @@ pub mod Finding
 pub mod Going
 pub mod Joining
 pub mod Lines
+pub mod Lone
 pub mod Naming
 pub mod Nearest
 pub mod Numbers

@@ -9,10 +9,13 @@ use Rattle.sv_arguments.specs.AuditOptions.{GiveAccess, IsViewer}
 use Rattle.sv_arguments.specs.AuditWords.{IsFormat, format_name}
 use Rattle.sv_arguments.specs.Laws.{AreSame, AskForOne, AuditsOne, SameAccess, SameViewer}
 use Rattle.sv_arguments.specs.RunOptions.{GiveRun}
+use Rattle.sv_arguments.specs.RunWords.{IsAccessLogFormat, access_log_format_name}
 use Rattle.sv_arguments.specs.Settings.{Setting, values, words_of}
 use Rattle.sv_arguments.specs.Values.{IsAddress, IsCount, IsDescriptor, IsGiven, IsName, Says, SaysOr}
-use Rattle.sv_arguments.specs.declared.key.Key.TheVariants.{Accept, As, Connections, Control, Diff, FailOn, Format, HeldMebibytes, IdleSeconds, Journal, Lines, Listen, Method, Path, Role, SameSeed, Secure, SignalDescriptor, UnknownFiles}
+use Rattle.sv_arguments.specs.declared.key.Key.TheVariants.{Accept, AccessLog, AccessLogFormat, As, Connections, Control, Diff, FailOn, Format, HeldMebibytes, IdleSeconds, Journal, Lines, Listen, Method, Path, Role, SameSeed, Secure, SignalDescriptor, UnknownFiles}
 use Rattle.sv_arguments.specs.declared.option_set.OptionSet.TheVariants as set
+use Rattle.sv_arguments.specs.declared.run_options.AccessLogFormat as log
+use Rattle.sv_arguments.specs.declared.run_options.AccessLogFormat.TheVariants as line
 use Rattle.sv_arguments.specs.declared.run_options.RunOptions.{RunOptions}
 use Rattle.sv_audit_command.specs.declared.access_options.AccessOptions.{AccessOptions}
 use Rattle.sv_audit_command.specs.declared.access_options.Asked.{Asked}
@@ -80,6 +83,18 @@ format_at-name Keys = refl
 pub formats_one : (word : List ℕ) (x y : report.Format) → IsFormat word x → IsFormat word y → x ≡ y
 formats_one word x y a b = sym (format_at-name x) ∙ ap format_at (sym a ∙ b) ∙ format_at-name y
 
+-- the form of lines of a name
+access_log_format_at : List ℕ → log.AccessLogFormat
+access_log_format_at word = if bytes_eq word (codes "json") then line.Json else line.Combined
+
+access_log_format_at-name : (format : log.AccessLogFormat) → access_log_format_at (access_log_format_name format) ≡ format
+unfolding access_log_format_at
+access_log_format_at-name line.Combined = refl
+access_log_format_at-name line.Json = refl
+
+access_log_formats_one : (word : List ℕ) (x y : log.AccessLogFormat) → IsAccessLogFormat word x → IsAccessLogFormat word y → x ≡ y
+access_log_formats_one word x y a b = sym (access_log_format_at-name x) ∙ ap access_log_format_at (sym a ∙ b) ∙ access_log_format_at-name y
+
 viewers_one : (users roles : List (List ℕ)) (one other : Option Asked) → IsViewer users roles one → IsViewer users roles other → SameViewer one other
 viewers_one [] [] None None a b = tt
 viewers_one [] [] None (Some y) a b = absurd b
@@ -103,12 +118,14 @@ run_one settings one other config a b = (
   config,
   names_one (values Control settings) one.control other.control a.0 b.0,
   names_one (values Journal settings) one.journal other.journal a.1 b.1,
-  says_one IsAddress IsSocketText_unique (values Listen settings) one.listen other.listen a.2 b.2,
-  given_one (values SameSeed settings) one.same_seed other.same_seed a.3 b.3,
-  says_one (IsCount 1024) (counts_one 1024) (values Connections settings) one.connections other.connections a.4 b.4,
-  says_one (IsCount 86400) (counts_one 86400) (values IdleSeconds settings) one.idle_seconds other.idle_seconds a.5 b.5,
-  says_one (IsCount 1048576) (counts_one 1048576) (values HeldMebibytes settings) one.held_mebibytes other.held_mebibytes a.6 b.6,
-  says_one IsDescriptor descriptors_one (values SignalDescriptor settings) one.signal_descriptor other.signal_descriptor a.7 b.7,
+  names_one (values AccessLog settings) one.access_log other.access_log a.2 b.2,
+  usual_one line.Combined IsAccessLogFormat access_log_formats_one (values AccessLogFormat settings) one.access_log_format other.access_log_format a.3 b.3,
+  says_one IsAddress IsSocketText_unique (values Listen settings) one.listen other.listen a.4 b.4,
+  given_one (values SameSeed settings) one.same_seed other.same_seed a.5 b.5,
+  says_one (IsCount 1024) (counts_one 1024) (values Connections settings) one.connections other.connections a.6 b.6,
+  says_one (IsCount 86400) (counts_one 86400) (values IdleSeconds settings) one.idle_seconds other.idle_seconds a.7 b.7,
+  says_one (IsCount 1048576) (counts_one 1048576) (values HeldMebibytes settings) one.held_mebibytes other.held_mebibytes a.8 b.8,
+  says_one IsDescriptor descriptors_one (values SignalDescriptor settings) one.signal_descriptor other.signal_descriptor a.9 b.9,
 )
 
 pub ask_for_one : AskForOne

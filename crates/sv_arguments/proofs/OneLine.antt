@@ -4,9 +4,9 @@ use Rattle.std.proofs.lemmas.Bool.{false≢true}
 use Rattle.std.proofs.lemmas.List.Elements.{All-head, All-tail}
 use Rattle.std.specs.Prelude.{All, codes}
 use Rattle.sv_arguments.proofs.Decoding.{first_same, key_word_injective, one_settings, same_heads, some_word}
-use Rattle.sv_arguments.proofs.Going.{needs_target}
+use Rattle.sv_arguments.proofs.Lone.{AreOfAudit, AreOfRun, needs_one}
 use Rattle.sv_arguments.proofs.OneTopic.{called_one, finds_one, named_one}
-use Rattle.sv_arguments.proofs.Setting.{either_none, some_none}
+use Rattle.sv_arguments.proofs.Setting.{either_none, given_proper, some_none}
 use Rattle.sv_arguments.proofs.Unfit.{one_unfit}
 use Rattle.sv_arguments.proofs.Wrong.{IsStopped, not_next, stopped_not_read}
 use Rattle.sv_arguments.specs.HelpUsage.{IsHelpLine, called_line}
@@ -17,7 +17,7 @@ use Rattle.sv_arguments.specs.Topics.{IsCalled, topic_name}
 use Rattle.sv_arguments.specs.Usage.{IsLineAfter, IsOptionLine, IsUsageLine, needs_line, option_fault_line, unknown_option}
 use Rattle.sv_program.specs.Shown.{quoted}
 use Rattle.sv_arguments.specs.declared.key.Key.{Key}
-use Rattle.sv_arguments.specs.declared.key.Key.TheVariants.{Diff, Method}
+use Rattle.sv_arguments.specs.declared.key.Key.TheVariants.{AccessLog, AccessLogFormat, Diff, Method, Path}
 use Rattle.sv_arguments.specs.declared.option_fault.OptionFault.{OptionFault}
 use Rattle.sv_arguments.specs.declared.option_fault.OptionFault.TheVariants.{NoServer, Unknown, Twice, Excluded, NoValue, BadValue, Alone, Unfit}
 use Rattle.sv_arguments.specs.declared.option_set.OptionSet.{OptionSet}
@@ -191,18 +191,46 @@ late_not_stopped : (its : OptionSet) (arguments : List (List ℕ)) (one other : 
 late_not_stopped its arguments one other stopped (config, settings, same, proper, unmet) =
     stopped_not_read its arguments one stopped (config, settings, same, proper)
 
+run_audit : set.Run ≡ set.Audit → ⊥
+run_audit same = cc
+
 module _ (its : OptionSet) (settings : List Setting) (proper : AreProper its settings) where
   given_none : (key : Key) → is_given settings key ≡ true → values key settings ≡ [] → ⊥
   given_none key given none = false≢true (sym (ap has_word none) ∙ given)
 
+  -- options that are given are of one command
+  one_command : (a b : Key) → is_given settings a ≡ true → is_given settings b ≡ true → set_of a ≡ set_of b
+  one_command a b given other = given_proper its a settings proper.0 given ∙ sym (given_proper its b settings proper.0 other)
+
+  given_same : (a b : Key) → a ≡ b → is_given settings a ≡ true → is_given settings b ≡ true
+  given_same a b same given = sym (ap (is_given settings) same) ∙ given
+
   -- a method without a request is given with no other server
-  lone_unfit : (key other : Key) (form : Format) → Lacks settings key other → HasUnfit settings form → ⊥
-  lone_unfit key other form (needs, given, missing) (word, is, unfit, server) =
-      by (either_none its settings proper Method Diff (0, omega arith, refl))
+  method_unfit : is_given settings Method ≡ true → is_given settings Diff ≡ true → ⊥
+  method_unfit given server = by (either_none its settings proper Method Diff (0, omega arith, refl))
     where
       by : (values Method settings ≡ []) ⊎ (values Diff settings ≡ []) → ⊥
-      by (inl none) = given_none Method (sym (ap (is_given settings) (needs_target key other needs).0) ∙ given) none
+      by (inl none) = given_none Method given none
       by (inr none) = given_none Diff server none
+
+  lone_unfit : (key other : Key) → AreOfRun key other ⊎ AreOfAudit key other → is_given settings key ≡ true → is_given settings Diff ≡ true → ⊥
+  lone_unfit key other (inl same) given server = run_audit (one_command AccessLogFormat Diff (given_same key AccessLogFormat same.0 given) server)
+  lone_unfit key other (inr same) given server = method_unfit (given_same key Method same.0 given) server
+
+  same_lone : (key by next from own other : Key) → (key ≡ own) × (by ≡ other) → (next ≡ own) × (from ≡ other)
+      → option_fault_line its (Alone key by) ≡ option_fault_line its (Alone next from)
+  same_lone key by next from own other one two =
+      ap (λ (any : Key). option_fault_line its (Alone any by)) (one.0 ∙ sym two.0)
+      ∙ ap (λ (any : Key). option_fault_line its (Alone next any)) (one.1 ∙ sym two.1)
+
+  one_lone : (key by next from : Key) → AreOfRun key by ⊎ AreOfAudit key by → AreOfRun next from ⊎ AreOfAudit next from
+      → is_given settings key ≡ true → is_given settings next ≡ true → option_fault_line its (Alone key by) ≡ option_fault_line its (Alone next from)
+  one_lone key by next from (inl one) (inl two) given other = same_lone key by next from AccessLogFormat AccessLog one two
+  one_lone key by next from (inr one) (inr two) given other = same_lone key by next from Method Path one two
+  one_lone key by next from (inl one) (inr two) given other =
+      absurd (run_audit (one_command AccessLogFormat Method (given_same key AccessLogFormat one.0 given) (given_same next Method two.0 other)))
+  one_lone key by next from (inr one) (inl two) given other =
+      absurd (run_audit (one_command AccessLogFormat Method (given_same next AccessLogFormat two.0 other) (given_same key Method one.0 given)))
 
   -- settings lack only one thing
   one_unmet : (one other : OptionFault) → IsUnmet settings one → IsUnmet settings other → option_fault_line its one ≡ option_fault_line its other
@@ -218,13 +246,9 @@ module _ (its : OptionSet) (settings : List Setting) (proper : AreProper its set
   one_unmet (Excluded key by) other a b = absurd a
   one_unmet (NoValue key) other a b = absurd a
   one_unmet (BadValue key value) other a b = absurd a
-  one_unmet (Alone key by) (Alone next from) a b =
-      let first = needs_target key by a.0 in
-      let second = needs_target next from b.0 in
-      ap (λ (own : Key). option_fault_line its (Alone own by)) (first.0 ∙ sym second.0)
-      ∙ ap (λ (other : Key). option_fault_line its (Alone next other)) (first.1 ∙ sym second.1)
-  one_unmet (Alone key by) (Unfit form) a b = absurd (lone_unfit key by form a b)
-  one_unmet (Unfit form) (Alone key by) a b = absurd (lone_unfit key by form b a)
+  one_unmet (Alone key by) (Alone next from) a b = one_lone key by next from (needs_one key by a.0) (needs_one next from b.0) a.1 b.1
+  one_unmet (Alone key by) (Unfit form) a (word, is, unfit, server) = absurd (lone_unfit key by (needs_one key by a.0) a.1 server)
+  one_unmet (Unfit form) (Alone key by) (word, is, unfit, server) b = absurd (lone_unfit key by (needs_one key by b.0) b.1 server)
   one_unmet (Unfit form) (Unfit other) a b = ap (λ (any : Format). option_fault_line its (Unfit any)) (one_unfit settings form other a b)
 
 one_late : (its : OptionSet) (arguments : List (List ℕ)) (one other : OptionFault) → IsLate its arguments one → IsLate its arguments other

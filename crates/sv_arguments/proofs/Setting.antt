@@ -10,7 +10,7 @@ use Rattle.std.specs.Str.{bytes_eq}
 use Rattle.sv_arguments.proofs.Decoding.{key_word_injective, same_heads, some_word}
 use Rattle.sv_arguments.specs.OptionFault.{IsFree}
 use Rattle.sv_arguments.specs.Options.{AreProper, IsProper, IsValue}
-use Rattle.sv_arguments.specs.Settings.{Setting, Keyed, given_rival, has_word, is_given, key_word, own_words, rivals, setting_words, takes_word, value_in, values}
+use Rattle.sv_arguments.specs.Settings.{Setting, Keyed, given_rival, has_word, is_given, key_word, own_words, rivals, set_of, setting_words, takes_word, value_in, values}
 use Rattle.sv_arguments.specs.declared.key.Key.{Key}
 use Rattle.sv_arguments.specs.declared.key.Key.TheVariants.{Accept, As, Diff, FailOn, Format, Lines, Method, Path, Role, SameSeed, Secure, UnknownFiles}
 use Rattle.sv_arguments.specs.declared.option_set.OptionSet.{OptionSet}
@@ -193,6 +193,20 @@ value_proper set key word [] all is = absurd (some_word word [] is)
 value_proper set key word (Keyed own value ∷ settings) all is =
     own_proper set key own word value settings (All-head (IsProper set) (Keyed own value) settings all)
     (value_proper set key word settings (All-tail (IsProper set) (Keyed own value) settings all)) (same_key key own) is
+
+own_given : (set : OptionSet) (key own : Key) (value : List ℕ) (settings : List Setting) → IsProper set (Keyed own value)
+    → (is_given settings key ≡ true → set_of key ≡ set) → (key ≡ own) ⊎ (key ≡ own → ⊥) → is_given (Keyed own value ∷ settings) key ≡ true
+    → set_of key ≡ set
+own_given set key own value settings proper deeper (inl same) given = ap set_of same ∙ proper.0
+own_given set key own value settings proper deeper (inr other) given =
+    deeper (sym (ap (λ (words : List (List ℕ)). has_word (words ++ values key settings)) (other_value key own value other)) ∙ given)
+
+-- an option that is given is one of the command
+pub given_proper : (set : OptionSet) (key : Key) (settings : List Setting) → All (IsProper set) settings → is_given settings key ≡ true → set_of key ≡ set
+given_proper set key [] all given = absurd (false≢true given)
+given_proper set key (Keyed own value ∷ settings) all given =
+    own_given set key own value settings (All-head (IsProper set) (Keyed own value) settings all)
+    (given_proper set key settings (All-tail (IsProper set) (Keyed own value) settings all)) (same_key key own) given
 
 -- an option that takes no word has the empty one
 pub flag_value : (key : Key) → takes_word key ≡ false → IsValue key []

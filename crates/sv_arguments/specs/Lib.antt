@@ -2,6 +2,7 @@ pub mod Options
 pub mod AuditOptions
 pub mod AuditWords
 pub mod RunOptions
+pub mod RunWords
 pub mod Given
 pub mod ControlWord
 pub mod ControlArguments

@@ -33,6 +33,10 @@ IsWrong set settings words (Unfit form) = ⊥
 abbrev pub Lacks : List Setting → Key → Key → Type 0
 Lacks settings key other = (needed key ≡ Some other) × (is_given settings key ≡ true) × (is_given settings other ≡ false)
 
+-- an option, and the one that it lacks
+abbrev pub IsLone : List Setting → Key × Key → Type 0
+IsLone settings pair = Lacks settings pair.0 pair.1
+
 -- there is no server file; or the words after its name are those of proper settings, followed by words with this fault; or
 -- they are those of proper settings, and an option lacks another, or another server excludes the form
 abbrev pub IsRefused : OptionSet → List (List ℕ) → OptionFault → Type 0

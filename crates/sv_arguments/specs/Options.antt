@@ -5,13 +5,16 @@ use Rattle.sv_audit_command.specs.declared.access_options.Format as report
 use Rattle.sv_arguments.specs.Settings.{Setting, Keyed, given_rival, is_given, needed, set_of, values}
 use Rattle.sv_arguments.specs.Values.{IsAddress, IsCount, IsDescriptor}
 use Rattle.sv_arguments.specs.AuditWords.{IsFormat, IsUnfit}
+use Rattle.sv_arguments.specs.RunWords.{IsAccessLogFormat}
 use Rattle.sv_arguments.specs.declared.key.Key.{Key}
-use Rattle.sv_arguments.specs.declared.key.Key.TheVariants.{Listen, SameSeed, Connections, IdleSeconds, HeldMebibytes, SignalDescriptor, Secure, Format, FailOn, UnknownFiles, Diff}
+use Rattle.sv_arguments.specs.declared.key.Key.TheVariants.{AccessLogFormat, Listen, SameSeed, Connections, IdleSeconds, HeldMebibytes, SignalDescriptor, Secure, Format, FailOn, UnknownFiles, Diff}
 use Rattle.sv_arguments.specs.declared.option_set.OptionSet.{OptionSet}
+use Rattle.sv_arguments.specs.declared.run_options.AccessLogFormat as log
 use Rattle.std.specs.declared.net.socket_addr.SocketAddr.{SocketAddr}
 
 -- the word is a value of the option
 abbrev pub IsValue : Key → List ℕ → Type 0
+IsValue AccessLogFormat word = (format : log.AccessLogFormat) × IsAccessLogFormat word format
 IsValue Listen word = (address : SocketAddr) × IsAddress word address
 IsValue SameSeed word = word ≡ []
 IsValue Connections word = (count : ℕ) × IsCount 1024 word count

@@ -1,17 +1,21 @@
 -- The meaning of the arguments of the command `run`.
 use Rattle.std.specs.Prelude.{◌≡◌, ℕ, List, ◌∷◌}
 use Rattle.sv_arguments.specs.Options.{AreComplete}
+use Rattle.sv_arguments.specs.RunWords.{IsAccessLogFormat}
 use Rattle.sv_arguments.specs.Settings.{Setting, values, words_of}
-use Rattle.sv_arguments.specs.Values.{IsAddress, IsCount, IsDescriptor, IsGiven, IsName, Says}
-use Rattle.sv_arguments.specs.declared.key.Key.TheVariants.{Connections, Control, HeldMebibytes, IdleSeconds, Journal, Listen, SameSeed, SignalDescriptor}
+use Rattle.sv_arguments.specs.Values.{IsAddress, IsCount, IsDescriptor, IsGiven, IsName, Says, SaysOr}
+use Rattle.sv_arguments.specs.declared.key.Key.TheVariants.{AccessLog, AccessLogFormat, Connections, Control, HeldMebibytes, IdleSeconds, Journal, Listen, SameSeed, SignalDescriptor}
 use Rattle.sv_arguments.specs.declared.option_set.OptionSet.TheVariants.{Run}
+use Rattle.sv_arguments.specs.declared.run_options.AccessLogFormat.TheVariants.{Combined}
 use Rattle.sv_arguments.specs.declared.run_options.RunOptions.{RunOptions}
 
--- the settings give these options
+-- the settings give these options; the lines of the access log are combined if no form is named
 abbrev pub GiveRun : List Setting → RunOptions → Type 0
 GiveRun settings options =
     Says IsName (values Control settings) options.control
     × Says IsName (values Journal settings) options.journal
+    × Says IsName (values AccessLog settings) options.access_log
+    × SaysOr Combined IsAccessLogFormat (values AccessLogFormat settings) options.access_log_format
     × Says IsAddress (values Listen settings) options.listen
     × IsGiven (values SameSeed settings) options.same_seed
     × Says (IsCount 1024) (values Connections settings) options.connections

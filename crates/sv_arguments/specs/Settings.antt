@@ -3,7 +3,7 @@ use Rattle.std.specs.Prelude.{◌≡◌, ℕ, Bool, true, false, List, [], ◌�
 use Rattle.std.specs.List.{find, flat_map}
 use Rattle.std.specs.Str.{bytes_eq}
 use Rattle.sv_arguments.specs.declared.key.Key.{Key}
-use Rattle.sv_arguments.specs.declared.key.Key.TheVariants.{Control, Journal, Listen, SameSeed, Connections, IdleSeconds, HeldMebibytes, SignalDescriptor, Secure, Format, As, Role, FailOn, Accept, Lines, UnknownFiles, Path, Method, Diff}
+use Rattle.sv_arguments.specs.declared.key.Key.TheVariants.{Control, Journal, AccessLog, AccessLogFormat, Listen, SameSeed, Connections, IdleSeconds, HeldMebibytes, SignalDescriptor, Secure, Format, As, Role, FailOn, Accept, Lines, UnknownFiles, Path, Method, Diff}
 use Rattle.sv_arguments.specs.declared.option_set.OptionSet.{OptionSet}
 use Rattle.sv_arguments.specs.declared.option_set.OptionSet.TheVariants.{Run, Audit}
 
@@ -14,6 +14,8 @@ pub data Setting : Type 0 where
 abbrev pub key_word : Key → List ℕ
 key_word Control = codes "--control"
 key_word Journal = codes "--journal"
+key_word AccessLog = codes "--access-log"
+key_word AccessLogFormat = codes "--access-log-format"
 key_word Listen = codes "--listen"
 key_word SameSeed = codes "--same-seed"
 key_word Connections = codes "--connections"
@@ -36,6 +38,8 @@ key_word Diff = codes "--diff"
 abbrev pub value_name : Key → List ℕ
 value_name Control = codes "SOCKET"
 value_name Journal = codes "FILE"
+value_name AccessLog = codes "FILE"
+value_name AccessLogFormat = codes "combined or json"
 value_name Listen = codes "an address and a port, as 127.0.0.1:8080"
 value_name SameSeed = codes "nothing"
 value_name Connections = codes "a number from 1 to 1024"
@@ -56,7 +60,8 @@ value_name Diff = codes "a server file"
 
 -- the options of a command, in the order of its help
 abbrev pub option_keys : OptionSet → List Key
-option_keys Run = Control ∷ Journal ∷ Listen ∷ SameSeed ∷ Connections ∷ IdleSeconds ∷ HeldMebibytes ∷ SignalDescriptor ∷ []
+option_keys Run =
+    Control ∷ Journal ∷ AccessLog ∷ AccessLogFormat ∷ Listen ∷ SameSeed ∷ Connections ∷ IdleSeconds ∷ HeldMebibytes ∷ SignalDescriptor ∷ []
 option_keys Audit = Secure ∷ Format ∷ As ∷ Role ∷ FailOn ∷ Accept ∷ Lines ∷ UnknownFiles ∷ Path ∷ Method ∷ Diff ∷ []
 
 abbrev pub option_words : OptionSet → List (List ℕ)
@@ -104,6 +109,7 @@ rivals other = []
 
 -- the option that must be given with this one
 abbrev pub needed : Key → Option Key
+needed AccessLogFormat = Some AccessLog
 needed Method = Some Path
 needed other = None
 

@@ -2,7 +2,7 @@
 
 ghost use Rattle.std.specs.Prelude.{◌≡◌, ◌∷◌, ◌++◌, ◌≤◌, ◌&&◌, ℕ, List, All, IfErr, IfOk, IfSome, length, map, not, string_bytes};
 ghost use Rattle.sv_arguments.specs.Given.{AreAllOf, AreOf, IsFirst, IsNext, IsSplit};
-ghost use Rattle.sv_arguments.specs.OptionFault.{IsRefused, IsWrong};
+ghost use Rattle.sv_arguments.specs.OptionFault.{IsLone, IsRefused, IsWrong};
 ghost use Rattle.sv_arguments.specs.Options.{AreProper, HasUnfit, IsProper, IsValue};
 ghost use Rattle.sv_arguments.specs.Settings.{Keyed, Setting, given_rival, is_given, setting_words, values, words_of};
 ghost use Rattle.sv_arguments.specs.Values.{Finds, IsAddress, IsCount, IsDescriptor, IsGiven, IsName, Says};
@@ -49,8 +49,8 @@ impl<'a> Given<'a> {
             let others = rest_behind(set, done, word.as_str(), after)?;
             rest = others;
         }
-        if lacks_target(set, words) {
-            return Err(OptionFault::Alone(Key::Method, Key::Path));
+        if let Some((key, needed)) = lone_option(set, words) {
+            return Err(OptionFault::Alone(key, needed));
         }
         if let Some(form) = unfit_form(set, words) {
             return Err(OptionFault::Unfit(form));
@@ -160,12 +160,25 @@ fn rival_in(set: OptionSet, words: &[String], key: Key) -> Option<Key>
     None
 }
 
-/// Returns whether the method of a request is among these words, and its target is not.
-fn lacks_target(set: OptionSet, words: &[String]) -> bool
-    ensures { (settings : List Setting) → AreOf set (map string_bytes words.now) settings
-        → result ≡ is_given settings Key.Method && not (is_given settings Key.Path) }
+/// Returns an option among these words without the one that it needs, and that one.
+fn lone_option(set: OptionSet, words: &[String]) -> Option<(Key, Key)>
+    ensures { (settings : List Setting) → AreOf set (map string_bytes words.now) settings → Finds (IsLone settings) result }
 {
-    is_among(set, words, Key::Method) && !is_among(set, words, Key::Path)
+    if lacks(set, words, Key::AccessLogFormat, Key::AccessLog) {
+        return Some((Key::AccessLogFormat, Key::AccessLog));
+    }
+    if lacks(set, words, Key::Method, Key::Path) {
+        return Some((Key::Method, Key::Path));
+    }
+    None
+}
+
+/// Returns whether an option is among these words, and the one that it needs is not.
+fn lacks(set: OptionSet, words: &[String], key: Key, needed: Key) -> bool
+    ensures { (settings : List Setting) → AreOf set (map string_bytes words.now) settings
+        → result ≡ is_given settings key && not (is_given settings needed) }
+{
+    is_among(set, words, key) && !is_among(set, words, needed)
 }
 
 /// Returns the form among these words, if a report on differences does not have it, and another server is among them.

@@ -6,6 +6,7 @@ ghost use Rattle.sv_arguments.specs.Settings.{key_word, rivals, takes_word, valu
 
 use crate::audit_options::format_named;
 use crate::count::{address_in, count_in, descriptor_in};
+use crate::run_options::access_log_format_named;
 use sv_audit_command::are_kinds;
 
 /// Maximum value of `--connections`.
@@ -24,6 +25,10 @@ pub enum Key {
     Control,
     /// `--journal FILE`: the name of the file to which the journal is appended.
     Journal,
+    /// `--access-log FILE`: the name of the file to which the access log is appended.
+    AccessLog,
+    /// `--access-log-format FORMAT`: the form of the lines of the access log.
+    AccessLogFormat,
     /// `--listen ADDRESS:PORT`: the address that the server listens on.
     Listen,
     /// `--same-seed`: random words are derived only from the server file's seed.
@@ -68,6 +73,8 @@ impl Key {
         match self {
             Key::Control => "--control",
             Key::Journal => "--journal",
+            Key::AccessLog => "--access-log",
+            Key::AccessLogFormat => "--access-log-format",
             Key::Listen => "--listen",
             Key::SameSeed => "--same-seed",
             Key::Connections => "--connections",
@@ -95,6 +102,8 @@ impl Key {
         match self {
             Key::Control => "SOCKET",
             Key::Journal => "FILE",
+            Key::AccessLog => "FILE",
+            Key::AccessLogFormat => "combined or json",
             Key::Listen => "an address and a port, as 127.0.0.1:8080",
             Key::SameSeed => "nothing",
             Key::Connections => "a number from 1 to 1024",
@@ -122,6 +131,8 @@ impl Key {
         match self {
             Key::Control => true,
             Key::Journal => true,
+            Key::AccessLog => true,
+            Key::AccessLogFormat => true,
             Key::Listen => true,
             Key::SameSeed => false,
             Key::Connections => true,
@@ -149,6 +160,8 @@ impl Key {
         match self {
             Key::Control => &[],
             Key::Journal => &[],
+            Key::AccessLog => &[],
+            Key::AccessLogFormat => &[],
             Key::Listen => &[],
             Key::SameSeed => &[],
             Key::Connections => &[],
@@ -185,6 +198,8 @@ impl Key {
         match self {
             Key::Control => true,
             Key::Journal => true,
+            Key::AccessLog => true,
+            Key::AccessLogFormat => access_log_format_named(word).is_some(),
             Key::Listen => address_in(word).is_some(),
             Key::SameSeed => word.is_empty(),
             Key::Connections => count_in(word, MAX_CONNECTIONS).is_some(),

@@ -34,7 +34,7 @@ pub use manual::Manual;
 pub use near::a_near_name_is_the_nearest;
 pub use option_fault::OptionFault;
 pub use question::Question;
-pub use run_options::{RunOptions, arguments_ask_for_one_thing};
+pub use run_options::{AccessLogFormat, RunOptions, arguments_ask_for_one_thing};
 pub use service::Service;
 pub use topic::{TOPICS, Topic, is_help_option};
 pub use usage::{

@@ -68,6 +68,12 @@ fn run_key(word: &str) -> Option<Key>
     if word == "--journal" {
         return Some(Key::Journal);
     }
+    if word == "--access-log" {
+        return Some(Key::AccessLog);
+    }
+    if word == "--access-log-format" {
+        return Some(Key::AccessLogFormat);
+    }
     if word == "--listen" {
         return Some(Key::Listen);
     }

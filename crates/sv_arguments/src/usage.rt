@@ -31,9 +31,11 @@ use sv_program::quoted;
 use sv_text::{NoMemory, Text};
 
 /// The options of `run`, in the order of its help.
-const RUN_OPTIONS: [&str; 8] = [
+const RUN_OPTIONS: [&str; 10] = [
     "--control",
     "--journal",
+    "--access-log",
+    "--access-log-format",
     "--listen",
     "--same-seed",
     "--connections",

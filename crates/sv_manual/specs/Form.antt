@@ -4,9 +4,13 @@ use Rattle.std.specs.Str.{byte}
 use Rattle.sv_manual.specs.declared.form.Form.{Form}
 use Rattle.sv_manual.specs.declared.form.Form.TheVariants.{Help, Roff, Markdown}
 
+-- a line feed, and the spaces before the descriptions of options
+abbrev pub further_line : List ℕ
+further_line = codes "\n                            "
+
 -- a further line of the description of an option begins below the first
 abbrev pub help_char : ℕ → List ℕ
-help_char c = if c == byte "\n" then codes "\n                            " else c ∷ []
+help_char c = if c == byte "\n" then further_line else c ∷ []
 
 -- a backslash begins an escape, a hyphen is an option's, and quotation marks are those that a user types; no line begins
 -- with a character that roff reads as a command

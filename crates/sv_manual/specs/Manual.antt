@@ -1,7 +1,7 @@
 -- The commands and their options, in each form.
-use Rattle.std.specs.Prelude.{ℕ, ◌-◌, List, [], ◌++◌, codes, flat_map, if◌then◌else◌, length, replicate}
+use Rattle.std.specs.Prelude.{ℕ, ◌-◌, nat_lt, List, [], ◌++◌, codes, flat_map, if◌then◌else◌, length, replicate}
 use Rattle.std.specs.Str.{bytes_eq}
-use Rattle.sv_manual.specs.Form.{escaped}
+use Rattle.sv_manual.specs.Form.{escaped, further_line}
 use Rattle.sv_manual.specs.Rows.{CommandFields, OptionFields, options_of, spaced}
 use Rattle.sv_manual.specs.declared.form.Form.{Form}
 use Rattle.sv_manual.specs.declared.form.Form.TheVariants.{Help, Roff, Markdown}
@@ -11,9 +11,13 @@ use Rattle.sv_manual.specs.declared.pages.TheConstants as page
 abbrev pub option_head : List ℕ → List ℕ → List ℕ
 option_head word argument = word ++ spaced argument
 
--- the head of an option of the help, with spaces up to the column of its description
+-- what is between the head of an option of the help and its description: spaces up to the column of the descriptions, or a
+-- further line after a head that reaches this column
+abbrev pub gap_after : ℕ → List ℕ
+gap_after width = if nat_lt width 24 then replicate (24 - width) 32 else further_line
+
 abbrev pub padded : List ℕ → List ℕ
-padded head = head ++ replicate (24 - length head) 32
+padded head = head ++ gap_after (length head)
 
 -- an option with its description, which is in the form already
 abbrev pub help_option : List ℕ → List ℕ → List ℕ → List ℕ

@@ -73,7 +73,7 @@ pub const COMMANDS: [CommandRow; 12] = [
 ];
 
 /// The options, by their commands.
-pub const OPTIONS: [OptionRow; 20] = [
+pub const OPTIONS: [OptionRow; 22] = [
     (
         "audit",
         "--secure",
@@ -151,6 +151,19 @@ withdraw, stop",
         "--journal",
         "FILE",
         "appends the outcome of each request to that file",
+    ),
+    (
+        "run",
+        "--access-log",
+        "FILE",
+        "appends a line for each request to that file: who asked for what,
+and what became of it",
+    ),
+    (
+        "run",
+        "--access-log-format",
+        "combined|json",
+        "the form of these lines: combined, as other servers write it, or json",
     ),
     ("run", "--listen", "ADDRESS:PORT", "listens there"),
     (

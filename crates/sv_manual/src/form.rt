@@ -7,6 +7,9 @@ ghost use Rattle.sv_text.specs.Gives.{GivesAnswer};
 use std::alloc::Global;
 use sv_text::{NoMemory, Text};
 
+/// A line feed, and the spaces before the descriptions of options.
+pub(crate) const FURTHER_LINE: &str = "\n                            ";
+
 /// The form of a manual.
 #[derive(Clone, Copy)]
 pub enum Form {
@@ -46,7 +49,7 @@ fn push_in_help(shown: &mut String, c: char) -> Result<(), NoMemory>
     ensures { OnOk result (string_bytes shown.new ≡ string_bytes shown.old ++ encode_utf8_all (spec.help_char c)) }
 {
     match c {
-        '\n' => shown.push_str("\n                            ")?,
+        '\n' => shown.push_str(FURTHER_LINE)?,
         _ => shown.push(c)?,
     }
     Ok(())

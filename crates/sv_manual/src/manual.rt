@@ -6,7 +6,7 @@ ghost use Rattle.sv_manual.specs.Rows.{command_fields, option_fields, option_tex
 ghost use Rattle.sv_text.specs.Gives.{GivesAnswer};
 
 use crate::commands::{COMMANDS, CommandRow, OPTIONS, OptionRow};
-use crate::form::{Form, escaped};
+use crate::form::{FURTHER_LINE, Form, escaped};
 use crate::pages::{HELP_HEAD, MAN_END, MAN_HEAD, MARKDOWN_END, MARKDOWN_HEAD, ROFF_COMMAND};
 use std::alloc::Global;
 use sv_text::{NoMemory, Text};
@@ -324,14 +324,26 @@ fn option_head(alloc: Global, word: &str, argument: &str) -> Result<Text, NoMemo
     Ok(Text::from_string(format!(in alloc; "{word}{argument}")?))
 }
 
-/// Returns a text with spaces after it, up to the column of descriptions.
+/// Returns the head of an option with what is between it and the description.
 fn padded(alloc: Global, head: &str) -> Result<Text, NoMemory>
     ensures { GivesAnswer result (spec.padded head.now) }
 {
     let mut text = String::new(alloc);
     text.push_str(head)?;
-    push_spaces(&mut text, COLUMN.saturating_sub(head.len()))?;
+    push_gap(&mut text, head.len())?;
     Ok(Text::from_string(text))
+}
+
+/// Adds spaces after a head of this width up to the column of descriptions, or a further line if the head reaches it.
+fn push_gap(text: &mut String, width: usize) -> Result<(), NoMemory>
+    ensures { OnOk result (string_bytes text.new ≡ string_bytes text.old ++ spec.gap_after width) }
+{
+    if width < COLUMN {
+        push_spaces(text, COLUMN - width)
+    } else {
+        text.push_str(FURTHER_LINE)?;
+        Ok(())
+    }
 }
 
 fn push_spaces(text: &mut String, count: usize) -> Result<(), NoMemory>

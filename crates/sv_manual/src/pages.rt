@@ -72,6 +72,7 @@ pub const COMPLETION_CASES: &str = "\"
     2:help:*) names=\"$commands config\";;
     3:ctl:*) names=\"status constraints uncovered explain append withdraw stop\";;
     *:audit:--format:*) names=\"text json html keys\";;
+    *:run:--access-log-format:*) names=\"combined json\";;
     *:help:--format:*) names=\"man md bash\";;
 ";
 

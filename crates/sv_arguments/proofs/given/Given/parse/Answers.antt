@@ -32,7 +32,7 @@ pub returns-clause-it : goal.returns-clause-it
 returns-clause-it c =
     let all =
     all_complete c.args.set (map string_bytes c.in-Some.words.now) (map string_bytes c.loop-word.rest.now) c.loop-word.invariant.0
-    (none_behind string_bytes c.loop-word.rest.now c.in_default-split_first.ensures.cases) c.lacks_target.result c.lacks_target.ensures c.if-lacks_target.false c.in_default-unfit_form.ensures in (
+    (none_behind string_bytes c.loop-word.rest.now c.in_default-split_first.ensures.cases) c.in_default-lone_option.ensures c.in_default-unfit_form.ensures in (
       refl,
       behind_is string_bytes c.args.arguments.now c.in-Some.config.now c.in-Some.words.now c.as_str-2.result.now c.in-Some.ensures.cases.0 c.as_str-2.ensures.value,
       all.0,
