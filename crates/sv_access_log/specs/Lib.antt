@@ -1,0 +1,5 @@
+pub mod Combined
+pub mod Dates
+pub mod Escaping
+pub mod Lines
+pub mod LineLaws
