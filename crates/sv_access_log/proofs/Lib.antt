@@ -1,3 +1,5 @@
 pub mod Parts
 pub mod DateLemmas
 pub mod CombinedLemmas
+pub mod EntryCounts
+pub mod Texts

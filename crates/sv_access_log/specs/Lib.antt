@@ -3,3 +3,5 @@ pub mod Dates
 pub mod Escaping
 pub mod Lines
 pub mod LineLaws
+pub mod Answered
+pub mod Writing
