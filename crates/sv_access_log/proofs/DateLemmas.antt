@@ -9,7 +9,7 @@ use Rattle.httpdate.specs.Text.{day_name, four_digits, month_name, time_of_day, 
 use Rattle.httpdate.specs.declared.date.HttpDate.{HttpDate}
 use Rattle.httpdate.specs.declared.parts.Parts.{Parts}
 use Rattle.sv_access_log.proofs.Parts.{IsPart, above_mark, join, literal, part_join}
-use Rattle.sv_access_log.specs.Dates.{log_date}
+use Rattle.sv_access_log.specs.Dates.{internet_date, log_date, month_number}
 
 -- ---- Names
 
@@ -74,6 +74,47 @@ log_date_is date =
     let (x, y, z, month) = three (month_name date.parts.mon) (month_is date.parts.mon date.civil.1).0 in
     ap₂ (λ d m. log_cut (text_with d m date.parts)) day month ∙ log_cut_is a b c x y z date.parts ∙ sym (ap (λ m. log_with m date.parts) month)
 
+-- ---- The date of the Internet
+
+abbrev pub internet_cut_with : List ℕ → ℕ → List ℕ
+internet_cut_with t month =
+    get_or t 12 0 ∷ get_or t 13 0 ∷ get_or t 14 0 ∷ get_or t 15 0 ∷ 45 ∷ (48 + month / 10) ∷ (48 + month % 10) ∷ 45 ∷ get_or t 5 0 ∷ get_or t 6 0 ∷ 84
+    ∷ get_or t 17 0 ∷ get_or t 18 0 ∷ 58 ∷ get_or t 20 0 ∷ get_or t 21 0 ∷ 58 ∷ get_or t 23 0 ∷ get_or t 24 0 ∷ 90 ∷ []
+
+abbrev pub internet_cut : List ℕ → List ℕ
+internet_cut t = internet_cut_with t (month_number (get_or t 9 0) (get_or t 10 0))
+
+-- The date of the Internet, with this number of its month.
+abbrev internet_with : ℕ → Parts → List ℕ
+internet_with month p =
+    four_digits p.year ++ codes "-" ++ two_digits month ++ codes "-" ++ two_digits p.day ++ codes "T" ++ time_of_day p ++ codes "Z"
+
+internet_cut_is : (a b c x y z : ℕ) (p : Parts) → internet_cut (text_with (a ∷ b ∷ c ∷ []) (x ∷ y ∷ z ∷ []) p) ≡ internet_with (month_number y z) p
+internet_cut_is a b c x y z p = refl
+
+number_is : (n : ℕ) → IsInRange 1 12 n → month_number (get_or (month_name n) 1 0) (get_or (month_name n) 2 0) ≡ n
+number_is (suc zero) h = refl
+number_is (suc (suc zero)) h = refl
+number_is (suc (suc (suc zero))) h = refl
+number_is (suc (suc (suc (suc zero)))) h = refl
+number_is (suc (suc (suc (suc (suc zero))))) h = refl
+number_is (suc (suc (suc (suc (suc (suc zero)))))) h = refl
+number_is (suc (suc (suc (suc (suc (suc (suc zero))))))) h = refl
+number_is (suc (suc (suc (suc (suc (suc (suc (suc zero)))))))) h = refl
+number_is (suc (suc (suc (suc (suc (suc (suc (suc (suc zero))))))))) h = refl
+number_is (suc (suc (suc (suc (suc (suc (suc (suc (suc (suc zero)))))))))) h = refl
+number_is (suc (suc (suc (suc (suc (suc (suc (suc (suc (suc (suc zero))))))))))) h = refl
+number_is (suc (suc (suc (suc (suc (suc (suc (suc (suc (suc (suc (suc zero)))))))))))) h = refl
+number_is zero h = absurd (omega (arith, h))
+number_is (suc (suc (suc (suc (suc (suc (suc (suc (suc (suc (suc (suc (suc k))))))))))))) h = absurd (omega (arith, h))
+
+pub internet_date_is : (date : HttpDate) → internet_cut (date_text date) ≡ internet_date date
+internet_date_is date =
+    let (a, b, c, day) = three (day_name date.parts.wday) (day_is date.parts.wday (weekday_range date)) in
+    let (x, y, z, month) = three (month_name date.parts.mon) (month_is date.parts.mon date.civil.1).0 in
+    let number = sym (ap (λ m. month_number (get_or m 1 0) (get_or m 2 0)) month) ∙ number_is date.parts.mon date.civil.1 in
+    ap₂ (λ d m. internet_cut (text_with d m date.parts)) day month ∙ internet_cut_is a b c x y z date.parts ∙ ap (λ n. internet_with n date.parts) number
+
 -- ---- Printable bytes
 
 two_part : (n : ℕ) → n < 100 → IsPart 0 (two_digits n)
@@ -110,3 +151,11 @@ log_date_part date =
     join (join (join (join (join (join (join (two_part date.parts.day (day_low date.parts.year date.parts.mon date.parts.day day.1)) (literal 47 refl refl))
     (month_is date.parts.mon mon).1) (literal 47 refl refl)) (four_part date.parts.year (omega (arith, year.1)))) (literal 58 refl refl)) (time_part date))
     (record { printable = refl; count = refl })
+
+pub internet_date_part : (date : HttpDate) → IsPart 0 (internet_date date)
+internet_date_part date =
+    let (year, mon, day) = date.civil in
+    let month = two_part date.parts.mon (omega (arith, mon.1)) in
+    let days = two_part date.parts.day (day_low date.parts.year date.parts.mon date.parts.day day.1) in
+    join (join (join (join (join (join (join (four_part date.parts.year (omega (arith, year.1))) (literal 45 refl refl)) month) (literal 45 refl refl)) days)
+    (literal 84 refl refl)) (time_part date)) (literal 90 refl refl)

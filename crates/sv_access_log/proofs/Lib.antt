@@ -3,3 +3,5 @@ pub mod DateLemmas
 pub mod CombinedLemmas
 pub mod EntryCounts
 pub mod Texts
+pub mod FloatLemmas
+pub mod JsonLemmas

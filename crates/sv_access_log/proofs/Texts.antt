@@ -7,7 +7,7 @@ use Rattle.sv_access_log.specs.Lines.{access_line}
 use Rattle.sv_access_log.specs.Writing.{written_text}
 use Rattle.sv_access_log.specs.declared.circumstances.Circumstances.{Circumstances}
 use Rattle.sv_access_log.specs.declared.circumstances.LogFormat.{LogFormat}
-use Rattle.sv_access_log.specs.declared.circumstances.LogFormat.TheVariants.{Combined}
+use Rattle.sv_access_log.specs.declared.circumstances.LogFormat.TheVariants.{Combined, Json}
 use Rattle.sv_access_log.specs.declared.event_lines.Scene.{Scene}
 use Rattle.sv_journal.specs.declared.entry.Entry.{Entry}
 use Rattle.sv_run.specs.declared.access.Access.{Access}
@@ -19,6 +19,7 @@ longer xs ys some = omega (arith, length-append xs ys, some)
 some_line : (format : LogFormat) (access : Access) (around : Circumstances) → 0 < length (access_line format access around)
 some_line Combined access around =
     let ((content, is, printable), marks) = combined_is_whole access around in subst (λ line. 0 < length line) (sym is) (longer content (codes "\n") (omega arith))
+some_line Json access around = longer _ (codes "\n") (omega arith)
 
 some_front : (xs ys : List ℕ) → 0 < length xs → 0 < length (xs ++ ys)
 some_front xs ys some = omega (arith, length-append xs ys, some)

@@ -5,3 +5,4 @@ pub mod Lines
 pub mod LineLaws
 pub mod Answered
 pub mod Writing
+pub mod Json

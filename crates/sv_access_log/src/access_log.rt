@@ -5,9 +5,11 @@ use crate::log_writer::{Client, LogWriter, LossAlarm};
 use crate::timing::{MicroClock, Timer};
 use std::alloc::Global;
 use std::net::IpAddr;
+use sv_connection::Queries;
 use sv_journal::{Entry, Journal};
 use sv_run::{EventHandler, Happening, Reaction, StepFault};
 use sv_streams::Sink;
+use sv_text::{Bytes, NoMemory};
 use sv_wire::Awaited;
 
 /// An event handler that passes its events to an inner handler, and writes a line for each message that they answer.
@@ -111,6 +113,38 @@ impl<R: AccessSource, O: Sink, A: LossAlarm, D: Addresses, C: MicroClock> EventH
 
     fn recycle(&self, bytes: Vec<u8>, journal: Journal) {
         self.within.recycle(bytes, journal);
+    }
+}
+
+impl<R: Queries, O, A, D, C> Queries for AccessLog<R, O, A, D, C> {
+    ghost explains = { λ log method target user. R.explains log.within method target user };
+
+    ghost uncovers = { λ log. R.uncovers log.within };
+
+    ghost constrains = { λ log. R.constrains log.within };
+
+    ghost stands = { λ log. R.stands log.within };
+
+    fn explain(
+        &self,
+        alloc: Global,
+        method: &str,
+        target: &[u8],
+        user: Option<&str>,
+    ) -> Result<Option<Bytes>, NoMemory> {
+        self.within.explain(alloc, method, target, user)
+    }
+
+    fn uncovered(&self, alloc: Global) -> Result<Option<Bytes>, NoMemory> {
+        self.within.uncovered(alloc)
+    }
+
+    fn constraints(&self, alloc: Global) -> Result<Option<Bytes>, NoMemory> {
+        self.within.constraints(alloc)
+    }
+
+    fn standing(&self, alloc: Global) -> Result<Option<Bytes>, NoMemory> {
+        self.within.standing(alloc)
     }
 }
 

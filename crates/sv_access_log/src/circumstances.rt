@@ -1,9 +1,10 @@
 //! The line of an access.
 
-ghost use Rattle.std.specs.Prelude.{◌≡◌, ◌++◌, OnOk, string_bytes};
+ghost use Rattle.std.specs.Prelude.{◌≡◌, ◌++◌, OnOk, option_copied, string_bytes};
 ghost use Rattle.sv_access_log.specs.Lines.{access_line};
 
 use crate::combined::push_combined;
+use crate::json_lines::push_json;
 use httpdate::HttpDate;
 use sv_run::Access;
 use sv_text::{NoMemory, Text};
@@ -13,6 +14,8 @@ use sv_text::{NoMemory, Text};
 pub enum LogFormat {
     /// The `combined` format of Apache httpd and nginx.
     Combined,
+    /// An object of JSON.
+    Json,
 }
 
 /// What a line shows alongside the access.
@@ -46,5 +49,16 @@ pub fn push_line(
 {
     match format {
         LogFormat::Combined => push_combined(text, access, around),
+        LogFormat::Json => push_json(text, access, around),
+    }
+}
+
+/// Borrows a text.
+pub(crate) fn borrowed(text: &Option<Text>) -> Option<&str>
+    ensures { option_copied result ≡ text.now }
+{
+    match text {
+        None => None,
+        Some(text) => Some(text.as_str()),
     }
 }

@@ -1,6 +1,6 @@
 //! Dates of a log.
 
-ghost use Rattle.std.specs.Prelude.{◌≡◌, true};
+ghost use Rattle.std.specs.Prelude.{◌≡◌, ◌≤◌, true};
 ghost use Rattle.std.specs.List.{list_all};
 ghost use Rattle.sv_access_log.specs.Dates as spec;
 ghost use Rattle.sv_access_log.specs.Escaping.{is_printable};
@@ -28,4 +28,38 @@ pub(crate) fn log_date(date: &HttpDate) -> [u8; 26]
         d, e, b'/', m, n, o, b'/', y, z, v, w, b':', h, i, b':', p, q, b':', s, t, b' ', b'+', b'0',
         b'0', b'0', b'0'
     ]
+}
+
+/// Returns a date as in `2026-12-01T03:13:03Z`.
+pub(crate) fn internet_date(date: &HttpDate) -> [u8; 20]
+    ensures value { result ≡ spec.internet_date date.now }
+    ensures printable { list_all is_printable result ≡ true }
+{
+    let [
+        _, _, _, _, _, d, e, _, _, n, o, _, y, z, v, w, _, h, i, _, p, q, _, s, t, _, _, _, _
+    ] = date.to_bytes();
+    let month = month_number(n, o);
+    [
+        y, z, v, w, b'-', b'0' + month / 10, b'0' + month % 10, b'-', d, e, b'T', h, i, b':', p, q,
+        b':', s, t, b'Z'
+    ]
+}
+
+// Returns the number of the month whose name has these second and third letters.
+fn month_number(second: u8, third: u8) -> u8
+    ensures value { result ≡ spec.month_number second third }
+    ensures within { result ≤ 12 }
+{
+    match third {
+        b'n' => if second == b'a' { 1 } else { 6 },
+        b'b' => 2,
+        b'r' => if second == b'a' { 3 } else { 4 },
+        b'y' => 5,
+        b'l' => 7,
+        b'g' => 8,
+        b'p' => 9,
+        b't' => 10,
+        b'v' => 11,
+        _ => 12,
+    }
 }

@@ -6,7 +6,7 @@ ghost use Rattle.sv_journal.specs.Entry.{entry_text};
 ghost use Rattle.sv_text.specs.Gives.{GivesAnswer};
 
 use crate::access_source::AccessSource;
-use crate::circumstances::{Circumstances, LogFormat, push_line};
+use crate::circumstances::{Circumstances, LogFormat, borrowed, push_line};
 use httpdate::HttpDate;
 use std::alloc::Global;
 use sv_journal::Entry;
@@ -98,15 +98,6 @@ fn copied(alloc: Global, text: Option<&str>) -> Result<Option<Text>, NoMemory>
     match text {
         None => Ok(None),
         Some(text) => Ok(Some(Text::copy_of(alloc, text)?)),
-    }
-}
-
-fn borrowed(text: &Option<Text>) -> Option<&str>
-    ensures { option_copied result ≡ text.now }
-{
-    match text {
-        None => None,
-        Some(text) => Some(text.as_str()),
     }
 }
 
