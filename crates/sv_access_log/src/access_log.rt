@@ -85,7 +85,8 @@ impl<R, O, A, D, C> AccessLog<R, O, A, D, C> {
     }
 }
 
-impl<R: AccessSource, O: Sink, A: LossAlarm, D: Addresses, C: MicroClock> EventHandler for AccessLog<R, O, A, D, C> {
+impl<R: AccessSource, O: Sink, A: LossAlarm, D: Addresses, C: MicroClock> EventHandler
+    for AccessLog<R, O, A, D, C> {
     ghost use Rattle.sv_access_log.specs.Writing.{Logs};
 
     ghost steps = { λ before happening result after.
@@ -96,6 +97,7 @@ impl<R: AccessSource, O: Sink, A: LossAlarm, D: Addresses, C: MicroClock> EventH
 
     fn step(&mut self, happening: Happening) -> Result<Reaction, StepFault> {
         let connection = connection_of(happening);
+        note_address(happening, &mut self.addresses);
         begin(happening, &mut self.timer, &self.within);
         self.writer.reach(happening);
         match self.within.step(happening) {
@@ -156,6 +158,16 @@ fn connection_of(happening: Happening) -> Option<u64> {
     }
 }
 
+// Notes the address of a connection that opens, and forgets that of one that ends.
+fn note_address<D: Addresses>(happening: Happening, addresses: &mut D) {
+    match happening {
+        Happening::Opened { connection } => addresses.open(connection),
+        Happening::Ended { connection } => addresses.close(connection),
+        Happening::Lost { connection } => addresses.close(connection),
+        _ => {}
+    }
+}
+
 // Begins the time of an event.
 fn begin<R: EventHandler, C: MicroClock>(happening: Happening, timer: &mut Timer<C>, within: &R) {
     match happening {
@@ -191,6 +203,12 @@ fn client_of<D: Addresses, C: MicroClock>(
 
 /// The addresses of connections. Contracts assume nothing about them.
 pub trait Addresses {
+    /// Notes the address of a connection that opens.
+    fn open(&mut self, connection: u64);
+
+    /// Forgets the address of a connection that ends.
+    fn close(&mut self, connection: u64);
+
     /// Returns the IP address of a connection's client, if it is known.
     fn address(&self, connection: u64) -> Option<IpAddr>;
 }

@@ -22,11 +22,39 @@ pub(crate) fn log_date(date: &HttpDate) -> [u8; 26]
     ensures printable { list_all is_printable result ≡ true }
 {
     let [
-        _, _, _, _, _, d, e, _, m, n, o, _, y, z, v, w, _, h, i, _, p, q, _, s, t, _, _, _, _
+        _,
+        _,
+        _,
+        _,
+        _,
+        d,
+        e,
+        _,
+        m,
+        n,
+        o,
+        _,
+        y,
+        z,
+        v,
+        w,
+        _,
+        h,
+        i,
+        _,
+        p,
+        q,
+        _,
+        s,
+        t,
+        _,
+        _,
+        _,
+        _,
     ] = date.to_bytes();
     [
-        d, e, b'/', m, n, o, b'/', y, z, v, w, b':', h, i, b':', p, q, b':', s, t, b' ', b'+', b'0',
-        b'0', b'0', b'0'
+        d, e, b'/', m, n, o, b'/', y, z, v, w, b':', h, i, b':', p, q, b':', s, t, b' ', b'+',
+        b'0', b'0', b'0', b'0',
     ]
 }
 
@@ -36,12 +64,58 @@ pub(crate) fn internet_date(date: &HttpDate) -> [u8; 20]
     ensures printable { list_all is_printable result ≡ true }
 {
     let [
-        _, _, _, _, _, d, e, _, _, n, o, _, y, z, v, w, _, h, i, _, p, q, _, s, t, _, _, _, _
+        _,
+        _,
+        _,
+        _,
+        _,
+        d,
+        e,
+        _,
+        _,
+        n,
+        o,
+        _,
+        y,
+        z,
+        v,
+        w,
+        _,
+        h,
+        i,
+        _,
+        p,
+        q,
+        _,
+        s,
+        t,
+        _,
+        _,
+        _,
+        _,
     ] = date.to_bytes();
     let month = month_number(n, o);
     [
-        y, z, v, w, b'-', b'0' + month / 10, b'0' + month % 10, b'-', d, e, b'T', h, i, b':', p, q,
-        b':', s, t, b'Z'
+        y,
+        z,
+        v,
+        w,
+        b'-',
+        b'0' + month / 10,
+        b'0' + month % 10,
+        b'-',
+        d,
+        e,
+        b'T',
+        h,
+        i,
+        b':',
+        p,
+        q,
+        b':',
+        s,
+        t,
+        b'Z',
     ]
 }
 

@@ -58,9 +58,7 @@ fn outcome_of<'a>(journal: &'a [Entry], accesses: &[Access]) -> Option<&'a Entry
 fn entries_before(entries: usize, accesses: &[Access]) -> usize
     ensures { result ≡ entries - spec.entries_of accesses.now }
 {
-    accesses
-        .iter()
-        .fold(entries, |left, access| left.saturating_sub(access.entries))
+    accesses.iter().fold(entries, |left, access| left.saturating_sub(access.entries))
 }
 
 fn entry_text_of(alloc: Global, entry: Option<&Entry>) -> Result<Option<Text>, NoMemory>

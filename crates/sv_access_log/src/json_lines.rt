@@ -40,11 +40,7 @@ fn line_text(alloc: Global, access: &Access, around: &Circumstances) -> Result<S
     Ok(text)
 }
 
-fn line_value(
-    alloc: Global,
-    access: &Access,
-    around: &Circumstances,
-) -> Result<Value, NoMemory>
+fn line_value(alloc: Global, access: &Access, around: &Circumstances) -> Result<Value, NoMemory>
     ensures { IfOk result (λ value. view value ≡ spec.line_value access.now around.now) }
 {
     let mut members = Map::new(alloc);

@@ -87,12 +87,7 @@ impl<O: Sink, A: LossAlarm> LogWriter<O, A> {
     }
 
     /// Writes the lines of the last event of a handler, with its journal.
-    pub(crate) fn write<R: AccessSource>(
-        &mut self,
-        source: &R,
-        journal: &[Entry],
-        client: Client,
-    )
+    pub(crate) fn write<R: AccessSource>(&mut self, source: &R, journal: &[Entry], client: Client)
         requires { 0 < length (R.answered source.now).accesses }
         ensures { WritesLines O.makes (R.answered source.now) journal.now self.old self.new }
     {
