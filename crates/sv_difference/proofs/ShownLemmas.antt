@@ -87,7 +87,7 @@ module _ (context : List ℕ) where
 
   pub within_is : (text rest : List ℕ) → text ≡ 47 ∷ rest → path_within context (context ++ text) ≡ text
   within_is text rest is =
-      cond-false _ _ _ (false_from_ne_true _ (λ same. absurd (omega (arith, ap length ((bytes_eq-Decides (context ++ text) context).0 same), length-append context text, ap length is))))
+      cond-false _ _ _ (false_from_ne_true (bytes_eq (context ++ text) context) (λ (same : bytes_eq (context ++ text) context ≡ true). absurd (omega (arith, ap length ((bytes_eq-Decides (context ++ text) context).0 same), length-append context text, ap length is))))
       ∙ drop_at context text (length context) refl
 
   -- A longer path at or above a path below the context path.

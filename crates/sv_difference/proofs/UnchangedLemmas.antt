@@ -2,7 +2,8 @@
 use Rattle.std.proofs.lemmas.Bool.{and_from, and_parts, cases_Bool, false_from_ne_true, false≢true, not-true, not_from_false, or_left}
 use Rattle.std.proofs.lemmas.List.Elements.{All-map}
 use Rattle.std.proofs.lemmas.Slice.Eq.{bytes_eq-Decides}
-use Rattle.std.proofs.Common.{◌≡◌, ℕ, Bool, true, false, not, ◌&&◌, List, [], ◌∷◌, ◌++◌, length, length-append, refl, ap, ap₂, sym, subst, ◌∙◌, arith, cond, codes, inl, inr, ltb-true, Option, None, Some, is_none, is_some, Ok}
+use Rattle.std.proofs.lemmas.Str.{IsUtf8-nil, is_utf8-from_IsUtf8}
+use Rattle.std.proofs.Common.{◌≡◌, ◌<◌, ℕ, Bool, true, false, not, ◌&&◌, List, [], ◌∷◌, ◌++◌, length, length-append, refl, ap, ap₂, sym, subst, ◌∙◌, arith, cond, codes, inl, inr, ltb-true, Option, None, Some, is_none, is_some, Ok}
 use Rattle.std.specs.Prelude.{◌≢◌, All, filter, nat_lt}
 use Rattle.std.specs.List.{list_any}
 use Rattle.std.specs.Option.{option_map, option_map_or}
@@ -59,7 +60,7 @@ module _ (logs_in : LoginTest) (contexts : List ComparedContext) (method path : 
 
 -- ---- A request for each context.
 root_given : canonical (codes "/") ≡ Ok (record { path = codes "/"; query = None })
-root_given = rw percent_decode-nil refl
+root_given = rw (percent_decode-nil, is_utf8-from_IsUtf8 [] IsUtf8-nil) refl
 
 record HasRequest (contexts : List (List ℕ)) (its_path : List ℕ) : Type 0 where
   target : List ℕ
