@@ -31,9 +31,13 @@ item_html context reported = joined (
 abbrev pub is_of_kind : List ℕ → ReportedFinding → Bool
 is_of_kind kind reported = bytes_eq (kind_name reported.finding) kind
 
+-- The items of those of these findings of a context that are of the kind.
+unfoldable pub kind_items : List ℕ → ContextReport → List ReportedFinding → List ℕ
+kind_items kind context findings = flat_map (item_html context) (filter (is_of_kind kind) findings)
+
 -- The items of the findings of one kind that the page lists, in the order of the contexts.
 abbrev pub items_of_kind : List ContextReport → List ℕ → List ℕ
-items_of_kind contexts kind = flat_map (λ share. flat_map (item_html share.0) (filter (is_of_kind kind) share.1)) (finding_shares contexts)
+items_of_kind contexts kind = flat_map (λ share. kind_items kind share.0 share.1) (finding_shares contexts)
 
 -- The names of all kinds of findings, the most dangerous kind first.
 abbrev pub ranked_kinds : List (List ℕ)

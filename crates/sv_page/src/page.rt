@@ -1,6 +1,6 @@
 //! The page of a report.
 
-ghost use Rattle.std.specs.Prelude.{◌≡◌, ◌++◌, OnOk, filter, string_bytes};
+ghost use Rattle.std.specs.Prelude.{◌≡◌, ◌++◌, OnOk, map, string_bytes};
 ghost use Rattle.std.specs.List.{flat_map};
 ghost use Rattle.sv_text.specs.Gives.{GivesAnswer};
 ghost use Rattle.sv_page.specs.HtmlTables as tables;
@@ -114,12 +114,35 @@ fn list_html(alloc: Global, items: &str) -> Result<Text, NoMemory>
 fn items_html(alloc: Global, contexts: &[ContextReport]) -> Result<Text, NoMemory>
     ensures { GivesAnswer result (spec.items_html contexts.now) }
 {
+    items_of_kinds(alloc, contexts, &RANKED_KINDS)
+}
+
+/// Returns the items of the findings of some kinds that the page lists, kind by kind.
+fn items_of_kinds(
+    alloc: Global,
+    contexts: &[ContextReport],
+    kinds: &[&str],
+) -> Result<Text, NoMemory>
+    ensures { GivesAnswer result (flat_map (spec.items_of_kind contexts.now) (map (λ kind. kind.now) kinds.now)) }
+{
     let mut text = String::new(alloc);
-    for kind in &RANKED_KINDS {
-        let items = items_of_kind(alloc, contexts, kind)?;
-        text.push_str(items.as_str())?;
+    for kind in kinds {
+        push_kind(&mut text, alloc, contexts, *kind)?;
     }
     Ok(Text::from_string(text))
+}
+
+/// Appends the items of the findings of one kind that the page lists.
+fn push_kind(
+    text: &mut String,
+    alloc: Global,
+    contexts: &[ContextReport],
+    kind: &str,
+) -> Result<(), NoMemory>
+    ensures { OnOk result (string_bytes text.new ≡ string_bytes text.old ++ spec.items_of_kind contexts.now kind.now) }
+{
+    let items = items_of_kind(alloc, contexts, kind)?;
+    Ok(text.push_str(items.as_str())?)
 }
 
 /// Returns the items of the findings of one kind that the page lists.
@@ -137,6 +160,7 @@ fn items_of_kind(alloc: Global, contexts: &[ContextReport], kind: &str) -> Resul
 }
 
 /// Appends the items of those of these findings of a context that are of the kind.
+#[tactic(auto, unfolding(crate::specs::Page::kind_items))]
 fn push_items(
     text: &mut String,
     alloc: Global,
@@ -144,7 +168,7 @@ fn push_items(
     findings: &[ReportedFinding],
     kind: &str,
 ) -> Result<(), NoMemory>
-    ensures { OnOk result (string_bytes text.new ≡ string_bytes text.old ++ flat_map (spec.item_html context.now) (filter (spec.is_of_kind kind.now) findings.now)) }
+    ensures { OnOk result (string_bytes text.new ≡ string_bytes text.old ++ spec.kind_items kind.now context.now findings.now) }
 {
     for finding in findings {
         if kind_name(&finding.finding) == kind {
