@@ -1,5 +1,5 @@
 -- Each difference is right, and none is missed.
-use Rattle.std.proofs.lemmas.Bool.{and_from, and_parts, false≢true, ne_eqb, not-true, not_from_false, or_left, or_right}
+use Rattle.std.proofs.lemmas.Bool.{and_from, and_parts, false≢true, ne_eqb, not-true, not_from_false, or_left}
 use Rattle.std.proofs.lemmas.List.Elements.{All-head, All-tail}
 use Rattle.std.proofs.lemmas.List.Folds.{list_any-append}
 use Rattle.std.proofs.lemmas.Slice.Eq.{bytes_eq-Decides}
@@ -13,7 +13,6 @@ use Rattle.sv_mapping.specs.Segments.{is_rooted}
 use Rattle.sv_mapping.proofs.Tried.{In, In-cases, In-left, In-right}
 use Rattle.sv_realm.specs.declared.caller.Caller.{Caller}
 use Rattle.sv_constraints.specs.Covering.{covers_method, lists}
-use Rattle.sv_constraints.specs.declared.cause.Cause.{Cause}
 use Rattle.sv_constraints.specs.declared.constraint.Methods.{Methods}
 use Rattle.sv_constraints.specs.declared.constraint.Methods.TheVariants.{Except, Only}
 use Rattle.sv_constraints.specs.declared.constraint.Methods.TheVariants as methods
@@ -37,8 +36,7 @@ use Rattle.sv_difference.specs.DifferenceLaws.{AreRooted, DifferencesAreComplete
 use Rattle.sv_difference.specs.Differences.{between, by_kind, difference_of, differences_at, groups_at, meet, meeting_of, meetings, met_after, met_before, of_kind, row_path, same_kind, same_rows, url_patterns}
 use Rattle.sv_audit.specs.Representatives.{file_path, long_name}
 use Rattle.sv_audit.proofs.VisitorLemmas.{Letting, fate_by, letting_at, letting_in_exact}
-use Rattle.sv_audit.specs.Visitors.{answered, decided_by, effective, known, lets_in}
-use Rattle.sv_audit.specs.declared.access.Access.{Access}
+use Rattle.sv_audit.specs.Visitors.{decided_by, known, lets_in}
 use Rattle.sv_difference.specs.declared.difference.Difference.{Difference}
 use Rattle.sv_audit.specs.declared.visitors.DifferenceKind.{DifferenceKind}
 use Rattle.sv_audit.specs.declared.visitors.DifferenceKind.TheVariants.{Changed, Closed, Opened}

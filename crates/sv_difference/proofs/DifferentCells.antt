@@ -1,17 +1,17 @@
 -- The groups of a path in the table of a configuration say what the verdicts are.
 use Rattle.std.proofs.lemmas.Bool.{and_parts, false≢true}
 use Rattle.std.proofs.lemmas.List.{map-append}
-use Rattle.std.proofs.lemmas.List.Elements.{All-cons, All-nil, filter-append}
+use Rattle.std.proofs.lemmas.List.Elements.{filter-append}
 use Rattle.std.proofs.lemmas.Slice.Eq.{bytes_eq-Decides}
 use Rattle.std.proofs.Common.{◌≡◌, ℕ, Bool, true, false, ◌&&◌, ◌||◌, List, [], ◌∷◌, ◌++◌, length, map, refl, ap, sym, ◌∙◌, append-nil, arith, cond, inl, inr, Option}
-use Rattle.std.specs.Prelude.{All, filter}
-use Rattle.std.specs.List.{flat_map, list_all, list_any}
+use Rattle.std.specs.Prelude.{filter}
+use Rattle.std.specs.List.{flat_map, list_all}
 use Rattle.std.specs.Option.{option_to_list}
 use Rattle.std.specs.Str.{bytes_eq}
 use Rattle.sv_mapping.specs.BestMatch.{best_pattern}
 use Rattle.sv_mapping.specs.Pattern.{is_pattern}
 use Rattle.sv_mapping.specs.Segments.{is_rooted}
-use Rattle.sv_mapping.proofs.Tried.{In, In-cases, In-map}
+use Rattle.sv_mapping.proofs.Tried.{In, In-map}
 use Rattle.sv_realm.specs.declared.caller.Caller.{Caller}
 use Rattle.sv_constraints.specs.Covering.{all_patterns, lists}
 use Rattle.sv_policy.proofs.Steps.{passing_lists}

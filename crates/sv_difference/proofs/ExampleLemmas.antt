@@ -1,12 +1,11 @@
 -- A request for the example of a reported difference has another outcome before than after.
 use Rattle.std.proofs.lemmas.List.Elements.{All-map}
-use Rattle.std.proofs.Common.{◌≡◌, ℕ, true, false, List, [], ◌∷◌, ◌++◌, refl, ap, ap₂, sym, ◌∙◌, inl, Option, None, Some}
+use Rattle.std.proofs.Common.{◌≡◌, ℕ, true, false, List, [], ◌∷◌, ◌++◌, refl, ap, ap₂, ◌∙◌, inl, Option, None, Some}
 use Rattle.std.specs.Prelude.{All}
 use Rattle.sv_mapping.specs.Segments.{is_rooted}
 use Rattle.sv_mapping.specs.Within.{path_within}
 use Rattle.sv_mapping.proofs.Tried.{In}
 use Rattle.sv_constraints.specs.Covering.{covers_method}
-use Rattle.sv_uri.specs.declared.path.Canon.{Canon}
 use Rattle.sv_audit.proofs.ExampleLemmas.{own}
 use Rattle.sv_audit.proofs.Members.{all_from, in_along}
 use Rattle.sv_audit.specs.Configurations.{best_of}

@@ -1,11 +1,10 @@
 -- If each request has the same outcome, nothing differs by the report.
-use Rattle.std.proofs.lemmas.Bool.{and_from, and_parts, cases_Bool, false_from_ne_true, false≢true, not-true, not_from_false, or_left}
+use Rattle.std.proofs.lemmas.Bool.{and_from, and_parts, false_from_ne_true, false≢true, not_from_false, or_left}
 use Rattle.std.proofs.lemmas.List.Elements.{All-map}
 use Rattle.std.proofs.lemmas.Slice.Eq.{bytes_eq-Decides}
 use Rattle.std.proofs.lemmas.Str.{IsUtf8-nil, is_utf8-from_IsUtf8}
-use Rattle.std.proofs.Common.{◌≡◌, ◌<◌, ℕ, Bool, true, false, not, ◌&&◌, List, [], ◌∷◌, ◌++◌, length, length-append, refl, ap, ap₂, sym, subst, ◌∙◌, arith, cond, codes, inl, inr, ltb-true, Option, None, Some, is_none, is_some, Ok}
-use Rattle.std.specs.Prelude.{◌≢◌, All, filter, nat_lt}
-use Rattle.std.specs.List.{list_any}
+use Rattle.std.proofs.Common.{◌≡◌, ◌<◌, ℕ, Bool, true, false, ◌&&◌, List, [], ◌∷◌, ◌++◌, length, length-append, refl, ap, sym, ◌∙◌, arith, cond, codes, inl, inr, ltb-true, Option, None, Some, is_none, is_some, Ok}
+use Rattle.std.specs.Prelude.{◌≢◌, filter, nat_lt}
 use Rattle.std.specs.Option.{option_map, option_map_or}
 use Rattle.percent_encoding.proofs.PercentLemmas.{percent_decode-nil}
 use Rattle.sv_mapping.specs.Chosen.{IsUnique, is_chosen}
@@ -19,15 +18,15 @@ use Rattle.sv_policy.proofs.Best.{found_in}
 use Rattle.sv_uri.specs.Canonical.{canonical}
 use Rattle.sv_uri.specs.declared.path.Canon.{Canon}
 use Rattle.sv_audit.proofs.Members.{all_from, found_any, kept_in}
-use Rattle.sv_audit.proofs.Represented.{in_listed, listed_in}
+use Rattle.sv_audit.proofs.Represented.{listed_in}
 use Rattle.sv_findings.specs.Reach.{chosen_path}
 use Rattle.sv_difference.proofs.ExampleLemmas.{none_at}
 use Rattle.sv_difference.proofs.ServerLemmas.{listed_at, logins_change}
 use Rattle.sv_difference.proofs.ShownLemmas.{chosen_of, under}
 use Rattle.sv_difference.specs.DifferenceLaws.{DifferencesAreRight}
 use Rattle.sv_difference.specs.ExampleLaws.{HaveContextPaths, IsContextPath, IsNamed, IsRoot, SameOutcomesAreUnchanged}
-use Rattle.sv_difference.specs.ServerDifference.{compared_paths, context_at, difference_at, paths_of, server_difference, shown_side}
-use Rattle.sv_difference.specs.ServerLaws.{HasFate, HaveSameOutcomes, HaveUrlPatterns, IsHidden, IsUnchanged, LoginTest, LogsIn, NoContext, Outcome, configuration_of, outcome, outcome_at, outcome_in}
+use Rattle.sv_difference.specs.ServerDifference.{compared_paths, context_at, difference_at, paths_of, shown_side}
+use Rattle.sv_difference.specs.ServerLaws.{HasFate, HaveSameOutcomes, HaveUrlPatterns, IsHidden, IsUnchanged, LoginTest, LogsIn, NoContext, Outcome, outcome, outcome_at, outcome_in}
 use Rattle.sv_difference.specs.declared.contexts.ComparedContext.{ComparedContext}
 
 -- ---- The context of an outcome.
