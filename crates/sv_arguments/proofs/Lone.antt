@@ -35,7 +35,7 @@ not_first_only true true fails holds missing = true≢false missing
 not_first_only false other fails holds missing = false≢true holds
 
 module _ (settings : List Setting) where
-  lone_test : Key → Key → Bool
+  abbrev pub lone_test : Key → Key → Bool
   lone_test key other = is_given settings key && not (is_given settings other)
 
   pub finds_lone : (key other : Key) → needed key ≡ Some other → lone_test key other ≡ true → Finds (IsLone settings) (Some (key, other))
