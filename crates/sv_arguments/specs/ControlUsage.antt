@@ -1,5 +1,5 @@
 -- The second line about the arguments of the command `ctl`.
-use Rattle.std.specs.Prelude.{ℕ, List, [], ◌∷◌, ◌++◌, codes, if◌then◌else◌, length, map, nat_lt, not, Option, Some, None}
+use Rattle.std.specs.Prelude.{ℕ, List, [], ◌∷◌, ◌++◌, codes, if◌then◌else◌, length, nat_lt, not, Option, Some, None}
 use Rattle.sv_arguments.specs.ControlArguments.{blank_argument, blank_rule, pattern_rule, wrong_pattern}
 use Rattle.sv_arguments.specs.ControlRequest.{are_on_one_line}
 use Rattle.sv_arguments.specs.ControlWord.{least, most, word_named, word_names, word_usage}
