@@ -7,7 +7,8 @@ use Rattle.std.specs.Str.{bytes_eq}
 use Rattle.std.proofs.lemmas.Slice.Eq.{bytes_eq-Decides}
 use Rattle.sv_audit.proofs.Filters.{filter_none, filter_twice}
 use Rattle.sv_audit.specs.Rows.{different_cells}
-use Rattle.sv_audit.specs.Same.{same_access, same_cell, same_number, same_texts}
+use Rattle.sv_audit.specs.Same.{same_access, same_cell, same_number}
+use Rattle.sv_policy.specs.Sameness.{same_texts}
 use Rattle.sv_audit.specs.declared.access.Access.{Access}
 use Rattle.sv_audit.specs.declared.access.Access.TheVariants.{Unconstrained, Uncovered, UncoveredDenied, Precluded, NeedsTls, Everyone, AnyLogin, Roles}
 use Rattle.sv_audit.specs.declared.access.Cell.{Cell}

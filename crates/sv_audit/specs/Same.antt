@@ -1,14 +1,9 @@
 -- Equality of the cells of an access table.
-use Rattle.std.specs.Prelude.{ℕ, Bool, true, false, ◌&&◌, ◌==◌, List, length, zip, Option, None, Some}
-use Rattle.std.specs.List.{list_all}
-use Rattle.std.specs.Str.{bytes_eq}
+use Rattle.std.specs.Prelude.{ℕ, Bool, true, false, ◌&&◌, ◌==◌, Option, None, Some}
 use Rattle.sv_audit.specs.declared.access.Access.{Access}
 use Rattle.sv_audit.specs.declared.access.Access.TheVariants.{Unconstrained, Uncovered, UncoveredDenied, Precluded, NeedsTls, Everyone, AnyLogin, Roles}
 use Rattle.sv_audit.specs.declared.access.Cell.{Cell}
-
--- Whether the texts are equal, in the same order.
-abbrev pub same_texts : List (List ℕ) → List (List ℕ) → Bool
-same_texts texts others = length texts == length others && list_all (λ pair. bytes_eq pair.0 pair.1) (zip texts others)
+use Rattle.sv_policy.specs.Sameness.{same_texts}
 
 -- Whether the numbers are equal, or there are none.
 abbrev pub same_number : Option ℕ → Option ℕ → Bool

@@ -1,10 +1,9 @@
 //! Who may make a request, and the constraint that decides it.
 
-ghost use Rattle.std.specs.Prelude.{◌≡◌, zip};
-ghost use Rattle.std.specs.List.{list_all};
-ghost use Rattle.std.specs.Str.{bytes_eq};
-ghost use Rattle.sv_audit.specs.Same.{same_access, same_cell, same_number, same_texts};
+ghost use Rattle.std.specs.Prelude.{◌≡◌};
+ghost use Rattle.sv_audit.specs.Same.{same_access, same_cell, same_number};
 
+use sv_policy::same_texts;
 use sv_text::{Listed, Text};
 
 /// Who may make a request, by the constraints that cover it (Jakarta Servlet 6.0, section 13.8).
@@ -36,23 +35,6 @@ pub struct Cell {
     /// The number of the constraint that decides the request of a caller who has just what the access asks for: a login
     /// for `AnyLogin`, the roles of `Roles`. None if no constraint covers the request.
     pub constraint: Option<u64>,
-}
-
-/// Returns whether the texts are equal, in the same order.
-fn same_texts(texts: &[Text], others: &[Text]) -> bool
-    ensures { result ≡ same_texts texts.now others.now }
-{
-    texts.len() == others.len() && are_equal_in_pairs(texts, others)
-}
-
-/// Returns whether the texts at the same places are equal.
-fn are_equal_in_pairs(texts: &[Text], others: &[Text]) -> bool
-    ensures { result ≡ list_all (λ pair. bytes_eq pair.0 pair.1) (zip texts.now others.now) }
-{
-    texts
-        .iter()
-        .zip(others)
-        .all(|(text, other)| text.as_str() == other.as_str())
 }
 
 /// Returns whether the numbers are equal, or there are none.

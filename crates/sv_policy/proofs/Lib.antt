@@ -20,3 +20,4 @@ pub mod Outcomes
 pub mod Grouping
 pub mod Alike
 pub mod Made
+pub mod Resumed

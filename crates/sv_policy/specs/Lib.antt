@@ -17,3 +17,5 @@ pub mod Groups
 pub mod Likeness
 pub mod Patterns
 pub mod Rebuilt
+pub mod Resuming
+pub mod Sameness

@@ -77,7 +77,7 @@ impl NewConstraint {
     }
 }
 
-fn copied_constraints(
+pub(crate) fn copied_constraints(
     alloc: Global,
     constraints: &[Constraint],
 ) -> Result<Vec<Constraint>, NoMemory>
@@ -156,7 +156,7 @@ fn copied_auth(alloc: Global, auth: &Auth) -> Result<Auth, NoMemory>
     }
 }
 
-fn copied_rules(alloc: Global, rules: &Rules) -> Result<Rules, NoMemory>
+pub(crate) fn copied_rules(alloc: Global, rules: &Rules) -> Result<Rules, NoMemory>
     ensures { GivesAnswer result rules.now }
 {
     Ok(Rules {

@@ -21,7 +21,9 @@ mod merged;
 mod patterns;
 mod policy;
 mod rebuild;
+mod resuming;
 mod role_numbers;
+mod sameness;
 mod shared_tables;
 mod table;
 mod tables;
@@ -42,4 +44,6 @@ pub use laws::{
 };
 pub use merged::names_everyone;
 pub use policy::{Decided, Policy};
+pub use resuming::EditedConstraints;
+pub use sameness::same_texts;
 pub use table::Table;

@@ -65,7 +65,7 @@ pub struct Decided<'a> {
 }
 
 /// Returns the greatest number of constraints, or 0 if there are none.
-fn greatest_number(constraints: &[Constraint]) -> u64
+pub(crate) fn greatest_number(constraints: &[Constraint]) -> u64
     ensures { result ≡ greatest_number constraints.now }
 {
     constraints

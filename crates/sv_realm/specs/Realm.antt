@@ -6,7 +6,7 @@ use Rattle.std.specs.Option.{option_map}
 use Rattle.std.specs.Str.{bytes_eq}
 use Rattle.sv_realm.specs.declared.caller.Caller.{Caller}
 use Rattle.sv_realm.specs.declared.account.User.{User}
-use Rattle.sv_realm.specs.User.{fits}
+use Rattle.sv_realm.specs.User.{fits, has_same_password}
 
 -- The caller for a user with this number.
 abbrev pub caller_of : ℕ × User → Caller
@@ -28,3 +28,14 @@ caller_checked users name password =
 -- The caller of the user at a position.
 abbrev pub caller_at : List User → ℕ → Option Caller
 caller_at users number = option_map (λ user. caller_of (number, user)) (slice_get users number)
+
+-- The number of the first user who has the name of an earlier realm's user, if salt and digest are the same.
+abbrev pub same_user : List User → User → Option ℕ
+same_user users before =
+    option_and_then (λ caller.
+    option_and_then (λ user. then_some (has_same_password user before) caller.number) (slice_get users caller.number))
+    (caller_named users before.name)
+
+-- The number of the user who is still the user of an earlier realm with that number.
+abbrev pub successor : List User → List User → ℕ → Option ℕ
+successor users earlier number = option_and_then (same_user users) (slice_get earlier number)

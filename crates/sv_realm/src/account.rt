@@ -4,9 +4,11 @@ ghost use Rattle.std.specs.List.{enumerate_from};
 ghost use Rattle.std.specs.Option.{option_copied};
 ghost use Rattle.std.specs.Prelude.{IfOk, find, map, vec_len, ◌≡◌, ◌≤◌};
 ghost use Rattle.std.specs.Str.{bytes_eq};
-ghost use Rattle.sv_realm.specs.Account.{account_of};
+ghost use Rattle.sv_realm.specs.Account.{account_of, user_of};
+ghost use Rattle.sv_realm.specs.User.{has_same_password};
 
 use crate::caller::Caller;
+use crate::password::same_bytes;
 use crate::realm::MAX_USERS;
 use std::alloc::Global;
 use sv_text::{Bytes, Listed, NoMemory, Text};
@@ -14,8 +16,11 @@ use sv_text::{Bytes, Listed, NoMemory, Text};
 /// A user of a realm: the caller that a login gives, and the salt and digest that the password is checked against.
 #[derive(Drop)]
 pub struct Account {
+    /// The caller that a login gives.
     pub caller: Caller,
+    /// The salt of the password.
     pub salt: Bytes,
+    /// The digest that the salt followed by the password has.
     pub digest: Bytes,
 }
 
@@ -39,6 +44,14 @@ impl Account {
             salt,
             digest,
         }
+    }
+
+    /// Returns whether the salt and the digest are those of another account.
+    pub fn has_same_password(&self, other: &Account) -> bool
+        ensures { result ≡ has_same_password (user_of self.now) (user_of other.now) }
+    {
+        same_bytes(self.salt.as_slice(), other.salt.as_slice())
+            && same_bytes(self.digest.as_slice(), other.digest.as_slice())
     }
 }
 

@@ -7,7 +7,7 @@ mod laws;
 mod password;
 mod realm;
 
-pub use account::User;
+pub use account::{Account, User};
 pub use caller::Caller;
 pub use laws::{
     a_checked_caller_is_the_named_one, a_digest_that_fits_is_whole, limits_are_as_stated,

@@ -36,7 +36,7 @@ fn digest_of(salt: &[u8], password: &[u8]) -> [u8; 32]
 
 /// Returns whether two byte strings are equal. Strings of the same length are always compared to their ends, so that
 /// the time taken does not show how much of a guess was right. No contract states this property of the code.
-fn same_bytes(left: &[u8], right: &[u8]) -> bool
+pub fn same_bytes(left: &[u8], right: &[u8]) -> bool
     ensures { result ≡ bytes_eq left.now right.now }
 {
     left.len() == right.len() && difference(left, right) == 0

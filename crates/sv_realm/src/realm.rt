@@ -1,8 +1,9 @@
 //! A realm: the users of a server, by name and by number.
 
-ghost use Rattle.std.specs.Option.{option_copied};
-ghost use Rattle.std.specs.Prelude.{vec_len, ◌≡◌, ◌≤◌};
-ghost use Rattle.sv_realm.specs.Realm.{caller_at, caller_checked, caller_named};
+ghost use Rattle.std.specs.Option.{option_copied, option_map};
+ghost use Rattle.std.specs.Prelude.{slice_get, vec_len, ◌≡◌, ◌≤◌};
+ghost use Rattle.sv_realm.specs.Account.{user_of};
+ghost use Rattle.sv_realm.specs.Realm.{caller_at, caller_checked, caller_named, successor};
 ghost use Rattle.sv_text.specs.Gives.{GivesAnswer};
 
 use crate::account::{Account, User, account_named, accounts_of};
@@ -76,6 +77,29 @@ impl Realm {
     {
         let account = self.accounts.get(number as usize)?;
         Some(&account.caller)
+    }
+
+    /// Returns the account of the user with this number, or `None` if the realm has no user at that position. Allocates
+    /// no memory.
+    pub fn account(&self, number: u32) -> Option<&Account>
+        ensures { option_map user_of (option_copied result) ≡ slice_get self.now number }
+    {
+        self.accounts.get(number as usize)
+    }
+
+    /// Returns the number of the user who is still the user of an earlier realm with that number: the first user of the
+    /// same name, if salt and digest have not changed. Roles may differ. Allocates no memory.
+    pub fn successor(&self, earlier: &Realm, number: u32) -> Option<u32>
+        ensures { result ≡ successor self.now earlier.now number }
+    {
+        let before = earlier.account(number)?;
+        let caller = self.find(before.caller.name.as_str())?;
+        let account = self.account(caller.number)?;
+        if account.has_same_password(before) {
+            Some(caller.number)
+        } else {
+            None
+        }
     }
 }
 

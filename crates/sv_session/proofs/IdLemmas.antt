@@ -29,7 +29,7 @@ are_bytes zero number i = omega arith
 are_bytes (suc count) number zero = is_byte count number
 are_bytes (suc count) number (suc i) = are_bytes count number i
 
-bytes_of_number : (number : ℕ) → IsBytes (to_be_bytes w64 number)
+pub bytes_of_number : (number : ℕ) → IsBytes (to_be_bytes w64 number)
 bytes_of_number number i = are_bytes 8 number i
 
 digits_tell : (a b : ℕ) → a < 2 ^ 64 → b < 2 ^ 64 → digits_of a ≡ digits_of b → a ≡ b
@@ -39,12 +39,12 @@ digits_tell a b small_a small_b same =
     let bytes : to_be_bytes w64 a ≡ to_be_bytes w64 b = cc in
     sym (from_be_bytes-to_be_bytes_8 a small_a) ∙ (ap (from_be_bytes w64) bytes ∙ from_be_bytes-to_be_bytes_8 b small_b)
 
-front_len : (words : ℕ × ℕ) → length (digits_of words.0 ++ digits_of words.1) ≡ 32
+pub front_len : (words : ℕ × ℕ) → length (digits_of words.0 ++ digits_of words.1) ≡ 32
 front_len words =
     length-append (digits_of words.0) (digits_of words.1)
     ∙ omega (arith, length-encode_with lower_digits (to_be_bytes w64 words.0), length-encode_with lower_digits (to_be_bytes w64 words.1))
 
-serial_of : (words : ℕ × ℕ) (serial : ℕ) → drop 32 (id_text words serial) ≡ digits_of serial
+pub serial_of : (words : ℕ × ℕ) (serial : ℕ) → drop 32 (id_text words serial) ≡ digits_of serial
 serial_of words serial =
     ap (λ n. drop n (id_text words serial)) (sym (front_len words)) ∙ drop-append_seam (digits_of words.0 ++ digits_of words.1) (digits_of serial)
 

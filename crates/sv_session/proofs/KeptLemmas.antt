@@ -30,7 +30,7 @@ rise_set low high (x ∷ xs) zero slot new is same rise =
     (omega (arith, equal, rise.0), subst (λ n. SlotsRise n high xs) (sym equal) rise.1)
 rise_set low high (x ∷ xs) (suc k) slot new is same rise = (rise.0, rise_set x.kept.number high xs k slot new is same rise.1)
 
-slots_below : (low mid high : ℕ) (slots : List Slot) → low ≤ mid → SlotsRise mid high slots → SlotsRise low high slots
+pub slots_below : (low mid high : ℕ) (slots : List Slot) → low ≤ mid → SlotsRise mid high slots → SlotsRise low high slots
 slots_below low mid high [] less rise = omega (arith, less, rise)
 slots_below low mid high (x ∷ xs) less rise = (omega (arith, less, rise.0), rise.1)
 
@@ -54,7 +54,7 @@ waits_same [] k slot is = refl
 waits_same (x ∷ xs) zero slot is = ap (λ s. due_of s ∷ map due_of xs) (sym is)
 waits_same (x ∷ xs) (suc k) slot is = ap (λ rest. due_of x ∷ rest) (waits_same xs k slot is)
 
-waits_more : (slots : List Slot) (new : Slot) → map due_of (slots ++ new ∷ []) ≡ map due_of slots ++ due_of new ∷ []
+pub waits_more : (slots : List Slot) (new : Slot) → map due_of (slots ++ new ∷ []) ≡ map due_of slots ++ due_of new ∷ []
 waits_more [] new = refl
 waits_more (x ∷ xs) new = ap (λ rest. due_of x ∷ rest) (waits_more xs new)
 
@@ -74,7 +74,7 @@ among_changed test f ids numbers (x ∷ xs) id = elim (cases_Bool (test x)) [
 ]
 
 -- If no session has an id, none has an equal one.
-none_found : (id other : List ℕ) (sessions : List Session) → NoneHas id sessions → bytes_eq id other ≡ true → number_among sessions other ≡ None
+pub none_found : (id other : List ℕ) (sessions : List Session) → NoneHas id sessions → bytes_eq id other ≡ true → number_among sessions other ≡ None
 none_found id other [] none same = refl
 none_found id other (x ∷ xs) none same =
     let equal : id ≡ other = (bytes_eq-Decides id other).0 same in
@@ -107,7 +107,7 @@ among_left bound number (x ∷ xs) session id differ found = elim (cases_Bool (i
       ]
 ]
 
-among_more : (new : Session) (sessions : List Session) (id : List ℕ) → NoneHas new.id sessions
+pub among_more : (new : Session) (sessions : List Session) (id : List ℕ) → NoneHas new.id sessions
     → cond (bytes_eq new.id id) (Some new.number) (number_among sessions id) ≡ number_among (sessions ++ new ∷ []) id
 among_more new [] id none = elim (cases_Bool (bytes_eq new.id id)) [
   | inl has ↦ rw has refl

@@ -1,6 +1,8 @@
 mod ExpiryOrderLemmas
 mod TreeLemmas
 mod AddLemmas
+mod AfterLemmas
+mod AppendLemmas
 mod AttributeLemmas
 mod CallerLemmas
 mod ExpiryLemmas
@@ -9,7 +11,9 @@ mod IdLemmas
 mod LiveIdLemmas
 mod MoveLemmas
 mod OrderLemmas
+mod RestoreLemmas
 mod RunLemmas
+mod SerialLemmas
 mod JudgeLemmas
 mod KeptLemmas
 mod SlotLemmas

@@ -36,7 +36,7 @@ none_has_left id test (x ∷ xs) none = elim (cases_Bool (test x)) [
   | inr fails ↦ rw fails (none.0, none_has_left id test xs none.1)
 ]
 
-none_has_more : (id : List ℕ) (sessions : List Session) (last : Session) → NoneHas id sessions → last.id ≢ id → NoneHas id (sessions ++ last ∷ [])
+pub none_has_more : (id : List ℕ) (sessions : List Session) (last : Session) → NoneHas id sessions → last.id ≢ id → NoneHas id (sessions ++ last ∷ [])
 none_has_more id [] last none other = (other, tt)
 none_has_more id (x ∷ xs) last none other = (none.0, none_has_more id xs last none.1 other)
 

@@ -9,6 +9,7 @@ pub mod Id
 pub mod Ids
 pub mod Laws
 pub mod Lists
+pub mod Restoring
 pub mod Runs
 pub mod Slots
 pub mod Store

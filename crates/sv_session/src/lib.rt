@@ -7,11 +7,13 @@ mod ended_sessions;
 mod event;
 mod expiry_queue;
 mod id;
+mod id_serial;
 mod ids;
 mod index;
 mod laws;
 mod limits;
 mod node;
+mod restore_fault;
 mod session_fault;
 mod sessions;
 mod slot;
@@ -28,6 +30,8 @@ pub use laws::{
     no_id_is_given_twice, no_serial_follows_the_greatest, sessions_stay_in_order,
 };
 pub use limits::{GREATEST_SERIAL, MAX_ATTRIBUTE_NAME_BYTES, MAX_ATTRIBUTES, MAX_VALUE_BYTES};
+pub use restore_fault::RestoreFault;
 pub use session_fault::SessionFault;
 pub use sessions::Sessions;
 pub use slot::Attribute;
+pub use stored_session::StoredSession;

@@ -1,17 +1,19 @@
 //! The sessions of a context.
 
-ghost use Rattle.std.specs.Prelude.{◌≡◌, ◌+◌, ◌<◌, ◌++◌, ◌∷◌, [], ℕ, MatchResult, None, OnErr, OnOk, Some, is_some, length, map, slice_get};
+ghost use Rattle.std.specs.Prelude.{◌≡◌, ◌↔◌, ◌+◌, ◌<◌, ◌≤◌, ◌++◌, ◌∷◌, [], ℕ, true, MatchOption, MatchResult, None, OnErr, OnOk, Some, is_some, length, map, slice_get};
 ghost use Rattle.std.specs.Option.{option_copied};
 
 use crate::due::Due;
 use crate::ended_sessions::{Counted, EndedSession, EndedSessions};
 use crate::expiry_queue::Queue;
 use crate::id::{ID_BYTES, id_of};
+use crate::id_serial::is_given;
 use crate::ids::Ids;
 use crate::limits::{GREATEST_SERIAL, MAX_ATTRIBUTE_NAME_BYTES, MAX_ATTRIBUTES, MAX_VALUE_BYTES};
+use crate::restore_fault::RestoreFault;
 use crate::session_fault::SessionFault;
-use crate::slot::{Attribute, Slot, first_living, gathered, place_of, push};
-use crate::stored_session::Kept;
+use crate::slot::{Attribute, Slot, close_gaps, first_living, living_after, place_of, push};
+use crate::stored_session::StoredSession;
 use std::alloc::Global;
 use std::marker::Model;
 use std::mem;
@@ -52,6 +54,7 @@ impl Sessions {
     ghost use Rattle.sv_session.specs.Calls as calls;
     ghost use Rattle.sv_session.specs.Id.{id_text};
     ghost use Rattle.sv_session.specs.Calls.{RefusesCall, ended};
+    ghost use Rattle.sv_session.specs.Restoring.{CanBeRestored, CanFollow, RefusesRestore, session_after, used_up_to, with_last};
     ghost use Rattle.sv_session.specs.Store.{IsOrderly, attributes_of, empty_store, is_numbered, number_of, numbered};
 
     /// Creates a store of at most `limit` live sessions. A session expires `interval` seconds after its last access, or
@@ -59,17 +62,47 @@ impl Sessions {
     pub fn new(alloc: Global, limit: usize, interval: u32) -> Sessions
         ensures { result ≡ record { store = empty_store limit interval; judged = 0 } }
     {
+        Sessions::without_sessions(alloc, limit, interval, 0)
+    }
+
+    /// Creates a store of no session, in which the serials up to `serial` have been used. Its limit and its interval are
+    /// 0 until [`set_limits`](Sessions::set_limits). Returns `None` if `serial` is above [`GREATEST_SERIAL`]. Takes no
+    /// memory.
+    pub fn used_up_to(alloc: Global, serial: u64) -> Option<Sessions>
+        ensures { MatchOption result (GREATEST_SERIAL < serial)
+            (λ sessions. (serial ≤ GREATEST_SERIAL) × (sessions ≡ record { store = used_up_to serial; judged = 0 })) }
+    {
+        if serial > GREATEST_SERIAL {
+            return None;
+        }
+        Some(Sessions::without_sessions(alloc, 0, 0, serial))
+    }
+
+    /// Creates a store of no session.
+    fn without_sessions(alloc: Global, limit: usize, interval: u32, serial: u64) -> Sessions
+        requires { serial ≤ GREATEST_SERIAL }
+        ensures { result ≡ record { store = record { limit = limit; interval = interval; serial = serial; sessions = [] }; judged = 0 } }
+    {
         Sessions {
             alloc,
             limit,
             interval,
-            serial: 0,
+            serial,
             count: 0,
             slots: Vec::new(alloc),
             ids: Ids::new(),
             queue: Queue::new(alloc),
             judged: 0,
         }
+    }
+
+    /// Sets the greatest number of live sessions, and the interval in seconds after which a session expires, or 0 for
+    /// never. Sessions above the limit stay.
+    pub fn set_limits(&mut self, limit: usize, interval: u32)
+        ensures { self.new ≡ record self.old { store = record self.old.store { limit = limit; interval = interval } } }
+    {
+        self.limit = limit;
+        self.interval = interval;
     }
 
     /// Opens a session at the time `now`, in seconds, with two random words for its id. Returns its number.
@@ -90,7 +123,7 @@ impl Sessions {
             return Err(SessionFault::NoMemory);
         };
         let serial = self.serial + 1;
-        let Ok(kept) = Kept::open(self.alloc, words, serial, now) else {
+        let Ok(kept) = StoredSession::open(self.alloc, words, serial, now) else {
             return Err(SessionFault::NoMemory);
         };
         let Ok(()) = self.add(kept) else {
@@ -143,6 +176,43 @@ impl Sessions {
     {
         let slot = first_living(self.slots.as_slice())?;
         Some(slot.kept.number())
+    }
+
+    /// Returns the live session with the lowest number above `number`. Takes a time that is logarithmic in the number of
+    /// sessions, if few of them have ended.
+    pub fn after(&self, number: u64) -> Option<&StoredSession>
+        ensures { option_copied result ≡ session_after number self.now.store }
+    {
+        let slot = living_after(self.slots.as_slice(), number)?;
+        Some(&slot.kept)
+    }
+
+    /// Returns the last serial that was used. The sessions can be restored in a store that has used it.
+    pub fn serial(&self) -> u64
+        ensures value { result ≡ self.now.store.serial }
+        ensures order { IsOrderly self.now.store }
+        ensures restorable { CanBeRestored self.now.store }
+    {
+        self.serial
+    }
+
+    /// Appends a session, with its number and its id. The serial stays, and the limit does not count.
+    ///
+    /// # Errors
+    /// [`RestoreFault::Unfit`] if the session cannot follow the others, or [`RestoreFault::NoMemory`]; nothing has
+    /// changed.
+    pub fn restore(&mut self, session: StoredSession) -> Result<(), RestoreFault>
+        ensures { MatchResult result
+            (λ _. CanFollow self.old.store session × (self.new ≡ record self.old { store = with_last session self.old.store }))
+            (λ fault. (self.new ≡ self.old) × RefusesRestore self.old.store session fault) }
+    {
+        if !self.can_follow(&session) {
+            return Err(RestoreFault::Unfit);
+        }
+        let Ok(()) = self.append(session) else {
+            return Err(RestoreFault::NoMemory);
+        };
+        Ok(())
     }
 
     /// Records an access to a session at the time `now`, in seconds. Returns `false` if no live session has the number.
@@ -394,7 +464,7 @@ impl Sessions {
     }
 
     /// Returns the live session of a number.
-    fn session(&self, number: u64) -> Option<&Kept>
+    fn session(&self, number: u64) -> Option<&StoredSession>
         ensures { option_copied result ≡ numbered number self.now.store }
     {
         let place = place_of(self.slots.as_slice(), number)?;
@@ -402,7 +472,7 @@ impl Sessions {
     }
 
     /// Appends a session that has the next serial.
-    fn add(&mut self, kept: Kept) -> Result<(), NoMemory>
+    fn add(&mut self, kept: StoredSession) -> Result<(), NoMemory>
         requires opened { (words : ℕ × ℕ) × (now : ℕ) × (kept ≡ calls.session_opened words (self.old.store.serial + 1) now) }
         requires fits { calls.opening_faults self.old.store ≡ [] }
         ensures added { OnOk result (self.new ≡ record self.old {
@@ -424,6 +494,49 @@ impl Sessions {
         Ok(())
     }
 
+    /// Returns whether a session can follow those of the store.
+    fn can_follow(&self, session: &StoredSession) -> bool
+        ensures { result ≡ true ↔ CanFollow self.now.store session.now }
+    {
+        let Some(below) = session.number().checked_sub(1) else {
+            return false;
+        };
+        if self.after(below).is_some() {
+            return false;
+        }
+        if self.find(session.id().as_bytes()).is_some() {
+            return false;
+        }
+        session.number() <= self.serial && is_given(session.id(), self.serial)
+    }
+
+    /// Appends a session that can follow the others.
+    fn append(&mut self, session: StoredSession) -> Result<(), NoMemory>
+        requires { CanFollow self.old.store session }
+        ensures added { OnOk result (self.new ≡ record self.old { store = with_last session self.old.store }) }
+        ensures refused { OnErr result (self.new ≡ self.old) }
+    {
+        // An empty slot may have a greater number than the session.
+        close_gaps(self.alloc, self.count, &mut self.slots, &mut self.queue)?;
+        let Ok(()) = self.slots.reserve(1) else {
+            return Err(NoMemory);
+        };
+        let Ok(()) = self.ids.enter(self.alloc, session.id(), session.number()) else {
+            return Err(NoMemory);
+        };
+        let Ok(()) = self.queue.push(session.due()) else {
+            self.ids.remove(session.id());
+            return Err(NoMemory);
+        };
+        let slot = Slot {
+            live: true,
+            kept: session,
+        };
+        push(&mut self.slots, slot);
+        self.count = self.slots.len();
+        Ok(())
+    }
+
     /// Removes the slots of ended sessions if they outnumber the live sessions by at least 32.
     fn gather(&mut self) -> Result<(), NoMemory>
         ensures { self.new ≡ self.old }
@@ -431,9 +544,7 @@ impl Sessions {
         if self.slots.len() / 2 < self.count.saturating_add(16) {
             return Ok(());
         }
-        let queue = gathered(self.alloc, self.slots.as_slice())?;
-        self.slots.retain(|slot| slot.live);
-        self.queue = queue;
+        close_gaps(self.alloc, self.count, &mut self.slots, &mut self.queue)?;
         Ok(())
     }
 }

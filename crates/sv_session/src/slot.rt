@@ -1,15 +1,16 @@
 //! The slot of a session.
 
-ghost use Rattle.std.specs.Option.{option_copied};
-ghost use Rattle.std.specs.Prelude.{IfOk, IfSome, MatchOption, None, [], false, filter, find, length, map, vec_capacity, vec_len, ℕ, ◌++◌, ◌<◌, ◌∷◌, ◌≡◌};
+ghost use Rattle.std.specs.Option.{option_copied, option_map};
+ghost use Rattle.std.specs.Prelude.{IfOk, IfSome, MatchOption, None, OnErr, OnOk, [], false, filter, find, length, map, nat_lt, vec_capacity, vec_len, ℕ, ◌++◌, ◌<◌, ◌≤◌, ◌∷◌, ◌≡◌};
 ghost use Rattle.sv_session.specs.Calls.{ended};
 ghost use Rattle.sv_session.specs.Slots.{IsFirstFrom, IsPlace, SlotsRise, due_of, living};
 ghost use Rattle.sv_session.specs.Store.{is_numbered};
+ghost use Rattle.sv_session.specs.declared.limits.TheConstants.{GREATEST_SERIAL};
 
 use crate::due::Due;
 use crate::ended_sessions::EndedSession;
 use crate::expiry_queue::Queue;
-use crate::stored_session::Kept;
+use crate::stored_session::StoredSession;
 use std::alloc::Global;
 use sv_text::{NoMemory, Text};
 
@@ -17,7 +18,7 @@ use sv_text::{NoMemory, Text};
 #[derive(Drop)]
 pub(crate) struct Slot {
     pub(crate) live: bool,
-    pub(crate) kept: Kept,
+    pub(crate) kept: StoredSession,
 }
 
 impl Slot {
@@ -53,7 +54,8 @@ pub(crate) fn place_of(slots: &[Slot], number: u64) -> Option<usize>
 
 /// Returns the first index whose slot has this number or a greater one, or the length.
 fn first_from(slots: &[Slot], number: u64) -> usize
-    ensures { (high : ℕ) → SlotsRise 0 high slots.now → IsFirstFrom number slots.now result }
+    ensures bound { result ≤ length slots.now }
+    ensures first { (high : ℕ) → SlotsRise 0 high slots.now → IsFirstFrom number slots.now result }
 {
     let mut low = 0;
     let mut high = slots.len();
@@ -67,6 +69,16 @@ fn first_from(slots: &[Slot], number: u64) -> usize
         }
     }
     low
+}
+
+/// Returns the first slot of a live session with a greater number.
+pub(crate) fn living_after(slots: &[Slot], number: u64) -> Option<&Slot>
+    ensures { (high : ℕ) → high ≤ GREATEST_SERIAL → SlotsRise 0 high slots.now
+        → option_map (λ slot. slot.kept) (option_copied result) ≡ find (λ session. nat_lt number session.number) (living slots.now) }
+{
+    let next = number.checked_add(1)?;
+    let place = first_from(slots, next);
+    first_living(&slots[place..])
 }
 
 /// Returns the first slot of a live session.
@@ -85,8 +97,31 @@ pub(crate) fn push(slots: &mut Vec<Slot>, slot: Slot)
     let _room = slots.push(slot);
 }
 
+/// Removes the slots of ended sessions, and their entries in the queue. `count` is the number of live sessions. If memory
+/// runs out, nothing changes.
+pub(crate) fn close_gaps(
+    alloc: Global,
+    count: usize,
+    slots: &mut Vec<Slot>,
+    queue: &mut Queue,
+) -> Result<(), NoMemory>
+    requires counted { count ≡ length (living slots.old.items) }
+    requires wait { queue.old ≡ map due_of slots.old.items }
+    ensures slots { OnOk result (slots.new.items ≡ filter (λ slot. slot.live) slots.old.items) }
+    ensures queue { OnOk result (queue.new ≡ map due_of (filter (λ slot. slot.live) slots.old.items)) }
+    ensures refused { OnErr result ((slots.new ≡ slots.old) × (queue.new ≡ queue.old)) }
+{
+    if slots.len() == count {
+        return Ok(());
+    }
+    let closed = gathered(alloc, slots.as_slice())?;
+    slots.retain(|slot| slot.live);
+    *queue = closed;
+    Ok(())
+}
+
 /// Builds the queue of the live sessions, at the indices that they have once the empty slots are removed.
-pub(crate) fn gathered(alloc: Global, slots: &[Slot]) -> Result<Queue, NoMemory>
+fn gathered(alloc: Global, slots: &[Slot]) -> Result<Queue, NoMemory>
     ensures { IfOk result (λ queue. queue ≡ map due_of (filter (λ slot. slot.live) slots.now)) }
 {
     let mut queue = Queue::new(alloc);

@@ -15,18 +15,24 @@ use std::marker::Model;
 use std::mem;
 use sv_text::{Listed, NoMemory, Text};
 
-/// A session as stored.
+/// A session as stored. Contracts see a `Session`.
 #[derive(Drop)]
-pub struct Kept {
+pub struct StoredSession {
+    /// The serial that the session was opened with.
     pub number: u64,
+    /// The id that clients send, which is 48 hexadecimal digits.
     pub id: Text,
+    /// The time of the last access, in seconds.
     pub last_access: u64,
+    /// The number of the caller in the realm, if any.
     pub caller: Option<u32>,
+    /// The target of the request that a login interrupted, if any.
     pub saved: Option<Text>,
+    /// The attributes, in the order in which they were first set.
     pub attributes: Vec<Attribute>,
 }
 
-impl Model for Kept {
+impl Model for StoredSession {
     ghost use Rattle.sv_session.specs.Store.{Session};
 
     ghost Value = { Session };
@@ -41,12 +47,17 @@ impl Model for Kept {
     } };
 }
 
-impl Kept {
+impl StoredSession {
     /// Opens a session at the time `now`, in seconds, with the serial as its number.
-    pub fn open(alloc: Global, words: (u64, u64), serial: u64, now: u64) -> Result<Kept, NoMemory>
+    pub(crate) fn open(
+        alloc: Global,
+        words: (u64, u64),
+        serial: u64,
+        now: u64,
+    ) -> Result<StoredSession, NoMemory>
         ensures { IfOk result (λ kept. kept ≡ session_opened words serial now) }
     {
-        Ok(Kept {
+        Ok(StoredSession {
             number: serial,
             id: id_of(alloc, words, serial)?,
             last_access: now,
@@ -57,28 +68,28 @@ impl Kept {
     }
 
     /// Returns the session's number.
-    pub fn number(&self) -> u64
+    pub(crate) fn number(&self) -> u64
         ensures { result ≡ self.now.number }
     {
         self.number
     }
 
     /// Returns the session's id.
-    pub fn id(&self) -> &str
+    pub(crate) fn id(&self) -> &str
         ensures { result.now ≡ self.now.id }
     {
         self.id.as_str()
     }
 
     /// Gives the session another id.
-    pub fn rename(&mut self, id: Text)
+    pub(crate) fn rename(&mut self, id: Text)
         ensures { self.new ≡ record self.old { id = id } }
     {
         self.id = id;
     }
 
     /// Returns the record that the expiry queue keeps for the session.
-    pub fn due(&self) -> Due
+    pub(crate) fn due(&self) -> Due
         ensures { result ≡ record { last_access = self.now.last_access; number = self.now.number } }
     {
         Due {
@@ -88,35 +99,35 @@ impl Kept {
     }
 
     /// Records an access at the time `now`, in seconds.
-    pub fn touch(&mut self, now: u64)
+    pub(crate) fn touch(&mut self, now: u64)
         ensures { self.new ≡ record self.old { last_access = now } }
     {
         self.last_access = now;
     }
 
     /// Returns the number of the session's caller in the realm, if any.
-    pub fn caller(&self) -> Option<u32>
+    pub(crate) fn caller(&self) -> Option<u32>
         ensures { result ≡ self.now.caller }
     {
         self.caller
     }
 
     /// Sets the session's caller, or clears it.
-    pub fn enter_caller(&mut self, caller: Option<u32>)
+    pub(crate) fn enter_caller(&mut self, caller: Option<u32>)
         ensures { self.new ≡ record self.old { caller = caller } }
     {
         self.caller = caller;
     }
 
     /// Saves the target of the request that a login interrupted.
-    pub fn save(&mut self, target: Text)
+    pub(crate) fn save(&mut self, target: Text)
         ensures { self.new ≡ record self.old { saved = Some target } }
     {
         self.saved = Some(target);
     }
 
     /// Removes the saved target and returns it.
-    pub fn take_saved(&mut self) -> Option<Text>
+    pub(crate) fn take_saved(&mut self) -> Option<Text>
         ensures taken { result ≡ self.old.saved }
         ensures left { self.new ≡ record self.old { saved = None } }
     {
@@ -125,7 +136,7 @@ impl Kept {
 
     /// Returns whether the name or the value is too long, or the session has the maximum number of attributes but none
     /// of this name.
-    pub fn is_too_large(&self, name: &str, value: &str) -> bool
+    pub(crate) fn is_too_large(&self, name: &str, value: &str) -> bool
         ensures { result ≡ is_too_large name.now value.now self.now.attributes }
     {
         name.len() > MAX_ATTRIBUTE_NAME_BYTES
@@ -143,7 +154,7 @@ impl Kept {
     }
 
     /// Returns the value of the attribute of this name.
-    pub fn value(&self, name: &str) -> Option<&str>
+    pub(crate) fn value(&self, name: &str) -> Option<&str>
         ensures { option_copied result ≡ value_named name.now self.now.attributes }
     {
         let attribute = self
@@ -154,7 +165,7 @@ impl Kept {
     }
 
     /// Sets the attribute of this name and returns its previous value. If memory runs out, nothing changes.
-    pub fn set_value(
+    pub(crate) fn set_value(
         &mut self,
         alloc: Global,
         name: &str,
@@ -176,7 +187,7 @@ impl Kept {
     }
 
     /// Removes the attribute of this name and returns its value.
-    pub fn remove_value(&mut self, name: &str) -> Option<Text>
+    pub(crate) fn remove_value(&mut self, name: &str) -> Option<Text>
         ensures value { result ≡ value_named name.now self.old.attributes }
         ensures left { self.new ≡ record self.old { attributes = without_named name.now self.old.attributes } }
     {
@@ -186,7 +197,7 @@ impl Kept {
     }
 
     /// Ends the session and returns it for its listeners. Its id, saved target and attributes are removed.
-    pub fn end(&mut self, alloc: Global) -> EndedSession
+    pub(crate) fn end(&mut self, alloc: Global) -> EndedSession
         ensures told { result ≡ ended self.old }
         ensures left { self.new ≡ record self.old { id = []; saved = None; attributes = [] } }
     {

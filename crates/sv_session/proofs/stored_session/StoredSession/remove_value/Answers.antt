@@ -2,7 +2,7 @@ use Rattle.std.proofs.Common.{◌∙◌, ap}
 use Rattle.sv_session.specs.Attributes.{without_named}
 use Rattle.sv_session.specs.Store.{Session}
 use Rattle.sv_session.proofs.AttributeLemmas.{not_valued, nothing_taken, taken_at, valued_at}
-use Rattle.sv_session.proofs.stored_session.Kept.remove_value.Goals as goal
+use Rattle.sv_session.proofs.stored_session.StoredSession.remove_value.Goals as goal
 
 pub returns-in_err-place-clause-value : goal.returns-in_err-place-clause-value
 returns-in_err-place-clause-value c =

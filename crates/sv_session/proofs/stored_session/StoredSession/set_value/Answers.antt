@@ -3,7 +3,7 @@ use Rattle.sv_session.specs.declared.slot.Attribute.{Attribute}
 use Rattle.sv_session.specs.Attributes.{with_named}
 use Rattle.sv_session.specs.Store.{Session}
 use Rattle.sv_session.proofs.AttributeLemmas.{not_valued, one_more, set_at, valued_at}
-use Rattle.sv_session.proofs.stored_session.Kept.set_value.Goals as goal
+use Rattle.sv_session.proofs.stored_session.StoredSession.set_value.Goals as goal
 
 pub returns-in-Some-clause-value : goal.returns-in-Some-clause-value
 returns-in-Some-clause-value c =
