@@ -4,3 +4,4 @@ mod Mapping
 mod Moving
 mod Quiet
 mod Repeating
+mod Resumed

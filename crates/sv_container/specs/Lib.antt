@@ -1,8 +1,10 @@
 pub mod Container
 pub mod Explaining
 pub mod Paths
+pub mod Resuming
 pub mod Running
 pub mod Script
 pub mod SeededStart
 pub mod Starting
 pub mod Stopping
+pub mod Suspending

@@ -47,7 +47,7 @@ impl<S: Servlet, F: Filter, L: Listener, W: Drop> Container<S, F, L, W> {
 }
 
 // Allocates the memory for the contexts of deployments, and builds the index of their paths.
-fn prepare<S: Servlet, F: Filter, L: Listener>(
+pub(crate) fn prepare<S: Servlet, F: Filter, L: Listener>(
     alloc: Global,
     deployments: &[Deployment<S, F, L>],
 ) -> Result<(Room<S, F, L>, ContextIndex), NoMemory>
@@ -107,7 +107,7 @@ fn container_of<S, F, L, W>(
 }
 
 // Returns the fault of a container whose contexts did not start.
-fn fault_of<S, F, L>(alloc: Global, fault: DeployAllFault<S, F, L>) -> NewFault<S, F, L>
+pub(crate) fn fault_of<S, F, L>(alloc: Global, fault: DeployAllFault<S, F, L>) -> NewFault<S, F, L>
     ensures code { result.code ≡ NewCode.Start fault.code }
     ensures context { result.context ≡ named_path fault.code fault.context }
     ensures deployments { result.deployments.items ≡ fault.deployments.items }

@@ -10,10 +10,12 @@ mod explanation;
 mod laws;
 mod new_fault;
 mod refusal;
+mod resumption;
 mod running;
 mod script;
 mod seeded_start;
 mod shutdown;
+mod suspension;
 
 pub use container::{Container, MAX_CONTEXTS};
 pub use laws::{
@@ -22,7 +24,8 @@ pub use laws::{
 pub use new_fault::NewFault;
 pub use running::Running;
 pub use script::run_script;
-pub use seeded_start::start;
+pub use seeded_start::{start, start_resumed};
+pub use suspension::{Suspended, Suspension};
 pub use sv_context::{Shutdown, let_go};
 pub use sv_journal::NewCode;
 pub use sv_policy::{ExplainFault, Explanation, HiddenCause};

@@ -5,10 +5,11 @@ ghost use Rattle.std.specs.Prelude.{◌≡◌, length};
 ghost use Rattle.sv_container.specs.SeededStart as spec;
 
 use crate::container::Container;
+use crate::suspension::Suspension;
 use std::alloc::Global;
 use sv_component::{Filter, Listener, Servlet};
 use sv_journal::{Journal, NewCode, StartCode};
-use sv_lifecycle::Deployment;
+use sv_lifecycle::{Deployment, SuspendedContext};
 use sv_program::CommandFault;
 use sv_run::SeededWords;
 use sv_text::Text;
@@ -35,6 +36,38 @@ pub fn start<S: Servlet, F: Filter, L: Listener>(
     journal.let_go();
     match started {
         Ok(container) => Ok(container),
+        Err(fault) => {
+            let (code, context) = fault.into_cause();
+            Err(start_fault(code, context))
+        }
+    }
+}
+
+/// Starts a container as [`start`] does, and resumes it with what remains of an earlier one. Returns it with the suspended
+/// contexts of which no context took anything.
+///
+/// # Errors
+/// Those of [`start`]. The suspension is dropped.
+pub fn start_resumed<S: Servlet, F: Filter, L: Listener>(
+    alloc: Global,
+    deployments: Vec<Deployment<S, F, L>>,
+    seed: &[u8],
+    suspension: Suspension,
+) -> Result<(Container<S, F, L, SeededWords>, Vec<SuspendedContext>), CommandFault>
+    requires { length seed.now ≡ 32 }
+    ensures { spec.ResumesWith (steps_of S.servlet_step F.filter_step L.listener_step) deployments.items seed.now suspension result }
+{
+    let mut journal = Journal::new(alloc);
+    let started = Container::resume(
+        alloc,
+        deployments,
+        suspension,
+        SeededWords::from_seed(seed),
+        &mut journal,
+    );
+    journal.let_go();
+    match started {
+        Ok(resumed) => Ok(resumed),
         Err(fault) => {
             let (code, context) = fault.into_cause();
             Err(start_fault(code, context))

@@ -65,7 +65,7 @@ components_stay content live live_after components stands = record {
 }
 
 -- The notifications of one more session.
-told_more : (ended : List EndedSession) (session : EndedSession) (count : ℕ)
+pub told_more : (ended : List EndedSession) (session : EndedSession) (count : ℕ)
     → ends_told (ended ++ session ∷ []) count ≡ ends_told ended count ++ all_told (end_events session) count
 told_more [] session count = append-nil (all_told (end_events session) count)
 told_more (first ∷ others) session count =

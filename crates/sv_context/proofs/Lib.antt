@@ -2,9 +2,12 @@ pub mod Conducts
 pub mod Deployments
 pub mod Editings
 pub mod Expiries
+pub mod Going
 pub mod Handlings
 pub mod Journals
 pub mod Responses
+pub mod Resumptions
 pub mod Retirings
 pub mod Statuses
 pub mod Succession
+pub mod Suspensions

@@ -8,9 +8,11 @@ pub mod Handled
 pub mod Laws
 pub mod Motion
 pub mod Responding
+pub mod Resuming
 pub mod Retirement
 pub mod Retiring
 pub mod Room
 pub mod Several
 pub mod State
+pub mod Suspending
 pub mod Theory

@@ -12,6 +12,8 @@ module _ {S F L : Type 0} where
     pub back_room : count ≤ vec_capacity room.back
     pub parts : room.parts.items ≡ []
     pub parts_room : count ≤ vec_capacity room.parts
+    pub remains : room.remains.items ≡ []
+    pub remains_room : count ≤ vec_capacity room.remains
 
   -- Capacity for the contexts of the deployments, and a copy of each context path.
   pub record IsReady (deployments : List (Deployment S F L)) (room : Room S F L) : Type 0 where

@@ -151,9 +151,20 @@ fn without_tables<S: Servlet, F: Filter, L: Listener>(
 pub(crate) fn no_sessions(alloc: Global, descriptor: &Descriptor) -> Sessions
     ensures { result ≡ record { store = no_sessions descriptor.now; judged = 0 } }
 {
+    let (limit, interval) = session_limits(descriptor);
+    Sessions::new(alloc, limit, interval)
+}
+
+// Returns the greatest number of sessions of a context of the descriptor, and their timeout in seconds.
+pub(crate) fn session_limits(descriptor: &Descriptor) -> (usize, u32)
+    ensures limit { result.0 ≡ (no_sessions descriptor.now).limit }
+    ensures interval { result.1 ≡ (no_sessions descriptor.now).interval }
+{
     let app = descriptor.web_app();
-    let limit = app.version.max_sessions();
-    Sessions::new(alloc, limit, app.session.timeout * SECONDS_OF_MINUTE)
+    (
+        app.version.max_sessions(),
+        app.session.timeout * SECONDS_OF_MINUTE,
+    )
 }
 
 /// The seconds of a minute. A descriptor gives the session timeout in minutes.

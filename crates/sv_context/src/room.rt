@@ -7,7 +7,7 @@ ghost use Rattle.sv_context.specs.Several.{paths_of};
 use crate::context::Context;
 use std::alloc::Global;
 use sv_component::{Filter, Listener, Servlet};
-use sv_lifecycle::Deployment;
+use sv_lifecycle::{Deployment, SuspendedContext};
 use sv_live::Parts;
 use sv_text::{NoMemory, Text};
 
@@ -25,6 +25,7 @@ pub struct Room<S, F, L> {
 pub struct StopRoom<S, F, L> {
     pub(crate) back: Vec<Deployment<S, F, L>>,
     pub(crate) parts: Vec<Parts<S, F, L>>,
+    pub(crate) remains: Vec<SuspendedContext>,
 }
 
 impl<S: Servlet, F: Filter, L: Listener> Room<S, F, L> {
@@ -45,6 +46,7 @@ impl<S: Servlet, F: Filter, L: Listener> Room<S, F, L> {
             stop: StopRoom {
                 back: Vec::with_capacity(alloc, count)?,
                 parts: Vec::with_capacity(alloc, count)?,
+                remains: Vec::with_capacity(alloc, count)?,
             },
         })
     }

@@ -142,6 +142,7 @@ pub fn undeploy_all<S: Servlet, F: Filter, L: Listener>(
     let StopRoom {
         mut back,
         mut parts,
+        remains: _,
     } = stop;
     let mut journal = journal;
     undeploy_each(alloc, contexts, &mut back, &mut journal);

@@ -32,6 +32,7 @@ mod RefutingEvents
 mod RefutingRuns
 mod Remembering
 mod Repeating
+mod Restarting
 mod RepeatingExpiries
 mod Sending
 mod SinceTheStart

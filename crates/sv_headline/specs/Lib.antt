@@ -17,6 +17,7 @@ pub mod Order
 pub mod ProgramHandsOver
 pub mod Record
 pub mod Refused
+pub mod Restarts
 pub mod Start
 pub mod Transitions
 pub mod Unlawful

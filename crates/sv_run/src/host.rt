@@ -11,7 +11,7 @@ ghost use Rattle.sv_run.specs.Connections.{awaited_in};
 ghost use Rattle.sv_run.specs.Contexts.{theory_of};
 ghost use Rattle.sv_run.specs.Editing.{EditsContext};
 ghost use Rattle.sv_run.specs.Effect.{Effect, shown};
-ghost use Rattle.sv_run.specs.Events.{Accepts, AltersAll, BreaksOff, ExpiresAll, Happens, MovesAll, TakesPiece, fault_of, moment_after};
+ghost use Rattle.sv_run.specs.Events.{Accepts, AltersAll, BreaksOff, ExpiresAll, Happens, MovesAll, TakesPiece, fault_of, moment_after, raised};
 ghost use Rattle.sv_run.specs.Seen.{happening_of};
 ghost use Rattle.sv_run.specs.State.{settled_at};
 
@@ -92,6 +92,22 @@ impl<C: HasContextPath, W> Host<C, W> {
         ensures { result ≡ (state_of self.now).stopped }
     {
         self.stopped
+    }
+
+    /// Returns the time, in seconds since 1970: the greatest of the events so far.
+    pub fn moment(&self) -> u64
+        ensures { result ≡ (state_of self.now).moment }
+    {
+        self.date.moment()
+    }
+
+    /// Raises the time to a moment, in seconds since 1970, as an event of that time would. No session expires.
+    pub fn raise_moment(&mut self, moment: u64)
+        ensures state { state_of self.new ≡ record (state_of self.old) { moment = raised (state_of self.old).moment moment } }
+        ensures logs { self.new.logs ≡ self.old.logs }
+    {
+        let raised = moment_after(self.date.moment(), Happening::Tick { moment });
+        self.date.set(raised);
     }
 
     /// Returns what is awaited of a connection: nothing if it has closed or is not known.

@@ -91,5 +91,5 @@ loop-deployment-preserved g c =
       );
       paths = c.loop-deployment.invariant.paths;
       room = omega (arith, c.loop-deployment.invariant.room, c.deploy_next.ensures.room);
-      stop = record { back = stop.back; back_room = stop.back_room; parts = stop.parts; parts_room = stop.parts_room };
+      stop = record { back = stop.back; back_room = stop.back_room; parts = stop.parts; parts_room = stop.parts_room; remains = stop.remains; remains_room = stop.remains_room };
     }
