@@ -31,6 +31,10 @@ mod happenings;
 mod outcome;
 mod results;
 #[cfg(test)]
+mod saved_codes;
+#[cfg(test)]
+mod saved_files;
+#[cfg(test)]
 mod starts;
 #[cfg(test)]
 mod stores;

@@ -1,0 +1,14 @@
+mod After
+mod Appending
+mod ContentReaders
+mod ContentSteps
+mod FileLaws
+mod ListReaders
+mod Loop
+mod Padding
+mod Parts
+mod Passing
+mod Readers
+mod Restored
+mod Signing
+mod TextLemmas
