@@ -23,6 +23,7 @@ _sv() {
     *:run:--journal:*) ;;
     *:run:--access-log:*) ;;
     *:run:--access-log-format:*) return;;
+    *:run:--sessions:*) ;;
     *:run:--listen:*) return;;
     *:run:--connections:*) return;;
     *:run:--idle-seconds:*) return;;
@@ -36,7 +37,7 @@ _sv() {
     *:check:*:-*) names="";;
     *:replay:*:-*) names="";;
     *:serve:*:-*) names="";;
-    *:run:*:-*) names="--control --journal --access-log --access-log-format --listen --same-seed --connections --idle-seconds --held-mebibytes --signal-descriptor ";;
+    *:run:*:-*) names="--control --journal --access-log --access-log-format --sessions --end-all-sessions --listen --same-seed --connections --idle-seconds --held-mebibytes --signal-descriptor ";;
     *:ctl:*:-*) names="";;
     *:selftest:*:-*) names="";;
     *:help:*:-*) names="--format ";;

@@ -3,6 +3,7 @@
 cases/README.md describes the steps."""
 
 import contextlib
+import os
 import re
 import socket
 import struct
@@ -67,10 +68,11 @@ class Program:
         self.stdout, self.stderr = b"", b""
         self.start()
 
-    def start(self):
+    def start(self, more=()):
+        """Starts the program, with more arguments."""
         self.status = None
         self.running = subprocess.Popen(
-            self.command,
+            [*self.command, *more],
             cwd=self.room,
             stdin=subprocess.DEVNULL,
             stdout=subprocess.PIPE,
@@ -156,9 +158,7 @@ class Steps:
     def holds(self, name, text):
         expected, held = self.with_ids(text), None
         for _ in range(WAITS):
-            with contextlib.suppress(FileNotFoundError), open(
-                f"{self.program.room}/{name}", "rb"
-            ) as file:
+            with contextlib.suppress(FileNotFoundError), open(self.path(name), "rb") as file:
                 held = varying(file.read())
             if held == expected:
                 return
@@ -190,6 +190,43 @@ class Steps:
 
     def over(self):
         self.program.wait()
+
+    def again(self, first="", rest=b""):
+        if not self.program.status:
+            self.program.wait()
+        if self.program.status != b"0\n":
+            raise Fault(f"the program ended with status {self.program.status.decode().strip()}")
+        self.program.start([*first.encode().split(), *rest.split()])
+
+    def write(self, name, text):
+        with open(self.path(name), "wb") as file:
+            file.write(self.with_ids(text))
+
+    def cut(self, name, count):
+        path = self.path(name)
+        os.truncate(path, os.path.getsize(path) - int(count))
+
+    def turn(self, name, place):
+        with open(self.path(name), "r+b") as file:
+            file.seek(int(place), os.SEEK_SET if int(place) >= 0 else os.SEEK_END)
+            byte = file.read(1)
+            file.seek(-1, os.SEEK_CUR)
+            file.write(bytes([byte[0] ^ 1]))
+
+    def move(self, name, other):
+        os.rename(self.path(name), self.path(other.decode()))
+
+    def modes(self, folder, text):
+        path = self.path(folder)
+        found = [f"{os.stat(path).st_mode & 0o7777:o} {folder}"]
+        for name in sorted(os.listdir(path)):
+            found.append(f"{os.stat(f'{path}/{name}').st_mode & 0o7777:o} {folder}/{name}")
+        if "".join(f"{line}\n" for line in found).encode() != text:
+            raise Fault(f"the modes are {found}")
+
+    def path(self, name):
+        """The path of a file of the folder that the program runs in."""
+        return f"{self.program.room}/{name}"
 
 
 def run_steps(command, room, steps, seconds):

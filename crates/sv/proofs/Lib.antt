@@ -1,3 +1,4 @@
 pub mod CheckLines
 mod Policy
 pub mod RefusedContexts
+pub mod SessionNames

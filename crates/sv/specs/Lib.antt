@@ -10,3 +10,4 @@ pub mod Serving
 pub mod ServerStart
 pub mod Site
 pub mod Help
+pub mod SessionName

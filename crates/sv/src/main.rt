@@ -14,6 +14,9 @@ mod run_command;
 mod self_test_command;
 mod serve_command;
 mod server_start;
+mod session_files;
+mod session_name;
+mod session_save;
 mod site;
 mod texts;
 

@@ -1,11 +1,15 @@
 //! The command `run`: serves a server's container over many connections at once.
 
 ghost use Rattle.sv_component.specs.Steps.{steps_of};
-ghost use Rattle.sv.specs.Serving.{BeginsWith};
+ghost use Rattle.sv.specs.Execution.{ReadsFiles};
+ghost use Rattle.sv.specs.Serving.{BeginsBySessions, BeginsResumed, BeginsWith};
 ghost use Rattle.sv.specs.Site as spec;
 
 use crate::asked_container::AskedContainer;
-use crate::server_start::{StartedServer, start_server};
+use crate::server_start::{
+    ProgramContainer, ResumedServer, StartedServer, resume_server, start_server,
+};
+use crate::session_files::SessionFolder;
 use crate::site::{limits_of, seeding_by};
 use std::alloc::Global;
 use std::io::Write;
@@ -25,13 +29,41 @@ use sv_program::{CommandFault, FileStore};
 /// all connections within the options' limits, none waiting for another. This ends when the control socket, if one is
 /// named, receives `stop`, when the descriptor of signals, if one is given, reports SIGTERM or SIGINT, or when the process
 /// is ended from outside. Shuts the container down, even after a fault. If a journal is named, appends the effects of the
-/// events to that file. If an access log is named, appends a line for each request to that file.
+/// events to that file. If an access log is named, appends a line for each request to that file. If a folder of sessions is
+/// named, the container resumes with the sessions in its files, unless all sessions end. The files are removed before the
+/// line `listening`, and written again at the end, unless an event ran out of memory.
 ///
 /// # Errors
-/// The first fault: those of [`start_server`], with nothing written; then [`CommandFault::File`] if an access
+/// The first fault: those of [`start_server`], with nothing written; with a folder of sessions those of
+/// [`SessionFolder::read`] and [`SessionFolder::settle`]; then [`CommandFault::File`] if an access
 /// log, a journal, a descriptor of signals or a control socket cannot be opened; then [`CommandFault::Socket`], [`CommandFault::Output`] or
-/// [`CommandFault::NoMemory`] as the run meets them.
+/// [`CommandFault::NoMemory`] as the run meets them; then those of [`SessionFolder::save`].
 pub fn run<S: FileStore + FolderStore, H: Net + Clock + RandomSource + Files + Eprint, W: Write>(
+    alloc: Global,
+    store: &mut S,
+    host: &H,
+    writer: &mut W,
+    options: &RunOptions<'_>,
+) -> Result<(), CommandFault>
+    ensures begins { BeginsBySessions (steps_of ⟦<ProgramServlet as Servlet>⟧.servlet_step ⟦<ProgramFilter as Filter>⟧.filter_step ⟦<ProgramListener as Listener>⟧.listener_step)
+        S.gives_text S.gives_files options.now store.old writer.old result store.new writer.new }
+    ensures reads { ReadsFiles S.gives_text S.gives_files options.now.config.now result store.old store.new }
+{
+    match options.sessions {
+        None => run_started(alloc, store, host, writer, options),
+        Some(name) => {
+            let folder = SessionFolder { alloc, host, name };
+            run_resumed(store, &folder, writer, options)
+        }
+    }
+}
+
+// Runs without a folder of sessions.
+fn run_started<
+    S: FileStore + FolderStore,
+    H: Net + Clock + RandomSource + Files + Eprint,
+    W: Write,
+>(
     alloc: Global,
     store: &mut S,
     host: &H,
@@ -42,16 +74,71 @@ pub fn run<S: FileStore + FolderStore, H: Net + Clock + RandomSource + Files + E
         S.gives_text S.gives_files (spec.seeding_by options.now.same_seed) options.now.config.now store.old writer.old result store.new writer.new }
 {
     let seeding = seeding_by(options.same_seed);
-    let StartedServer { port, container } = match start_server(
-        alloc,
-        store,
-        host,
-        options.config,
-        seeding,
-    ) {
+    let started = match start_server(alloc, store, host, options.config, seeding) {
         Ok(started) => started,
         Err(fault) => return Err(fault),
     };
+    let (served, container) = serve_all(alloc, host, writer, options, started);
+    container.shutdown().let_go();
+    served
+}
+
+// Runs with a folder of sessions.
+fn run_resumed<
+    S: FileStore + FolderStore,
+    H: Net + Clock + RandomSource + Files + Eprint,
+    W: Write,
+>(
+    store: &mut S,
+    folder: &SessionFolder<'_, H>,
+    writer: &mut W,
+    options: &RunOptions<'_>,
+) -> Result<(), CommandFault>
+    ensures { BeginsResumed (steps_of ⟦<ProgramServlet as Servlet>⟧.servlet_step ⟦<ProgramFilter as Filter>⟧.filter_step ⟦<ProgramListener as Listener>⟧.listener_step)
+        S.gives_text S.gives_files (spec.seeding_by options.now.same_seed) options.now.config.now store.old writer.old result store.new writer.new }
+{
+    let ResumedServer {
+        started,
+        files,
+        key,
+    } = match resume_server(store, folder, options) {
+        Ok(resumed) => resumed,
+        Err(refused) => return Err(refused),
+    };
+    let settled = folder.settle(files.as_slice());
+    let (served, container) = serve_settled(folder, writer, options, started, settled);
+    suspend(folder, &key, container, served)
+}
+
+// Serves, unless the files of sessions are still there.
+fn serve_settled<H: Net + Clock + Files + Eprint, W: Write>(
+    folder: &SessionFolder<'_, H>,
+    writer: &mut W,
+    options: &RunOptions<'_>,
+    started: StartedServer,
+    settled: Result<(), CommandFault>,
+) -> (Result<(), CommandFault>, ProgramContainer) {
+    match settled {
+        Ok(()) => serve_all(folder.alloc, folder.host, writer, options, started),
+        Err(fault) => {
+            let StartedServer {
+                container,
+                port: _port,
+            } = started;
+            (Err(fault), container)
+        }
+    }
+}
+
+// Serves all connections, and returns the container.
+fn serve_all<H: Net + Clock + Files + Eprint, W: Write>(
+    alloc: Global,
+    host: &H,
+    writer: &mut W,
+    options: &RunOptions<'_>,
+    started: StartedServer,
+) -> (Result<(), CommandFault>, ProgramContainer) {
+    let StartedServer { port, container } = started;
     let last = LastAccepted::new();
     let listening = ListenOptions {
         address: address_or(options.listen, port),
@@ -66,8 +153,24 @@ pub fn run<S: FileStore + FolderStore, H: Net + Clock + RandomSource + Files + E
         Some(log) => run_logged(alloc, host, writer, listening, options.journal, log, asked),
         None => run_journaled(alloc, host, writer, listening, options.journal, asked),
     };
-    asked.into_container().shutdown().let_go();
-    served
+    (served, asked.into_container())
+}
+
+// Suspends the container, and writes its sessions. Returns the first fault.
+fn suspend<H: Files + Eprint>(
+    folder: &SessionFolder<'_, H>,
+    key: &[u8; 32],
+    container: ProgramContainer,
+    served: Result<(), CommandFault>,
+) -> Result<(), CommandFault> {
+    let Some(suspension) = container.suspend().into_suspension() else {
+        return served;
+    };
+    let saved = folder.save(key, &suspension);
+    match served {
+        Ok(()) => saved,
+        Err(fault) => Err(fault),
+    }
 }
 
 // Returns the access log that the options name, if any.

@@ -7,7 +7,7 @@ use Rattle.std.specs.Str.{bytes_eq}
 use Rattle.sv_arguments.specs.Options.{IsProper, IsValue}
 use Rattle.sv_arguments.specs.Settings.{Setting, Keyed, key_word, own_words, setting_words, takes_word, words_of}
 use Rattle.sv_arguments.specs.declared.key.Key.{Key}
-use Rattle.sv_arguments.specs.declared.key.Key.TheVariants.{Control, Journal, AccessLog, AccessLogFormat, Listen, SameSeed, Connections, IdleSeconds, HeldMebibytes, SignalDescriptor, Secure, Format, As, Role, FailOn, Accept, Lines, UnknownFiles, Path, Method, Diff}
+use Rattle.sv_arguments.specs.declared.key.Key.TheVariants.{Control, Journal, AccessLog, AccessLogFormat, Sessions, EndAllSessions, Listen, SameSeed, Connections, IdleSeconds, HeldMebibytes, SignalDescriptor, Secure, Format, As, Role, FailOn, Accept, Lines, UnknownFiles, Path, Method, Diff}
 use Rattle.sv_arguments.specs.declared.option_set.OptionSet.{OptionSet}
 
 -- the option of a word
@@ -17,6 +17,8 @@ key_at word =
     else if bytes_eq word (codes "--journal") then Some Journal
     else if bytes_eq word (codes "--access-log") then Some AccessLog
     else if bytes_eq word (codes "--access-log-format") then Some AccessLogFormat
+    else if bytes_eq word (codes "--sessions") then Some Sessions
+    else if bytes_eq word (codes "--end-all-sessions") then Some EndAllSessions
     else if bytes_eq word (codes "--listen") then Some Listen
     else if bytes_eq word (codes "--same-seed") then Some SameSeed
     else if bytes_eq word (codes "--connections") then Some Connections
@@ -42,6 +44,8 @@ key_at-key_word Control = refl
 key_at-key_word Journal = refl
 key_at-key_word AccessLog = refl
 key_at-key_word AccessLogFormat = refl
+key_at-key_word Sessions = refl
+key_at-key_word EndAllSessions = refl
 key_at-key_word Listen = refl
 key_at-key_word SameSeed = refl
 key_at-key_word Connections = refl
@@ -74,6 +78,7 @@ some_word x xs same = cc
 
 -- the word after an option that takes none is empty
 pub flag_empty : (key : Key) (word : List ℕ) → IsValue key word → takes_word key ≡ false → word ≡ []
+flag_empty EndAllSessions word is none = is
 flag_empty SameSeed word is none = is
 flag_empty Secure word is none = is
 flag_empty UnknownFiles word is none = is

@@ -58,11 +58,11 @@ module _ (set : OptionSet) (words rest : List (List ℕ)) (reached : IsReached s
   all_words : words ≡ words_of reached.0
   all_words = reached.1 ∙ ap (λ (all : List (List ℕ)). words_of reached.0 ++ all) none ∙ append-nil (words_of reached.0)
 
-  pub all_complete : ((settings : List Setting) → AreOf set words settings → Finds (IsLone settings) None)
+  pub all_complete : ((settings : List Setting) → AreOf set words settings → Finds (IsLone set settings) None)
       → ((settings : List Setting) → AreOf set words settings → Finds (HasUnfit settings) None) → (settings : List Setting) × AreAllOf set words settings
   all_complete met fits =
       let are : AreOf set words reached.0 = (all_words, reached.2) in
-      (reached.0, (all_words, (reached.2, needed_given reached.0 (met reached.0 are), λ form unfit. false≢true ((fits reached.0 are).1 form unfit))))
+      (reached.0, (all_words, (reached.2, needed_given reached.0 set reached.2 (met reached.0 are), λ form unfit. false≢true ((fits reached.0 are).1 form unfit))))
 
 -- a fault that is passed on
 pub passed_on : {A E : Type 0} (Says : E → Type 0) (fault : E) (result : Result A E) → IsErrAnd result (λ passed. passed ≡ fault) → Says fault → IfErr result Says

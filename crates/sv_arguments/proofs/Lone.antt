@@ -1,68 +1,112 @@
 -- Options without the one that they need.
-use Rattle.std.proofs.Common.{◌≡◌, ◌⊎◌, inl, inr, Bool, true, false, ◌&&◌, not, List, Some, None, refl, sym, ap, ◌∙◌}
+use Rattle.std.proofs.Common.{◌≡◌, Bool, true, false, ◌&&◌, not, List, [], ◌∷◌, Option, Some, None, cond, refl, sym, ap, subst, ◌∙◌}
 use Rattle.std.proofs.lemmas.Bool.{false≢true, true≢false}
-use Rattle.sv_arguments.specs.OptionFault.{IsLone}
-use Rattle.sv_arguments.specs.Settings.{Setting, is_given, needed}
+use Rattle.std.proofs.lemmas.List.Elements.{All-contains}
+use Rattle.std.specs.List.{Contains, find}
+use Rattle.sv_arguments.proofs.Setting.{given_proper, none_passes}
+use Rattle.sv_arguments.proofs.Tables.{listed_key}
+use Rattle.sv_arguments.specs.OptionFault.{IsLone, Lacks}
+use Rattle.sv_arguments.specs.Options.{AreProper}
+use Rattle.sv_arguments.specs.Settings.{Setting, first_lone, is_given, is_lone, is_missing, needed, option_keys}
 use Rattle.sv_arguments.specs.Values.{Finds}
 use Rattle.sv_arguments.specs.declared.key.Key.{Key}
-use Rattle.sv_arguments.specs.declared.key.Key.TheVariants.{AccessLog, AccessLogFormat, Method, Path}
+use Rattle.sv_arguments.specs.declared.key.Key.TheVariants.{AccessLog, AccessLogFormat, EndAllSessions, Method, Path, Sessions}
+use Rattle.sv_arguments.specs.declared.option_set.OptionSet.{OptionSet}
+use Rattle.sv_arguments.specs.declared.option_set.OptionSet.TheVariants.{Run, Audit}
 
--- the option of `run` that needs another, with that one
-abbrev pub AreOfRun : Key → Key → Type 0
-AreOfRun key other = (key ≡ AccessLogFormat) × (other ≡ AccessLog)
+none_some : (any : Key) → None ≡ Some any → ⊥
+none_some any same = cc
 
--- that of `audit`
-abbrev pub AreOfAudit : Key → Key → Type 0
-AreOfAudit key other = (key ≡ Method) × (other ≡ Path)
+pub same_some : (a b : Key) → Some a ≡ Some b → a ≡ b
+same_some a b same = cc
 
--- no other option needs one
-pub needs_one : (key other : Key) → needed key ≡ Some other → AreOfRun key other ⊎ AreOfAudit key other
-needs_one AccessLogFormat other is = let same : other ≡ AccessLog = cc in inl (refl, same)
-needs_one Method other is = let same : other ≡ Path = cc in inr (refl, same)
-needs_one key other is = absurd (none_some other is)
-  where
-    none_some : (any : Key) → None ≡ Some any → ⊥
-    none_some any same = cc
+both_hold : (one other : Bool) → one && other ≡ true → (one ≡ true) × (other ≡ true)
+both_hold true true holds = (refl, refl)
+both_hold true false holds = absurd (false≢true holds)
+both_hold false other holds = absurd (false≢true holds)
 
-first_only : (one other : Bool) → one && not other ≡ true → (one ≡ true) × (other ≡ false)
-first_only true false holds = (refl, refl)
-first_only true true holds = absurd (false≢true holds)
-first_only false other holds = absurd (false≢true holds)
+not_false : (test : Bool) → not test ≡ true → test ≡ false
+not_false true holds = absurd (false≢true holds)
+not_false false holds = refl
 
-not_first_only : (one other : Bool) → one && not other ≡ false → one ≡ true → other ≡ false → ⊥
-not_first_only true false fails holds missing = true≢false fails
-not_first_only true true fails holds missing = true≢false missing
-not_first_only false other fails holds missing = false≢true holds
+-- the second holds only if the first does not
+not_both : (one other : Bool) → not one && other ≡ false → other ≡ true → one ≡ true
+not_both true other fails holds = refl
+not_both false other fails holds = absurd (true≢false (sym holds ∙ fails))
+
+-- an option that is found passes
+module _ (p : Key → Bool) (key : Key) where
+  found_passes : (first : Key) (keys : List Key) (test : Bool) → p first ≡ test → (find p keys ≡ Some key → p key ≡ true)
+      → cond test (Some first) (find p keys) ≡ Some key → p key ≡ true
+  found_passes first keys true is deeper found = sym (ap p (same_some first key found)) ∙ is
+  found_passes first keys false is deeper found = deeper found
+
+  finds_passing : (keys : List Key) → find p keys ≡ Some key → p key ≡ true
+  finds_passing [] found = absurd (none_some key found)
+  finds_passing (first ∷ keys) found = found_passes first keys (p first) refl (finds_passing keys) found
 
 module _ (settings : List Setting) where
-  abbrev pub lone_test : Key → Key → Bool
-  lone_test key other = is_given settings key && not (is_given settings other)
+  -- an option that lacks another is given, and the other is not
+  pub lone_is : (set : OptionSet) (key other : Key) → Lacks set settings key other
+      → (is_given settings key ≡ true) × (is_given settings other ≡ false)
+  lone_is set key other (first, needs) =
+      let both = both_hold (is_missing settings (needed key)) (is_given settings key)
+      (finds_passing (is_lone settings) key (option_keys set) first) in
+      let Misses : Option Key → Type 0 = λ any. is_missing settings any ≡ true in
+      (both.1, not_false (is_given settings other) (subst Misses needs both.0))
 
-  pub finds_lone : (key other : Key) → needed key ≡ Some other → lone_test key other ≡ true → Finds (IsLone settings) (Some (key, other))
-  finds_lone key other needs holds =
-      let both = first_only (is_given settings key) (is_given settings other) holds in
-      ((needs, both.0, both.1), λ any lone. refl)
+  -- a lone option needs another
+  lone_needs : (key : Key) (need : Option Key) → needed key ≡ need → is_missing settings need ≡ true → (other : Key) × (needed key ≡ Some other)
+  lone_needs key None is missing = absurd (false≢true missing)
+  lone_needs key (Some other) is missing = (other, is)
 
-  not_lone : (key other own needs : Key) → lone_test own needs ≡ false → (key ≡ own) × (other ≡ needs) → is_given settings key ≡ true
-      → is_given settings other ≡ false → ⊥
-  not_lone key other own needs fails same given missing =
-      not_first_only (is_given settings own) (is_given settings needs) fails (sym (ap (is_given settings) same.0) ∙ given)
-      (sym (ap (is_given settings) same.1) ∙ missing)
+  pub finds_lone : (set : OptionSet) (key other : Key) → first_lone set settings ≡ Some key → needed key ≡ Some other
+      → Finds (IsLone set settings) (Some (key, other))
+  finds_lone set key other first needs = ((first, needs), λ any lone. refl)
 
-  none_of : lone_test AccessLogFormat AccessLog ≡ false → lone_test Method Path ≡ false → (key other : Key)
-      → AreOfRun key other ⊎ AreOfAudit key other → is_given settings key ≡ true → is_given settings other ≡ false → ⊥
-  none_of run audit key other (inl same) given missing = not_lone key other AccessLogFormat AccessLog run same given missing
-  none_of run audit key other (inr same) given missing = not_lone key other Method Path audit same given missing
+  pub finds_none_lone : (set : OptionSet) → first_lone set settings ≡ None → Finds (IsLone set settings) None
+  finds_none_lone set none = (tt, λ any (first, needs). absurd (none_some any.0 (sym none ∙ first)))
 
-  pub finds_none_lone : lone_test AccessLogFormat AccessLog ≡ false → lone_test Method Path ≡ false → Finds (IsLone settings) None
-  finds_none_lone run audit =
-      (tt, λ any (needs, given, missing). absurd (none_of run audit any.0 any.1 (needs_one any.0 any.1 needs) given missing))
+  none_lone : (set : OptionSet) → Finds (IsLone set settings) None → (found : Option Key) → first_lone set settings ≡ found
+      → first_lone set settings ≡ None
+  none_lone set finds None is = is
+  none_lone set finds (Some key) is =
+      let both = both_hold (is_missing settings (needed key)) (is_given settings key)
+      (finds_passing (is_lone settings) key (option_keys set) is) in
+      let needs = lone_needs key (needed key) refl both.0 in
+      absurd (false≢true (finds.1 (key, needs.0) (is, needs.1)))
 
   -- if none is without the one that it needs, that one is given
-  pub needed_given : Finds (IsLone settings) None → (key other : Key) → needed key ≡ Some other → is_given settings key ≡ true
-      → is_given settings other ≡ true
-  needed_given finds key other needs given = by (is_given settings other) refl
-    where
-      by : (test : Bool) → is_given settings other ≡ test → is_given settings other ≡ true
-      by true is = is
-      by false is = absurd (false≢true (finds.1 (key, other) (needs, given, is)))
+  pub needed_given : (set : OptionSet) → AreProper set settings → Finds (IsLone set settings) None → (key other : Key) → needed key ≡ Some other
+      → is_given settings key ≡ true → is_given settings other ≡ true
+  needed_given set proper finds key other needs given =
+      let own = given_proper set key settings proper.0 given in
+      let Listed : OptionSet → Type 0 = λ any. Contains (option_keys any) key in
+      let fails : is_lone settings key ≡ false =
+      All-contains (λ (k : Key). is_lone settings k ≡ false) (option_keys set) key
+      (none_passes (is_lone settings) (option_keys set) (none_lone set finds (first_lone set settings) refl)) (subst Listed own (listed_key key)) in
+      let Fails : Option Key → Type 0 = λ any. is_missing settings any && is_given settings key ≡ false in
+      not_both (is_given settings other) (is_given settings key) (subst Fails needs fails) given
+
+  -- the first lone option of each command
+  abbrev pub lacks_one : Key → Key → Bool
+  lacks_one key other = not (is_given settings other) && is_given settings key
+
+  pub lone_format : lacks_one AccessLogFormat AccessLog ≡ true → first_lone Run settings ≡ Some AccessLogFormat
+  lone_format holds = ap (λ (test : Bool). cond test (Some AccessLogFormat) (cond (lacks_one EndAllSessions Sessions) (Some EndAllSessions) None)) holds
+
+  pub lone_end : lacks_one AccessLogFormat AccessLog ≡ false → lacks_one EndAllSessions Sessions ≡ true → first_lone Run settings ≡ Some EndAllSessions
+  lone_end first holds =
+      ap (λ (test : Bool). cond test (Some AccessLogFormat) (cond (lacks_one EndAllSessions Sessions) (Some EndAllSessions) None)) first
+      ∙ ap (λ (test : Bool). cond test (Some EndAllSessions) None) holds
+
+  pub none_of_run : lacks_one AccessLogFormat AccessLog ≡ false → lacks_one EndAllSessions Sessions ≡ false → first_lone Run settings ≡ None
+  none_of_run first second =
+      ap (λ (test : Bool). cond test (Some AccessLogFormat) (cond (lacks_one EndAllSessions Sessions) (Some EndAllSessions) None)) first
+      ∙ ap (λ (test : Bool). cond test (Some EndAllSessions) None) second
+
+  pub lone_method : lacks_one Method Path ≡ true → first_lone Audit settings ≡ Some Method
+  lone_method holds = ap (λ (test : Bool). cond test (Some Method) None) holds
+
+  pub none_of_audit : lacks_one Method Path ≡ false → first_lone Audit settings ≡ None
+  none_of_audit fails = ap (λ (test : Bool). cond test (Some Method) None) fails

@@ -4,7 +4,7 @@ use Rattle.std.proofs.lemmas.Bool.{false≢true}
 use Rattle.std.proofs.lemmas.List.Elements.{All-head, All-tail}
 use Rattle.std.specs.Prelude.{All, codes}
 use Rattle.sv_arguments.proofs.Decoding.{first_same, key_word_injective, one_settings, same_heads, some_word}
-use Rattle.sv_arguments.proofs.Lone.{AreOfAudit, AreOfRun, needs_one}
+use Rattle.sv_arguments.proofs.Lone.{lone_is, same_some}
 use Rattle.sv_arguments.proofs.OneTopic.{called_one, finds_one, named_one}
 use Rattle.sv_arguments.proofs.Setting.{either_none, given_proper, some_none}
 use Rattle.sv_arguments.proofs.Unfit.{one_unfit}
@@ -12,12 +12,12 @@ use Rattle.sv_arguments.proofs.Wrong.{IsStopped, not_next, stopped_not_read}
 use Rattle.sv_arguments.specs.HelpUsage.{IsHelpLine, called_line}
 use Rattle.sv_arguments.specs.OptionFault.{IsFree, IsRefused, IsWrong, Lacks}
 use Rattle.sv_arguments.specs.Options.{AreProper, HasUnfit, IsProper}
-use Rattle.sv_arguments.specs.Settings.{Setting, Keyed, IsKey, given_rival, has_word, is_given, key_word, set_of, setting_words, values, words_of}
+use Rattle.sv_arguments.specs.Settings.{Setting, Keyed, IsKey, given_rival, has_word, is_given, key_word, needed, set_of, setting_words, values, words_of}
 use Rattle.sv_arguments.specs.Topics.{IsCalled, topic_name}
 use Rattle.sv_arguments.specs.Usage.{IsLineAfter, IsOptionLine, IsUsageLine, needs_line, option_fault_line, unknown_option}
 use Rattle.sv_program.specs.Shown.{quoted}
 use Rattle.sv_arguments.specs.declared.key.Key.{Key}
-use Rattle.sv_arguments.specs.declared.key.Key.TheVariants.{AccessLog, AccessLogFormat, Diff, Method, Path}
+use Rattle.sv_arguments.specs.declared.key.Key.TheVariants.{AccessLogFormat, Diff, EndAllSessions, Method}
 use Rattle.sv_arguments.specs.declared.option_fault.OptionFault.{OptionFault}
 use Rattle.sv_arguments.specs.declared.option_fault.OptionFault.TheVariants.{NoServer, Unknown, Twice, Excluded, NoValue, BadValue, Alone, Unfit}
 use Rattle.sv_arguments.specs.declared.option_set.OptionSet.{OptionSet}
@@ -167,14 +167,14 @@ abbrev pub IsMissing : List (List ℕ) → OptionFault → Type 0
 IsMissing arguments fault = (arguments ≡ []) × (fault ≡ NoServer)
 
 -- all words are read, and an option lacks another, or another server excludes the form
-abbrev pub IsUnmet : List Setting → OptionFault → Type 0
-IsUnmet settings (Alone key other) = Lacks settings key other
-IsUnmet settings (Unfit form) = HasUnfit settings form
-IsUnmet settings fault = ⊥
+abbrev pub IsUnmet : OptionSet → List Setting → OptionFault → Type 0
+IsUnmet its settings (Alone key other) = Lacks its settings key other
+IsUnmet its settings (Unfit form) = HasUnfit settings form
+IsUnmet its settings fault = ⊥
 
 abbrev pub IsLate : OptionSet → List (List ℕ) → OptionFault → Type 0
 IsLate its arguments fault =
-    (config : List ℕ) × (settings : List Setting) × (arguments ≡ config ∷ words_of settings) × AreProper its settings × IsUnmet settings fault
+    (config : List ℕ) × (settings : List Setting) × (arguments ≡ config ∷ words_of settings) × AreProper its settings × IsUnmet its settings fault
 
 refused_how : (its : OptionSet) (arguments : List (List ℕ)) (fault : OptionFault) → IsRefused its arguments fault
     → IsMissing arguments fault ⊎ (IsStopped its arguments fault ⊎ IsLate its arguments fault)
@@ -202,9 +202,6 @@ module _ (its : OptionSet) (settings : List Setting) (proper : AreProper its set
   one_command : (a b : Key) → is_given settings a ≡ true → is_given settings b ≡ true → set_of a ≡ set_of b
   one_command a b given other = given_proper its a settings proper.0 given ∙ sym (given_proper its b settings proper.0 other)
 
-  given_same : (a b : Key) → a ≡ b → is_given settings a ≡ true → is_given settings b ≡ true
-  given_same a b same given = sym (ap (is_given settings) same) ∙ given
-
   -- a method without a request is given with no other server
   method_unfit : is_given settings Method ≡ true → is_given settings Diff ≡ true → ⊥
   method_unfit given server = by (either_none its settings proper Method Diff (0, omega arith, refl))
@@ -213,27 +210,23 @@ module _ (its : OptionSet) (settings : List Setting) (proper : AreProper its set
       by (inl none) = given_none Method given none
       by (inr none) = given_none Diff server none
 
-  lone_unfit : (key other : Key) → AreOfRun key other ⊎ AreOfAudit key other → is_given settings key ≡ true → is_given settings Diff ≡ true → ⊥
-  lone_unfit key other (inl same) given server = run_audit (one_command AccessLogFormat Diff (given_same key AccessLogFormat same.0 given) server)
-  lone_unfit key other (inr same) given server = method_unfit (given_same key Method same.0 given) server
+  -- no option that needs another is given with another server
+  lone_unfit : (key other : Key) → needed key ≡ Some other → is_given settings key ≡ true → is_given settings Diff ≡ true → ⊥
+  lone_unfit AccessLogFormat other needs given server = run_audit (one_command AccessLogFormat Diff given server)
+  lone_unfit EndAllSessions other needs given server = run_audit (one_command EndAllSessions Diff given server)
+  lone_unfit Method other needs given server = method_unfit given server
+  lone_unfit key other needs given server = some_none other (sym needs)
 
-  same_lone : (key by next from own other : Key) → (key ≡ own) × (by ≡ other) → (next ≡ own) × (from ≡ other)
+  one_lone : (key by next from : Key) → Lacks its settings key by → Lacks its settings next from
       → option_fault_line its (Alone key by) ≡ option_fault_line its (Alone next from)
-  same_lone key by next from own other one two =
-      ap (λ (any : Key). option_fault_line its (Alone any by)) (one.0 ∙ sym two.0)
-      ∙ ap (λ (any : Key). option_fault_line its (Alone next any)) (one.1 ∙ sym two.1)
-
-  one_lone : (key by next from : Key) → AreOfRun key by ⊎ AreOfAudit key by → AreOfRun next from ⊎ AreOfAudit next from
-      → is_given settings key ≡ true → is_given settings next ≡ true → option_fault_line its (Alone key by) ≡ option_fault_line its (Alone next from)
-  one_lone key by next from (inl one) (inl two) given other = same_lone key by next from AccessLogFormat AccessLog one two
-  one_lone key by next from (inr one) (inr two) given other = same_lone key by next from Method Path one two
-  one_lone key by next from (inl one) (inr two) given other =
-      absurd (run_audit (one_command AccessLogFormat Method (given_same key AccessLogFormat one.0 given) (given_same next Method two.0 other)))
-  one_lone key by next from (inr one) (inl two) given other =
-      absurd (run_audit (one_command AccessLogFormat Method (given_same next AccessLogFormat two.0 other) (given_same key Method one.0 given)))
+  one_lone key by next from (first, needs) (other, more) =
+      let same : key ≡ next = same_some key next (sym first ∙ other) in
+      let last : by ≡ from = same_some by from (sym needs ∙ ap needed same ∙ more) in
+      ap (λ (any : Key). option_fault_line its (Alone any by)) same
+      ∙ ap (λ (any : Key). option_fault_line its (Alone next any)) last
 
   -- settings lack only one thing
-  one_unmet : (one other : OptionFault) → IsUnmet settings one → IsUnmet settings other → option_fault_line its one ≡ option_fault_line its other
+  one_unmet : (one other : OptionFault) → IsUnmet its settings one → IsUnmet its settings other → option_fault_line its one ≡ option_fault_line its other
   one_unmet one NoServer a b = absurd b
   one_unmet one (Unknown word) a b = absurd b
   one_unmet one (Twice key) a b = absurd b
@@ -246,9 +239,9 @@ module _ (its : OptionSet) (settings : List Setting) (proper : AreProper its set
   one_unmet (Excluded key by) other a b = absurd a
   one_unmet (NoValue key) other a b = absurd a
   one_unmet (BadValue key value) other a b = absurd a
-  one_unmet (Alone key by) (Alone next from) a b = one_lone key by next from (needs_one key by a.0) (needs_one next from b.0) a.1 b.1
-  one_unmet (Alone key by) (Unfit form) a (word, is, unfit, server) = absurd (lone_unfit key by (needs_one key by a.0) a.1 server)
-  one_unmet (Unfit form) (Alone key by) (word, is, unfit, server) b = absurd (lone_unfit key by (needs_one key by b.0) b.1 server)
+  one_unmet (Alone key by) (Alone next from) a b = one_lone key by next from a b
+  one_unmet (Alone key by) (Unfit form) a (word, is, unfit, server) = absurd (lone_unfit key by a.1 (lone_is settings its key by a).0 server)
+  one_unmet (Unfit form) (Alone key by) (word, is, unfit, server) b = absurd (lone_unfit key by b.1 (lone_is settings its key by b).0 server)
   one_unmet (Unfit form) (Unfit other) a b = ap (λ (any : Format). option_fault_line its (Unfit any)) (one_unfit settings form other a b)
 
 one_late : (its : OptionSet) (arguments : List (List ℕ)) (one other : OptionFault) → IsLate its arguments one → IsLate its arguments other
@@ -256,7 +249,7 @@ one_late : (its : OptionSet) (arguments : List (List ℕ)) (one other : OptionFa
 one_late its arguments one other (config, settings, at, proper, unmet) (name, others, from, own, more) =
     let heads = same_heads config name (words_of settings) (words_of others) (sym at ∙ from) in
     let same = one_settings its its settings others proper.0 own.0 heads.1 in
-    let Is : List Setting → Type 0 = λ any. IsUnmet any one in
+    let Is : List Setting → Type 0 = λ any. IsUnmet its any one in
     one_unmet its others own one other (subst Is same unmet) more
 
 one_refused : (its : OptionSet) (arguments : List (List ℕ)) (one other : OptionFault)

@@ -12,7 +12,7 @@ use Rattle.sv_arguments.specs.OptionFault.{IsFree}
 use Rattle.sv_arguments.specs.Options.{AreProper, IsProper, IsValue}
 use Rattle.sv_arguments.specs.Settings.{Setting, Keyed, given_rival, has_word, is_given, key_word, own_words, rivals, set_of, setting_words, takes_word, value_in, values}
 use Rattle.sv_arguments.specs.declared.key.Key.{Key}
-use Rattle.sv_arguments.specs.declared.key.Key.TheVariants.{Accept, As, Diff, FailOn, Format, Lines, Method, Path, Role, SameSeed, Secure, UnknownFiles}
+use Rattle.sv_arguments.specs.declared.key.Key.TheVariants.{Accept, As, Diff, EndAllSessions, FailOn, Format, Lines, Method, Path, Role, SameSeed, Secure, UnknownFiles}
 use Rattle.sv_arguments.specs.declared.option_set.OptionSet.{OptionSet}
 
 -- two options are the same or not
@@ -210,6 +210,7 @@ given_proper set key (Keyed own value ∷ settings) all given =
 
 -- an option that takes no word has the empty one
 pub flag_value : (key : Key) → takes_word key ≡ false → IsValue key []
+flag_value EndAllSessions none = refl
 flag_value SameSeed none = refl
 flag_value Secure none = refl
 flag_value UnknownFiles none = refl

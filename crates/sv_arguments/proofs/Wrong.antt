@@ -6,6 +6,7 @@ use Rattle.std.proofs.lemmas.List.{length-append}
 use Rattle.std.proofs.lemmas.List.Elements.{All-head, All-tail, All-weaker}
 use Rattle.std.specs.Prelude.{All, Bool}
 use Rattle.sv_arguments.proofs.Decoding.{key_word_injective, one_settings, same_heads, some_word, split}
+use Rattle.sv_arguments.proofs.Lone.{lone_is}
 use Rattle.sv_arguments.proofs.Setting.{finds_none, none_passes, own_value, some_none}
 use Rattle.sv_arguments.specs.AuditOptions.{IsAudit}
 use Rattle.sv_arguments.specs.OptionFault.{Lacks, IsRefused, IsWrong}
@@ -119,7 +120,7 @@ IsStopped its arguments fault =
 -- the arguments are a name and the words of proper settings, which have an option without another
 abbrev pub IsLacking : OptionSet → List (List ℕ) → Key → Key → Type 0
 IsLacking its arguments key other =
-    (config : List ℕ) × (settings : List Setting) × (arguments ≡ config ∷ words_of settings) × AreProper its settings × Lacks settings key other
+    (config : List ℕ) × (settings : List Setting) × (arguments ≡ config ∷ words_of settings) × AreProper its settings × Lacks its settings key other
 
 -- the arguments are a name and the words of proper settings
 abbrev pub AreRead : OptionSet → List (List ℕ) → Type 0
@@ -140,12 +141,13 @@ stopped_not_valid : (its : OptionSet) (arguments : List (List ℕ)) (fault : Opt
 stopped_not_valid its arguments fault stopped (name, all, is, valid) = stopped_not_read its arguments fault stopped (name, all, is, valid.0)
 
 lacking_not_valid : (its : OptionSet) (arguments : List (List ℕ)) (key other : Key) → IsLacking its arguments key other → AreValid its arguments → ⊥
-lacking_not_valid its arguments key other (config, settings, same, proper, (needs, given, missing)) (name, all, is, valid) =
+lacking_not_valid its arguments key other (config, settings, same, proper, lacks) (name, all, is, valid) =
+    let lone = lone_is settings its key other lacks in
     let heads = same_heads config name (words_of settings) (words_of all) (sym same ∙ is) in
     let one = one_settings its its settings all proper.0 valid.0.0 heads.1 in
     false≢true
-    (sym missing ∙ ap (λ (any : List Setting). is_given any other) one
-    ∙ valid.1 key other needs (sym (ap (λ (any : List Setting). is_given any key) one) ∙ given))
+    (sym lone.1 ∙ ap (λ (any : List Setting). is_given any other) one
+    ∙ valid.1 key other lacks.1 (sym (ap (λ (any : List Setting). is_given any key) one) ∙ lone.0))
 
 unfit_not_valid : (its : OptionSet) (arguments : List (List ℕ)) (form : Format) → IsRefused its arguments (Unfit form) → AreValid its arguments → ⊥
 unfit_not_valid its arguments form (config, settings, same, proper, unfit) (name, all, is, valid) =

@@ -1,7 +1,7 @@
 -- What is wrong with the arguments of a command that has options.
-use Rattle.std.specs.Prelude.{◌≡◌, ◌≢◌, ℕ, List, [], ◌∷◌, ◌++◌, true, false, Some, None}
+use Rattle.std.specs.Prelude.{◌≡◌, ◌≢◌, ℕ, List, [], ◌∷◌, ◌++◌, true, Some, None}
 use Rattle.sv_arguments.specs.Options.{AreProper, HasUnfit, IsValue}
-use Rattle.sv_arguments.specs.Settings.{Setting, IsKey, given_rival, is_given, key_word, needed, set_of, takes_word, values, words_of}
+use Rattle.sv_arguments.specs.Settings.{Setting, IsKey, first_lone, given_rival, key_word, needed, set_of, takes_word, values, words_of}
 use Rattle.sv_arguments.specs.declared.key.Key.{Key}
 use Rattle.sv_arguments.specs.declared.option_fault.OptionFault.{OptionFault}
 use Rattle.sv_arguments.specs.declared.option_fault.OptionFault.TheVariants.{NoServer, Unknown, Twice, Excluded, NoValue, BadValue, Alone, Unfit}
@@ -29,13 +29,13 @@ IsWrong set settings words (BadValue key value) =
 IsWrong set settings words (Alone key other) = ⊥
 IsWrong set settings words (Unfit form) = ⊥
 
--- the option is among these settings, and the one that it needs is not
-abbrev pub Lacks : List Setting → Key → Key → Type 0
-Lacks settings key other = (needed key ≡ Some other) × (is_given settings key ≡ true) × (is_given settings other ≡ false)
+-- the option is the first of the command that is given without the one that it needs, which is the other
+abbrev pub Lacks : OptionSet → List Setting → Key → Key → Type 0
+Lacks set settings key other = (first_lone set settings ≡ Some key) × (needed key ≡ Some other)
 
 -- an option, and the one that it lacks
-abbrev pub IsLone : List Setting → Key × Key → Type 0
-IsLone settings pair = Lacks settings pair.0 pair.1
+abbrev pub IsLone : OptionSet → List Setting → Key × Key → Type 0
+IsLone set settings pair = Lacks set settings pair.0 pair.1
 
 -- there is no server file; or the words after its name are those of proper settings, followed by words with this fault; or
 -- they are those of proper settings, and an option lacks another, or another server excludes the form
@@ -43,7 +43,7 @@ abbrev pub IsRefused : OptionSet → List (List ℕ) → OptionFault → Type 0
 IsRefused set arguments NoServer = arguments ≡ []
 IsRefused set arguments (Alone key other) =
     (config : List ℕ) × (settings : List Setting)
-    × (arguments ≡ config ∷ words_of settings) × AreProper set settings × Lacks settings key other
+    × (arguments ≡ config ∷ words_of settings) × AreProper set settings × Lacks set settings key other
 IsRefused set arguments (Unfit form) =
     (config : List ℕ) × (settings : List Setting)
     × (arguments ≡ config ∷ words_of settings) × AreProper set settings × HasUnfit settings form

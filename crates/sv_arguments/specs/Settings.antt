@@ -1,9 +1,9 @@
 -- The options of the commands as words.
-use Rattle.std.specs.Prelude.{◌≡◌, ℕ, Bool, true, false, List, [], ◌∷◌, codes, map, Option, Some, None}
+use Rattle.std.specs.Prelude.{◌≡◌, ℕ, Bool, true, false, ◌&&◌, not, List, [], ◌∷◌, codes, map, Option, Some, None}
 use Rattle.std.specs.List.{find, flat_map}
 use Rattle.std.specs.Str.{bytes_eq}
 use Rattle.sv_arguments.specs.declared.key.Key.{Key}
-use Rattle.sv_arguments.specs.declared.key.Key.TheVariants.{Control, Journal, AccessLog, AccessLogFormat, Listen, SameSeed, Connections, IdleSeconds, HeldMebibytes, SignalDescriptor, Secure, Format, As, Role, FailOn, Accept, Lines, UnknownFiles, Path, Method, Diff}
+use Rattle.sv_arguments.specs.declared.key.Key.TheVariants.{Control, Journal, AccessLog, AccessLogFormat, Sessions, EndAllSessions, Listen, SameSeed, Connections, IdleSeconds, HeldMebibytes, SignalDescriptor, Secure, Format, As, Role, FailOn, Accept, Lines, UnknownFiles, Path, Method, Diff}
 use Rattle.sv_arguments.specs.declared.option_set.OptionSet.{OptionSet}
 use Rattle.sv_arguments.specs.declared.option_set.OptionSet.TheVariants.{Run, Audit}
 
@@ -16,6 +16,8 @@ key_word Control = codes "--control"
 key_word Journal = codes "--journal"
 key_word AccessLog = codes "--access-log"
 key_word AccessLogFormat = codes "--access-log-format"
+key_word Sessions = codes "--sessions"
+key_word EndAllSessions = codes "--end-all-sessions"
 key_word Listen = codes "--listen"
 key_word SameSeed = codes "--same-seed"
 key_word Connections = codes "--connections"
@@ -40,6 +42,8 @@ value_name Control = codes "SOCKET"
 value_name Journal = codes "FILE"
 value_name AccessLog = codes "FILE"
 value_name AccessLogFormat = codes "combined or json"
+value_name Sessions = codes "FOLDER"
+value_name EndAllSessions = codes "nothing"
 value_name Listen = codes "an address and a port, as 127.0.0.1:8080"
 value_name SameSeed = codes "nothing"
 value_name Connections = codes "a number from 1 to 1024"
@@ -61,7 +65,8 @@ value_name Diff = codes "a server file"
 -- the options of a command, in the order of its help
 abbrev pub option_keys : OptionSet → List Key
 option_keys Run =
-    Control ∷ Journal ∷ AccessLog ∷ AccessLogFormat ∷ Listen ∷ SameSeed ∷ Connections ∷ IdleSeconds ∷ HeldMebibytes ∷ SignalDescriptor ∷ []
+    Control ∷ Journal ∷ AccessLog ∷ AccessLogFormat ∷ Sessions ∷ EndAllSessions ∷ Listen ∷ SameSeed ∷ Connections ∷ IdleSeconds ∷ HeldMebibytes
+    ∷ SignalDescriptor ∷ []
 option_keys Audit = Secure ∷ Format ∷ As ∷ Role ∷ FailOn ∷ Accept ∷ Lines ∷ UnknownFiles ∷ Path ∷ Method ∷ Diff ∷ []
 
 abbrev pub option_words : OptionSet → List (List ℕ)
@@ -88,6 +93,7 @@ IsKey set word key = (set_of key ≡ set) × (word ≡ key_word key)
 
 -- a word follows the option's own
 abbrev pub takes_word : Key → Bool
+takes_word EndAllSessions = false
 takes_word SameSeed = false
 takes_word Secure = false
 takes_word UnknownFiles = false
@@ -110,6 +116,7 @@ rivals other = []
 -- the option that must be given with this one
 abbrev pub needed : Key → Option Key
 needed AccessLogFormat = Some AccessLog
+needed EndAllSessions = Some Sessions
 needed Method = Some Path
 needed other = None
 
@@ -144,3 +151,16 @@ is_given settings key = has_word (values key settings)
 -- the first of the options that cannot be given with this one and that is among these settings
 abbrev pub given_rival : List Setting → Key → Option Key
 given_rival settings key = find (is_given settings) (rivals key)
+
+-- an option is needed, and it is not among these settings
+abbrev pub is_missing : List Setting → Option Key → Bool
+is_missing settings None = false
+is_missing settings (Some key) = not (is_given settings key)
+
+-- the option is among these settings, and one that it needs is not
+abbrev pub is_lone : List Setting → Key → Bool
+is_lone settings key = is_missing settings (needed key) && is_given settings key
+
+-- the first such option of a command, in the order of its help
+abbrev pub first_lone : OptionSet → List Setting → Option Key
+first_lone set settings = find (is_lone settings) (option_keys set)

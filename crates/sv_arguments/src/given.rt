@@ -160,14 +160,32 @@ fn rival_in(set: OptionSet, words: &[String], key: Key) -> Option<Key>
     None
 }
 
-/// Returns an option among these words without the one that it needs, and that one.
+/// Returns the first option among these words, in the order of the help, without the one that it needs, and that one.
 fn lone_option(set: OptionSet, words: &[String]) -> Option<(Key, Key)>
-    ensures { (settings : List Setting) → AreOf set (map string_bytes words.now) settings → Finds (IsLone settings) result }
+    ensures { (settings : List Setting) → AreOf set (map string_bytes words.now) settings → Finds (IsLone set settings) result }
 {
-    if lacks(set, words, Key::AccessLogFormat, Key::AccessLog) {
+    match set {
+        OptionSet::Run => lone_run_option(words),
+        OptionSet::Audit => lone_audit_option(words),
+    }
+}
+
+fn lone_run_option(words: &[String]) -> Option<(Key, Key)>
+    ensures { (settings : List Setting) → AreOf OptionSet.Run (map string_bytes words.now) settings → Finds (IsLone OptionSet.Run settings) result }
+{
+    if lacks(OptionSet::Run, words, Key::AccessLogFormat, Key::AccessLog) {
         return Some((Key::AccessLogFormat, Key::AccessLog));
     }
-    if lacks(set, words, Key::Method, Key::Path) {
+    if lacks(OptionSet::Run, words, Key::EndAllSessions, Key::Sessions) {
+        return Some((Key::EndAllSessions, Key::Sessions));
+    }
+    None
+}
+
+fn lone_audit_option(words: &[String]) -> Option<(Key, Key)>
+    ensures { (settings : List Setting) → AreOf OptionSet.Audit (map string_bytes words.now) settings → Finds (IsLone OptionSet.Audit settings) result }
+{
+    if lacks(OptionSet::Audit, words, Key::Method, Key::Path) {
         return Some((Key::Method, Key::Path));
     }
     None
@@ -176,9 +194,9 @@ fn lone_option(set: OptionSet, words: &[String]) -> Option<(Key, Key)>
 /// Returns whether an option is among these words, and the one that it needs is not.
 fn lacks(set: OptionSet, words: &[String], key: Key, needed: Key) -> bool
     ensures { (settings : List Setting) → AreOf set (map string_bytes words.now) settings
-        → result ≡ is_given settings key && not (is_given settings needed) }
+        → result ≡ not (is_given settings needed) && is_given settings key }
 {
-    is_among(set, words, key) && !is_among(set, words, needed)
+    !is_among(set, words, needed) && is_among(set, words, key)
 }
 
 /// Returns the form among these words, if a report on differences does not have it, and another server is among them.

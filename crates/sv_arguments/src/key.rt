@@ -29,6 +29,10 @@ pub enum Key {
     AccessLog,
     /// `--access-log-format FORMAT`: the form of the lines of the access log.
     AccessLogFormat,
+    /// `--sessions FOLDER`: the name of the folder in which sessions outlive a restart.
+    Sessions,
+    /// `--end-all-sessions`: the sessions in that folder end.
+    EndAllSessions,
     /// `--listen ADDRESS:PORT`: the address that the server listens on.
     Listen,
     /// `--same-seed`: random words are derived only from the server file's seed.
@@ -75,6 +79,8 @@ impl Key {
             Key::Journal => "--journal",
             Key::AccessLog => "--access-log",
             Key::AccessLogFormat => "--access-log-format",
+            Key::Sessions => "--sessions",
+            Key::EndAllSessions => "--end-all-sessions",
             Key::Listen => "--listen",
             Key::SameSeed => "--same-seed",
             Key::Connections => "--connections",
@@ -104,6 +110,8 @@ impl Key {
             Key::Journal => "FILE",
             Key::AccessLog => "FILE",
             Key::AccessLogFormat => "combined or json",
+            Key::Sessions => "FOLDER",
+            Key::EndAllSessions => "nothing",
             Key::Listen => "an address and a port, as 127.0.0.1:8080",
             Key::SameSeed => "nothing",
             Key::Connections => "a number from 1 to 1024",
@@ -133,6 +141,8 @@ impl Key {
             Key::Journal => true,
             Key::AccessLog => true,
             Key::AccessLogFormat => true,
+            Key::Sessions => true,
+            Key::EndAllSessions => false,
             Key::Listen => true,
             Key::SameSeed => false,
             Key::Connections => true,
@@ -162,6 +172,8 @@ impl Key {
             Key::Journal => &[],
             Key::AccessLog => &[],
             Key::AccessLogFormat => &[],
+            Key::Sessions => &[],
+            Key::EndAllSessions => &[],
             Key::Listen => &[],
             Key::SameSeed => &[],
             Key::Connections => &[],
@@ -200,6 +212,8 @@ impl Key {
             Key::Journal => true,
             Key::AccessLog => true,
             Key::AccessLogFormat => access_log_format_named(word).is_some(),
+            Key::Sessions => true,
+            Key::EndAllSessions => word.is_empty(),
             Key::Listen => address_in(word).is_some(),
             Key::SameSeed => word.is_empty(),
             Key::Connections => count_in(word, MAX_CONNECTIONS).is_some(),

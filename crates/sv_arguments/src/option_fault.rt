@@ -20,7 +20,8 @@ pub enum OptionFault<'a> {
     NoValue(Key),
     /// The word after the option is not a value of it.
     BadValue(Key, &'a str),
-    /// The first option is given, and the second, which it needs, is not.
+    /// The first option is given, and the second, which it needs, is not. If there are several such options, it is the
+    /// first of them in the order of the help.
     Alone(Key, Key),
     /// Another server is given, and this form, which a report on differences does not have.
     Unfit(Format),

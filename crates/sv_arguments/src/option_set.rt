@@ -74,6 +74,12 @@ fn run_key(word: &str) -> Option<Key>
     if word == "--access-log-format" {
         return Some(Key::AccessLogFormat);
     }
+    if word == "--sessions" {
+        return Some(Key::Sessions);
+    }
+    if word == "--end-all-sessions" {
+        return Some(Key::EndAllSessions);
+    }
     if word == "--listen" {
         return Some(Key::Listen);
     }

@@ -37,6 +37,10 @@ pub struct RunOptions<'a> {
     pub access_log: Option<&'a str>,
     /// The form of the lines of the access log.
     pub access_log_format: AccessLogFormat,
+    /// The name of the folder in which sessions outlive a restart, if there is one.
+    pub sessions: Option<&'a str>,
+    /// Whether the sessions in that folder end.
+    pub end_all_sessions: bool,
     /// The address that the server listens on, or none for 127.0.0.1 with the server file's port.
     pub listen: Option<SocketAddr>,
     /// Whether random words are derived only from the server file's seed.
@@ -54,12 +58,12 @@ pub struct RunOptions<'a> {
 impl<'a> RunOptions<'a> {
     /// Parses the arguments: the name of the server file, followed by options in any order, each at most once. The
     /// options are `--control SOCKET`, `--journal FILE`, `--access-log FILE`, `--access-log-format FORMAT` (`combined` or
-    /// `json`; `combined` without it), which needs `--access-log`, `--listen ADDRESS:PORT`, `--same-seed`,
-    /// `--connections N` (1 to 1,024), `--idle-seconds N` (1 to 86,400), `--held-mebibytes N` (1 to 1,048,576) and
-    /// `--signal-descriptor N` (3 to 1,048,575).
+    /// `json`; `combined` without it), which needs `--access-log`, `--sessions FOLDER`, `--end-all-sessions`, which needs
+    /// `--sessions`, `--listen ADDRESS:PORT`, `--same-seed`, `--connections N` (1 to 1,024), `--idle-seconds N` (1 to
+    /// 86,400), `--held-mebibytes N` (1 to 1,048,576) and `--signal-descriptor N` (3 to 1,048,575).
     ///
     /// # Errors
-    /// The first fault, from the left, or else an option without the one that it needs.
+    /// The first fault, from the left, or else the first option, in this order, without the one that it needs.
     pub fn parse(arguments: &'a [String]) -> Result<RunOptions<'a>, OptionFault<'a>>
         ensures it { IfOk result (IsAsked (map string_bytes arguments.now)) }
         ensures fault { IfErr result (IsRefused OptionSet.Run (map string_bytes arguments.now)) }
@@ -71,6 +75,8 @@ impl<'a> RunOptions<'a> {
             journal: given.value(Key::Journal),
             access_log: given.value(Key::AccessLog),
             access_log_format: access_log_format_in(&given),
+            sessions: given.value(Key::Sessions),
+            end_all_sessions: given.has(Key::EndAllSessions),
             listen: given.address(Key::Listen),
             same_seed: given.has(Key::SameSeed),
             connections: given.count(Key::Connections, MAX_CONNECTIONS),

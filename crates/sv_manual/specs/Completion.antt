@@ -4,9 +4,10 @@ use Rattle.std.specs.Str.{bytes_eq}
 use Rattle.sv_manual.specs.Rows.{CommandFields, OptionFields, options_of}
 use Rattle.sv_manual.specs.declared.pages.TheConstants.{COMPLETION_CASES, COMPLETION_END, COMPLETION_HEAD, OPTION_CASE}
 
--- the argument is the name of a file
+-- the argument is the name of a file or folder
 abbrev pub is_file : List ℕ → Bool
-is_file argument = bytes_eq argument (codes "FILE") || bytes_eq argument (codes "SOCKET") || bytes_eq argument (codes "OTHER")
+is_file argument =
+    bytes_eq argument (codes "FILE") || bytes_eq argument (codes "FOLDER") || bytes_eq argument (codes "SOCKET") || bytes_eq argument (codes "OTHER")
 
 -- after the option a file is completed, or nothing
 abbrev pub completes : List ℕ → List ℕ

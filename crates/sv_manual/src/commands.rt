@@ -73,7 +73,7 @@ pub const COMMANDS: [CommandRow; 12] = [
 ];
 
 /// The options, by their commands.
-pub const OPTIONS: [OptionRow; 22] = [
+pub const OPTIONS: [OptionRow; 24] = [
     (
         "audit",
         "--secure",
@@ -164,6 +164,18 @@ and what became of it",
         "--access-log-format",
         "combined|json",
         "the form of these lines: combined, as other servers write it, or json",
+    ),
+    (
+        "run",
+        "--sessions",
+        "FOLDER",
+        "keeps sessions in that folder from an orderly end to the next start",
+    ),
+    (
+        "run",
+        "--end-all-sessions",
+        "",
+        "ends the sessions in that folder unread; needs --sessions",
     ),
     ("run", "--listen", "ADDRESS:PORT", "listens there"),
     (

@@ -95,7 +95,7 @@ fn push_value_case(text: &mut String, option: &OptionRow) -> Result<(), NoMemory
 fn completes(argument: &str) -> &'static str
     ensures { result.now ≡ spec.completes argument.now }
 {
-    if argument == "FILE" || argument == "SOCKET" || argument == "OTHER" {
+    if argument == "FILE" || argument == "FOLDER" || argument == "SOCKET" || argument == "OTHER" {
         ";;\n"
     } else {
         "return;;\n"
