@@ -1,6 +1,7 @@
 """What the scripts `try` of these examples share: proxies in front of servers, a browser that asks them, a flood, and the comparison of what comes."""
 import collections
 import contextlib
+import glob
 import http.client
 import os
 import re
@@ -96,13 +97,15 @@ def room(*programs):
 
 
 def configured(source, folder, **places):
-    """A configuration file of these examples, with the words in capitals replaced."""
+    """A configuration file of these examples, with the words in capitals replaced, and the scripts of its folder in FOLDER."""
     places.update(FOLDER=f"{folder}/proxy", KEYS=f"{folder}/keys")
     with open(source) as file:
         text = re.sub(rf"\b({'|'.join(places)})\b", lambda it: str(places[it[1]]), file.read())
     path = f"{folder}/configuration"
     with open(path, "w") as file:
         file.write(text)
+    for script in glob.glob(f"{os.path.dirname(source)}/*.lua"):
+        shutil.copy(script, f"{folder}/proxy")
     return path
 
 
