@@ -5,7 +5,6 @@ ghost use Rattle.sv_program.specs.CommandFault.{command_fault};
 ghost use Rattle.sv_program.specs.Configuration.{each};
 ghost use Rattle.sv_audited_contexts.specs.Audited as spec;
 
-use crate::constraint_copies::copied_constraints;
 use crate::context_files::{ContextFiles, files_in};
 use crate::descriptor_lines::{SourceLines, source_lines};
 use crate::held::held_in;
@@ -202,7 +201,8 @@ fn kept_transport(
     ensures { GivesAnswer result (spec.kept_transport is_secure constraints.now) }
 {
     if is_secure {
-        Ok(Some(copied_constraints(alloc, constraints)?))
+        let copies = copied_constraints(alloc, constraints)?;
+        Ok(Some(Listed::from_vec(copies)))
     } else {
         Ok(None)
     }

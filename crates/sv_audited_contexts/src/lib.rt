@@ -3,7 +3,6 @@
 #![tactic(auto)]
 
 mod audited_context;
-mod constraint_copies;
 mod context_files;
 mod descriptor_lines;
 mod held;

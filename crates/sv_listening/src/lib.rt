@@ -13,7 +13,6 @@ mod own_acceptor;
 mod pace;
 mod part_len;
 mod part_stream;
-mod place;
 mod read_buffer;
 mod record;
 mod recorded_run;

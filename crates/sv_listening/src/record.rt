@@ -4,12 +4,11 @@ ghost use Rattle.sv_text.specs.Gives.{GivesAnswer};
 ghost use Rattle.sv_listening.specs.Lines as lines;
 
 use crate::lines::{push_lines, push_lost};
-use crate::place::moment_after;
 use crate::recorder::Alarm;
 use std::alloc::Global;
 use std::marker::Model;
 use sv_journal::Entry;
-use sv_run::Happening;
+use sv_run::{Happening, moment_after};
 use sv_streams::Sink;
 use sv_text::{Bytes, NoMemory};
 
@@ -55,7 +54,7 @@ impl<O: Sink, A: Alarm> Record<O, A> {
     pub(crate) fn reach(&mut self, happening: &Happening<'_>)
         ensures { self.new ≡ at_moment (happening_of happening.now) self.old }
     {
-        self.moment = moment_after(self.moment, happening);
+        self.moment = moment_after(self.moment, *happening);
     }
 
     /// Writes the entries of an event of this connection.

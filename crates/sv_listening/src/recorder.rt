@@ -1,6 +1,5 @@
 //! An event handler that records its events.
 
-use crate::place::connection_of;
 use crate::record::Record;
 use std::alloc::Global;
 use sv_connection::Queries;
@@ -49,7 +48,7 @@ impl<R: EventHandler, O: Sink, A: Alarm> EventHandler for Recorder<R, O, A> {
     ghost awaited = { λ recorder connection. R.awaited recorder.within connection };
 
     fn step(&mut self, happening: Happening) -> Result<Reaction, StepFault> {
-        let connection = connection_of(&happening);
+        let connection = happening.connection();
         self.notes.reach(&happening);
         match self.within.step(happening) {
             Ok(reaction) => {

@@ -77,7 +77,11 @@ impl NewConstraint {
     }
 }
 
-pub(crate) fn copied_constraints(
+/// Copies constraints, in order.
+///
+/// # Errors
+/// `NoMemory` if memory runs out.
+pub fn copied_constraints(
     alloc: Global,
     constraints: &[Constraint],
 ) -> Result<Vec<Constraint>, NoMemory>

@@ -28,7 +28,7 @@ mod shared_tables;
 mod table;
 mod tables;
 
-pub use copies::copied_methods;
+pub use copies::{copied_constraints, copied_methods};
 pub use coverage::{covers_at, named_methods, push_texts};
 pub use edit::{Edit, MAX_CONSTRAINTS, NewConstraint};
 pub use edit_fault::EditFault;

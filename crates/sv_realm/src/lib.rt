@@ -13,4 +13,5 @@ pub use laws::{
     a_checked_caller_is_the_named_one, a_digest_that_fits_is_whole, limits_are_as_stated,
     the_first_user_of_a_name_counts,
 };
+pub use password::same_bytes;
 pub use realm::{MAX_USERS, Realm};

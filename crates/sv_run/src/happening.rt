@@ -1,5 +1,9 @@
 //! The events of a container.
 
+ghost use Rattle.std.specs.Prelude.{◌≡◌};
+ghost use Rattle.sv_run.specs.Events.{connection_of};
+ghost use Rattle.sv_run.specs.Seen.{happening_of};
+
 use sv_journal::Journal;
 use sv_message::Segments;
 use sv_policy::{Edit, EditFault};
@@ -37,6 +41,21 @@ pub enum Happening<'a> {
         context: &'a str,
         edit: &'a Edit,
     },
+}
+
+impl Happening<'_> {
+    /// Returns the connection of the event, if it has one.
+    pub fn connection(&self) -> Option<u64>
+        ensures { result ≡ connection_of (happening_of self.now) }
+    {
+        match self {
+            Happening::Opened { connection }
+            | Happening::Piece { connection, .. }
+            | Happening::Ended { connection }
+            | Happening::Lost { connection } => Some(*connection),
+            Happening::Tick { .. } | Happening::Edit { .. } => None,
+        }
+    }
 }
 
 /// The reaction to an accepted event.

@@ -105,6 +105,7 @@ impl<C: HasContextPath, W> Host<C, W> {
     pub fn raise_moment(&mut self, moment: u64)
         ensures state { state_of self.new ≡ record (state_of self.old) { moment = raised (state_of self.old).moment moment } }
         ensures logs { self.new.logs ≡ self.old.logs }
+        ensures accesses { self.new.accesses ≡ self.old.accesses }
     {
         let raised = moment_after(self.date.moment(), Happening::Tick { moment });
         self.date.set(raised);

@@ -1,8 +1,6 @@
 //! Reading the file of a suspended context.
 
-ghost use Rattle.std.specs.Prelude.{◌≡◌, ◌++◌, ℕ, IfOk, IsErrOf, MatchOption, bit_or, bit_xor, fold};
-ghost use Rattle.std.specs.List.{zip};
-ghost use Rattle.std.specs.Str.{bytes_eq};
+ghost use Rattle.std.specs.Prelude.{◌≡◌, ◌++◌, ℕ, IfOk, IsErrOf, MatchOption};
 ghost use Rattle.sv_lifecycle.specs.declared.suspended_context.SuspendedContext.{SuspendedContext};
 ghost use Rattle.sv_saved_sessions.specs.File.{GivesContext, IsAuthentic, IsFile, file_of, signed};
 ghost use Rattle.sv_saved_sessions.specs.Saved.{CanBeSaved};
@@ -12,6 +10,7 @@ use crate::reading_fault::ReadingFault;
 use crate::restoring::read_content;
 use crate::saved_context::SavedContext;
 use std::alloc::Global;
+use sv_realm::same_bytes;
 
 /// Reads the file of a suspended context. The code at its end is compared before anything else is read, and always to
 /// its end, so that the time taken does not show how much of a guess was right.
@@ -50,21 +49,4 @@ fn signed_content<'a>(bytes: &'a [u8], key: &[u8; 32]) -> Option<&'a [u8]>
     } else {
         None
     }
-}
-
-/// Returns whether two byte strings are equal. Strings of the same length are always compared to their ends.
-fn same_bytes(left: &[u8], right: &[u8]) -> bool
-    ensures { result ≡ bytes_eq left.now right.now }
-{
-    left.len() == right.len() && difference(left, right) == 0
-}
-
-/// Returns the bits that differ between any two bytes at the same position. Bytes past the end of the shorter string
-/// are ignored.
-fn difference(left: &[u8], right: &[u8]) -> u8
-    ensures { result ≡ fold (λ bits pair. bit_or bits (bit_xor pair.0 pair.1)) 0 (zip left.now right.now) }
-{
-    left.iter()
-        .zip(right)
-        .fold(0, |bits, (x, y)| bits | (x ^ y))
 }

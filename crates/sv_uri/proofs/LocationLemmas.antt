@@ -84,10 +84,10 @@ location-slashed (part ∷ parts) = location-stays 47 (part ++ slashed parts) re
 abbrev StaysAway : ℕ → ℕ → Type 0
 StaysAway c b = (stays_in_location b && eqb b c) ≡ false
 
-no_escape_byte : (c b : ℕ) → (IsEscapeByte c → ⊥) → IsEscapeByte b → eqb b c ≡ false
+pub no_escape_byte : (c b : ℕ) → (IsEscapeByte c → ⊥) → IsEscapeByte b → eqb b c ≡ false
 no_escape_byte c b never is = ⊎_elim (λ it. absurd (never (subst IsEscapeByte (eqb-true b c it) is))) (λ other. other) (cases_Bool (eqb b c))
 
-holds-escape : (c b : ℕ) → (IsEscapeByte c → ⊥) → holds c (percent_encode_byte b) ≡ false
+pub holds-escape : (c b : ℕ) → (IsEscapeByte c → ⊥) → holds c (percent_encode_byte b) ≡ false
 holds-escape c b never = list_any_none (λ x. eqb x c) (percent_encode_byte b) (All-weaker IsEscapeByte (λ x. eqb x c ≡ false) (λ x is. no_escape_byte c x never is) (percent_encode_byte b) (All-percent_encode_byte b))
 
 pub holds-location : (c : ℕ) (text : List ℕ) → (IsEscapeByte c → ⊥) → All (StaysAway c) text → holds c (location text) ≡ false
@@ -125,30 +125,30 @@ percent_decode-location (b ∷ text) small =
     (cases_Bool (stays_in_location b))
 
 -- ---- escapes have their digits
-abbrev is_percent : ℕ → Bool
+abbrev pub is_percent : ℕ → Bool
 is_percent b = eqb b 37
 
-abbrev is_bad : List ℕ → Bool
+abbrev pub is_bad : List ℕ → Bool
 is_bad behind_percent = not (begins_with_digits behind_percent)
 
-drop_first : (b : ℕ) (parts : List (List ℕ)) → drop 1 (onto_first b parts) ≡ drop 1 parts
+pub drop_first : (b : ℕ) (parts : List (List ℕ)) → drop 1 (onto_first b parts) ≡ drop 1 parts
 drop_first b [] = refl
 drop_first b (part ∷ parts) = refl
 
-digits_first : (high low : ℕ) (parts : List (List ℕ)) → (begins_with_digits (high ∷ low ∷ [])) ≡ true → list_any is_bad (drop 1 parts) ≡ false → list_any is_bad (onto_first high (onto_first low parts)) ≡ false
+pub digits_first : (high low : ℕ) (parts : List (List ℕ)) → (begins_with_digits (high ∷ low ∷ [])) ≡ true → list_any is_bad (drop 1 parts) ≡ false → list_any is_bad (onto_first high (onto_first low parts)) ≡ false
 digits_first high low [] digits rest = rw digits refl
 digits_first high low (part ∷ parts) digits rest = or_from _ _ (not_from_true _ digits) rest
 
-digits_written : (d : ℕ) → d < 16 → is_digit (digit_glyph true d) 16 ≡ true
+pub digits_written : (d : ℕ) → d < 16 → is_digit (digit_glyph true d) 16 ≡ true
 digits_written d small = agree_below_at (λ x. is_digit (digit_glyph true x) 16) (λ _. true) 16 d refl small
 
-digit_is_no_percent : (d : ℕ) → d < 16 → eqb (digit_glyph true d) 37 ≡ false
+pub digit_is_no_percent : (d : ℕ) → d < 16 → eqb (digit_glyph true d) 37 ≡ false
 digit_is_no_percent d small = agree_below_at (λ x. eqb (digit_glyph true x) 37) (λ _. false) 16 d refl small
 
 stays_no_percent : (b : ℕ) → stays_in_location b ≡ true → eqb b 37 ≡ false
 stays_no_percent b stays = ⊎_elim (λ it. absurd (both_ways (stays_in_location b) (ap stays_in_location (eqb-true b 37 it)) stays)) (λ other. other) (cases_Bool (eqb b 37))
 
-escape_is_read : (b : ℕ) (rest : List ℕ) → list_any is_bad (drop 1 (slice_split is_percent rest)) ≡ false → list_any is_bad (drop 1 (slice_split is_percent (percent_encode_byte b ++ rest))) ≡ false
+pub escape_is_read : (b : ℕ) (rest : List ℕ) → list_any is_bad (drop 1 (slice_split is_percent rest)) ≡ false → list_any is_bad (drop 1 (slice_split is_percent (percent_encode_byte b ++ rest))) ≡ false
 unfolding percent_encode_byte
 escape_is_read b rest before =
     let high = digit_glyph true (b / 16 % 16) in
