@@ -17,7 +17,7 @@ use Rattle.sv_session.specs.Ids.{IdsDiffer, NoneHas, number_in}
 use Rattle.sv_session.specs.Lists.{on_first, without_first}
 use Rattle.sv_session.specs.Slots.{AreKept, SlotsRise, due_of, living, number_among}
 use Rattle.sv_session.specs.Store.{IsOrderly, NumbersRise, Session, Store, has_id, is_numbered}
-use Rattle.sv_session.proofs.LiveIdLemmas.{another, differ_kept, differ_left, differ_opened, differ_renamed, found_has, new_id}
+use Rattle.sv_session.proofs.LiveIdLemmas.{another, differ_above, differ_kept, differ_left, differ_opened, differ_renamed, found_has, new_id}
 use Rattle.sv_session.proofs.OrderLemmas.{rise_below}
 use Rattle.sv_session.proofs.SlotLemmas.{IsAt}
 
@@ -361,6 +361,19 @@ kept_ids serial count slots ids others queue kept same = record {
   wait = kept.wait;
   counted = kept.counted;
 }
+
+-- More serials count as used.
+pub kept_used : (serial used count : ℕ) (slots : List Slot) (ids : Ids) (queue : Waiting) → serial ≤ used → used ≤ GREATEST_SERIAL
+    → AreKept serial count slots ids queue → AreKept used count slots ids queue
+kept_used serial used count slots ids queue above fits kept =
+    record {
+      fits = fits;
+      rise = slots_above 0 serial used slots above kept.rise;
+      differ = differ_above serial used (living slots) above kept.differ;
+      named = kept.named;
+      wait = kept.wait;
+      counted = kept.counted;
+    }
 
 -- One id is entered and another removed.
 pub come_and_gone : (number : ℕ) (ids entered left : Ids) (given gone came went : List ℕ) → came ≡ given → went ≡ gone

@@ -40,12 +40,15 @@ pub none_has_more : (id : List ℕ) (sessions : List Session) (last : Session) �
 none_has_more id [] last none other = (other, tt)
 none_has_more id (x ∷ xs) last none other = (none.0, none_has_more id xs last none.1 other)
 
-given_more : (bound : ℕ) (id : List ℕ) → IsGiven bound id → IsGiven (bound + 1) id
-given_more bound id given = (given.0, given.1, omega (arith, given.2), given.3)
+given_above : (bound higher : ℕ) (id : List ℕ) → bound ≤ higher → IsGiven bound id → IsGiven higher id
+given_above bound higher id above given = (given.0, given.1, omega (arith, above, given.2), given.3)
+
+pub differ_above : (bound higher : ℕ) (sessions : List Session) → bound ≤ higher → IdsDiffer bound sessions → IdsDiffer higher sessions
+differ_above bound higher [] above differ = tt
+differ_above bound higher (x ∷ xs) above differ = (given_above bound higher x.id above differ.0, differ.1, differ_above bound higher xs above differ.2)
 
 differ_more : (bound : ℕ) (sessions : List Session) → IdsDiffer bound sessions → IdsDiffer (bound + 1) sessions
-differ_more bound [] differ = tt
-differ_more bound (x ∷ xs) differ = (given_more bound x.id differ.0, differ.1, differ_more bound xs differ.2)
+differ_more bound sessions differ = differ_above bound (bound + 1) sessions (omega arith) differ
 
 pub differ_left : (bound : ℕ) (test : Session → Bool) (sessions : List Session) → IdsDiffer bound sessions → IdsDiffer bound (without_first test sessions)
 differ_left bound test [] differ = differ
@@ -82,7 +85,7 @@ pub differ_opened : (words : ℕ × ℕ) (now bound : ℕ) (sessions : List Sess
     → IdsDiffer (bound + 1) (sessions ++ session_opened words (bound + 1) now ∷ [])
 differ_opened words now bound [] none differ = ((words, bound + 1, omega arith, refl), tt, tt)
 differ_opened words now bound (x ∷ xs) none differ = (
-  given_more bound x.id differ.0,
+  given_above bound (bound + 1) x.id (omega arith) differ.0,
   none_has_more x.id xs (session_opened words (bound + 1) now) differ.1 (λ same. none.0 (sym same)),
   differ_opened words now bound xs none.1 differ.2,
 )
@@ -97,7 +100,7 @@ module _ (words : ℕ × ℕ) (bound : ℕ) (test : Session → Bool) where
   differ_renamed (x ∷ xs) none differ = elim (cases_Bool (test x)) [
     | inl passes ↦ rw passes ((words, bound + 1, omega arith, refl), none.1, differ_more bound xs differ.2)
     | inr fails ↦ rw fails (
-      given_more bound x.id differ.0,
+      given_above bound (bound + 1) x.id (omega arith) differ.0,
       none_has_changed x.id test change (λ session other same. none.0 (sym same)) xs differ.1,
       differ_renamed xs none.1 differ.2,
     )

@@ -1,5 +1,5 @@
 -- Jakarta Servlet 6.0, chapter 7: sessions that outlive a restart.
-use Rattle.std.specs.Prelude.{◌≡◌, ℕ, ◌<◌, ◌≤◌, nat_lt, List, [], ◌∷◌, ◌++◌, Option, find}
+use Rattle.std.specs.Prelude.{◌≡◌, ℕ, ◌<◌, ◌≤◌, nat_lt, min, max, List, [], ◌∷◌, ◌++◌, Option, find}
 use Rattle.std.specs.List.{AllByRecursion}
 use Rattle.sv_session.specs.declared.limits.TheConstants.{GREATEST_SERIAL}
 use Rattle.sv_session.specs.declared.restore_fault.RestoreFault.{RestoreFault}
@@ -14,6 +14,10 @@ session_after number store = find (λ session. nat_lt number session.number) sto
 -- A store of no session, in which the serials up to one have been used.
 abbrev pub used_up_to : ℕ → Store
 used_up_to serial = record { limit = 0; interval = 0; serial = serial; sessions = [] }
+
+-- The store, in which the serials up to one have been used, too.
+abbrev pub with_used : ℕ → Store → Store
+with_used serial store = record store { serial = min (max store.serial serial) GREATEST_SERIAL }
 
 -- A session can follow those of a store. Its number is above theirs. Its number and its id are of serials that have been
 -- used. No session has its id.

@@ -54,7 +54,7 @@ impl Sessions {
     ghost use Rattle.sv_session.specs.Calls as calls;
     ghost use Rattle.sv_session.specs.Id.{id_text};
     ghost use Rattle.sv_session.specs.Calls.{RefusesCall, ended};
-    ghost use Rattle.sv_session.specs.Restoring.{CanBeRestored, CanFollow, RefusesRestore, session_after, used_up_to, with_last};
+    ghost use Rattle.sv_session.specs.Restoring.{CanBeRestored, CanFollow, RefusesRestore, session_after, used_up_to, with_last, with_used};
     ghost use Rattle.sv_session.specs.Store.{IsOrderly, attributes_of, empty_store, is_numbered, number_of, numbered};
 
     /// Creates a store of at most `limit` live sessions. A session expires `interval` seconds after its last access, or
@@ -194,6 +194,13 @@ impl Sessions {
         ensures restorable { CanBeRestored self.now.store }
     {
         self.serial
+    }
+
+    /// Counts all serials up to `serial` as used, but none above [`GREATEST_SERIAL`].
+    pub fn use_serials(&mut self, serial: u64)
+        ensures { self.new ≡ record self.old { store = with_used serial self.old.store } }
+    {
+        self.serial = self.serial.max(serial).min(GREATEST_SERIAL);
     }
 
     /// Appends a session, with its number and its id. The serial stays, and the limit does not count.

@@ -4,6 +4,7 @@ ghost use Rattle.std.specs.Prelude.{◌≡◌, ◌<◌, [], IfOk, IfSome, None, 
 ghost use Rattle.std.specs.Option.{option_copied};
 ghost use Rattle.sv_session.specs.Attributes.{is_named, names_one, value_named, with_named, without_named};
 ghost use Rattle.sv_session.specs.Calls.{ended, is_too_large, session_opened};
+ghost use Rattle.sv_text.specs.Gives.{GivesAnswer};
 
 use crate::due::Due;
 use crate::ended_sessions::EndedSession;
@@ -64,6 +65,23 @@ impl StoredSession {
             caller: None,
             saved: None,
             attributes: Vec::new(alloc),
+        })
+    }
+
+    /// Copies a session.
+    ///
+    /// # Errors
+    /// [`NoMemory`].
+    pub fn copy_of(alloc: Global, session: &StoredSession) -> Result<StoredSession, NoMemory>
+        ensures { GivesAnswer result session.now }
+    {
+        Ok(StoredSession {
+            number: session.number,
+            id: Text::copy_of(alloc, session.id.as_str())?,
+            last_access: session.last_access,
+            caller: session.caller,
+            saved: copied_text(alloc, &session.saved)?,
+            attributes: copied_attributes(alloc, session.attributes.as_slice())?,
         })
     }
 
@@ -219,4 +237,26 @@ impl StoredSession {
             .iter()
             .position(|attribute| attribute.name.as_str() == name)
     }
+}
+
+fn copied_text(alloc: Global, text: &Option<Text>) -> Result<Option<Text>, NoMemory>
+    ensures { GivesAnswer result text.now }
+{
+    match text {
+        Some(text) => Ok(Some(Text::copy_of(alloc, text.as_str())?)),
+        None => Ok(None),
+    }
+}
+
+fn copied_attributes(alloc: Global, attributes: &[Attribute]) -> Result<Vec<Attribute>, NoMemory>
+    ensures { IfOk result (λ copies. copies.items ≡ attributes.now) }
+{
+    let mut copies = Vec::with_capacity(alloc, attributes.len())?;
+    for attribute in attributes {
+        copies.push(Attribute {
+            name: Text::copy_of(alloc, attribute.name.as_str())?,
+            value: Text::copy_of(alloc, attribute.value.as_str())?,
+        })?;
+    }
+    Ok(copies)
 }
