@@ -60,6 +60,13 @@ impl<S: Servlet, F: Filter, L: Listener, W: Words> Container<S, F, L, W> {
         self.host.accesses()
     }
 
+    /// Returns the time, in seconds since 1970: the greatest of the events so far.
+    pub fn moment(&self) -> u64
+        ensures { result ≡ (state_of self.now).moment }
+    {
+        self.host.moment()
+    }
+
     /// Reclaims the memory of an earlier event's bytes and journal, which the caller no longer needs. Later events
     /// reuse it. Only small buffers are kept.
     pub fn recycle(&self, bytes: Vec<u8>, journal: Journal) {

@@ -9,6 +9,7 @@ use crate::responder::Responder;
 use std::alloc::Global;
 use std::marker::Model;
 use sv_component::{Filter, Listener, Servlet};
+use sv_constraints::Constraint;
 use sv_lifecycle::Deployment;
 use sv_login::held;
 use sv_message::Message;
@@ -43,6 +44,25 @@ impl<S, F, L> Context<S, F, L> {
         ensures { result ≡ length self.now.store.sessions }
     {
         self.sessions.count()
+    }
+
+    /// Returns the sessions.
+    pub fn sessions(&self) -> &Sessions
+        ensures { result.now.store ≡ self.now.store }
+    {
+        &self.sessions
+    }
+
+    /// Returns the constraints that the descriptor declares. [`policy`](HasPolicy::policy) has those of now.
+    pub fn declared(&self) -> &[Constraint]
+        ensures { result.now ≡ self.now.content.app.constraints }
+    {
+        self.responder
+            .site
+            .descriptor()
+            .web_app()
+            .constraints
+            .as_slice()
     }
 
     /// Returns the number of the user who is logged in to the session that a message's cookies name, if any (Jakarta

@@ -1,6 +1,6 @@
 //! What contexts resume with, taken from suspended ones.
 
-ghost use Rattle.std.specs.Prelude.{IfOk, IfSome, length, ◌<◌, ◌≡◌};
+ghost use Rattle.std.specs.Prelude.{IfOk, IfSome, OnErr, length, ◌<◌, ◌≡◌};
 ghost use Rattle.sv_context.specs.Resuming.{IsOf, Takes, TakesAll, constraints_resumed, place_of_path};
 ghost use Rattle.sv_policy.specs.Resuming.{Resumes as ResumesConstraints};
 
@@ -37,7 +37,8 @@ impl Resumption {
         deployment: &Deployment<S, F, L>,
         suspended: &mut Vec<SuspendedContext>,
     ) -> Result<Option<Resumption>, NoMemory>
-        ensures { IfOk result (λ taken. Takes deployment.now suspended.old.items taken suspended.new.items) }
+        ensures taken { IfOk result (λ taken. Takes deployment.now suspended.old.items taken suspended.new.items) }
+        ensures refused { OnErr result (suspended.new.items ≡ suspended.old.items) }
     {
         let Some(place) = place_of(suspended.as_slice(), deployment.path.as_str()) else {
             return Ok(None);
@@ -89,7 +90,7 @@ fn with(policy: Policy, suspended: SuspendedContext) -> Resumption
 /// Takes what remains of the contexts of deployments, one after another. The rest is left in the list.
 ///
 /// # Errors
-/// `NoMemory` if an allocation fails; then what was taken is dropped.
+/// `NoMemory` if an allocation fails; then some may have been taken, and are dropped.
 pub fn take_all<S: Servlet, F: Filter, L: Listener>(
     alloc: Global,
     deployments: &[Deployment<S, F, L>],
