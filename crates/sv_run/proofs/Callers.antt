@@ -10,7 +10,7 @@ use Rattle.sv_run.specs.Effect.{Answered, Deed, Effect, Handled}
 use Rattle.sv_run.specs.Events.{Accepts, Edited, Ended, ExpiresAll, Happening, Happens, Lost, Opened, Piece, Tick}
 use Rattle.sv_run.specs.Items.{HandlesAt, Responds, Takes, TakesItem}
 use Rattle.sv_run.specs.Lawful.{EditsAlone, GivesCallersByLogin, Holds, LogsIn}
-use Rattle.sv_run.specs.Laws.{CallersLoggedIn, HoldsAt, KeepsCaller, LoggedInBefore}
+use Rattle.sv_run.specs.Laws.{CallersLoggedIn, CallersStayOrLogIn, HeldThroughout, HoldsAt, KeepsCaller, LoggedInBefore}
 use Rattle.sv_run.specs.Messages.{Destination, Itself, Within, destination}
 use Rattle.sv_run.specs.Runs.{Answer, Run, deeds_of}
 use Rattle.sv_run.specs.State.{State, World}
@@ -59,8 +59,7 @@ module _ {Context Words : Type 0} (theory : Theory Context Words) (place number 
   abbrev Came : List Context → List (Deed Context) → List Context → Type 0
   Came before deeds after =
       HoldsAt theory place number caller after
-      → (HoldsAt theory place number caller before × AllByRecursion (KeepsCaller theory place number caller) deeds)
-      ⊎ LoggedInBefore theory place number caller deeds
+      → HeldThroughout theory place number caller before deeds ⊎ LoggedInBefore theory place number caller deeds
 
   came_so : (before : List Context) → Came before [] before
   came_so before holds = inl (holds, tt)
@@ -270,12 +269,15 @@ module _ {Context Words : Type 0} (theory : Theory Context Words) (place number 
     came_run before after (happening ∷ happenings) (Err NoMemory ∷ answers) run runs =
         absurd (runs_on (stopped_stays theory run.0 after happenings answers run.2 run.1.stops) runs)
 
+pub callers_stay_or_log_in : {Context Words : Type 0} (theory : Theory Context Words) → EditsAlone theory.path_of theory.conduct → GivesCallersByLogin theory → CallersStayOrLogIn theory
+callers_stay_or_log_in theory alone lawful before after happenings answers place number caller run runs holds =
+    came_run theory place number caller alone lawful before after happenings answers run runs holds
+
 pub callers_logged_in : {Context Words : Type 0} (theory : Theory Context Words) → EditsAlone theory.path_of theory.conduct → GivesCallersByLogin theory → CallersLoggedIn theory
 callers_logged_in theory alone lawful before after happenings answers place number caller run runs not_before holds =
     found (came_run theory place number caller alone lawful before after happenings answers run runs holds)
   where
-    found : (HoldsAt theory place number caller before.world.contexts × AllByRecursion (KeepsCaller theory place number caller) (deeds_of answers))
-        ⊎ LoggedInBefore theory place number caller (deeds_of answers)
+    found : HeldThroughout theory place number caller before.world.contexts (deeds_of answers) ⊎ LoggedInBefore theory place number caller (deeds_of answers)
         → LoggedInBefore theory place number caller (deeds_of answers)
     found (inl held) = absurd (not_before held.0)
     found (inr logged) = logged

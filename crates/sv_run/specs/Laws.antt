@@ -1,5 +1,5 @@
 -- The laws of runs.
-use Rattle.std.specs.Prelude.{◌≡◌, ◌≢◌, ◌↔◌, ℕ, true, false, List, [], ◌∷◌, ◌++◌, bytes_eq, filter, flat_map, map, Option, Some, Ok, Err, if◌then◌else◌, slice_get}
+use Rattle.std.specs.Prelude.{◌≡◌, ◌≢◌, ◌↔◌, ◌⊎◌, ℕ, true, false, List, [], ◌∷◌, ◌++◌, bytes_eq, filter, flat_map, map, Option, Some, Ok, Err, if◌then◌else◌, slice_get}
 use Rattle.std.specs.List.{AllByRecursion}
 use Rattle.sv_constraints.specs.declared.owned_decision.OwnedDecision.TheVariants as decisions
 use Rattle.sv_constraints.specs.declared.owned_decision.OwnedWhy.{OwnedWhy}
@@ -224,6 +224,19 @@ module _ {Context Words : Type 0} (theory : Theory Context Words) where
     pub context : Context
     pub there : slice_get contexts place ≡ Some context
     pub holds : Holds theory number caller context
+
+  -- a session held the caller before these messages, and each of them kept it
+  abbrev pub HeldThroughout : ℕ → ℕ → ℕ → List Context → List (Deed Context) → Type 0
+  HeldThroughout place number caller contexts deeds =
+      HoldsAt place number caller contexts × AllByRecursion (KeepsCaller place number caller) deeds
+
+  -- as long as no event runs out of memory, a session that holds a caller held it before, and throughout, or gained it by
+  -- a successful login that nothing has undone since
+  abbrev pub CallersStayOrLogIn : Type 0
+  CallersStayOrLogIn =
+      (before after : State Context Words) (happenings : List Happening) (answers : List (Answer Context)) (place number caller : ℕ)
+      → Run theory before happenings answers after → after.stopped ≡ false → HoldsAt place number caller after.world.contexts
+      → HeldThroughout place number caller before.world.contexts (deeds_of answers) ⊎ LoggedInBefore place number caller (deeds_of answers)
 
   -- as long as no event runs out of memory, a session gains a caller only by a successful login that nothing has undone
   -- since

@@ -3,7 +3,7 @@
 ghost use Rattle.std.specs.Prelude.{◌≡◌};
 ghost use Rattle.sv_run.specs.Contexts.{theory_of};
 ghost use Rattle.sv_run.specs.Lawful.{ChangesConstraintsByEdits, EndsExpired, GivesCallersByLogin, TellsOutcomes};
-ghost use Rattle.sv_run.specs.Laws.{CallersLoggedIn, ConstraintsChangeByEditsAlone, EndedReadingsStay, FeedingsMayBeCut, OrdersAreAlike, OthersStay, PiecesMayBeCut, PiecesMayComeInParts, RefusedEventsChangeNothing, RequestsEnterExactlyWhereAllowed, RunsJoin, RunsSplit, WantOfMemoryStops};
+ghost use Rattle.sv_run.specs.Laws.{CallersLoggedIn, CallersStayOrLogIn, ConstraintsChangeByEditsAlone, EndedReadingsStay, FeedingsMayBeCut, OrdersAreAlike, OthersStay, PiecesMayBeCut, PiecesMayComeInParts, RefusedEventsChangeNothing, RequestsEnterExactlyWhereAllowed, RunsJoin, RunsSplit, WantOfMemoryStops};
 ghost use Rattle.sv_run.specs.Orders.{OrdersAreTakenAlike, PiecesAreTakenInParts};
 
 use crate::context::{Context, Words};
@@ -24,6 +24,13 @@ pub fn requests_enter_exactly_where_allowed<C: Context, W: Words>()
 {
     a_message_enters_exactly_by_an_open_verdict();
 }
+
+/// If sessions get callers only by logins, then for every list of events, as long as no event runs out of memory, a
+/// session that holds a caller held it before, and throughout, or gained it by a successful login that nothing has undone
+/// since.
+pub fn callers_stay_or_log_in<C: Context, W: Words>()
+    ensures { GivesCallersByLogin (theory_of C.path_of C.conduct W.draws) → CallersStayOrLogIn (theory_of C.path_of C.conduct W.draws) }
+{}
 
 /// If sessions get callers only by logins, then for every list of events, as long as no event runs out of memory, a
 /// session gains a caller only by a successful login that nothing has undone since.
