@@ -19,7 +19,7 @@ use Rattle.sv_message.specs.declared.message.Message.{Message as MessageRecord}
 use Rattle.sv_message.specs.declared.message.Target.{Target}
 use Rattle.sv_policy.specs.declared.edit.Edit.{Edit}
 use Rattle.sv_policy.specs.declared.edit_fault.EditFault.{EditFault}
-use Rattle.sv_run.proofs.Callers.{runs_on, stopped_stays}
+use Rattle.sv_run.proofs.Tracing.{runs_on, stopped_stays}
 use Rattle.sv_run.specs.Connections.{Connections, forgotten, opened}
 use Rattle.sv_run.specs.Contexts.{Request}
 use Rattle.sv_run.specs.Editing.{EditsIn, place_with}

@@ -7,7 +7,7 @@ use Rattle.sv_headline.specs.Record.{EveryRunIsLawful, IsLawfulRun}
 use Rattle.sv_headline.specs.Until.{EveryRunIsLawfulUntilRefused, IsLawfulUpTo}
 use Rattle.sv_context.specs.State.{ContextState}
 use Rattle.sv_context.specs.Theory as contexts
-use Rattle.sv_run.proofs.Callers.{runs_on}
+use Rattle.sv_run.proofs.Tracing.{runs_on}
 use Rattle.sv_run.proofs.Refusals.{accepted_runs}
 use Rattle.sv_run.specs.Contexts.{Theory}
 use Rattle.sv_run.specs.Events.{Breaks, Happening}

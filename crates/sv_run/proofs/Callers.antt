@@ -16,7 +16,7 @@ use Rattle.sv_run.specs.Runs.{Answer, Run, deeds_of}
 use Rattle.sv_run.specs.State.{State, World}
 use Rattle.sv_run.specs.declared.step_fault.StepFault.TheVariants.{Stopped, BadConnection, TooManyConnections, NoMemory}
 use Rattle.sv_run.proofs.Outcomes.{all_append}
-use Rattle.sv_run.proofs.Taking.{either}
+use Rattle.sv_run.proofs.Tracing.{IsKept, kept_run}
 use Rattle.sv_session.specs.Calls.{HoldsCaller}
 use Rattle.sv_session.specs.Store.{Store}
 use Rattle.sv_wire.specs.declared.item.Item.{Item}
@@ -36,23 +36,6 @@ at_set (item ∷ items) (suc set) (suc place) new there found = next (at_set ite
         → ((suc place ≡ suc set) × (new ≡ there)) ⊎ ((suc place ≢ suc set) × (slice_get items place ≡ Some there))
     next (inl here) = inl (ap suc here.0, here.1)
     next (inr apart) = inr (λ same. apart.0 (cc), apart.1)
-
--- no container is both stopped and running
-pub runs_on : {b : Bool} → b ≡ true → b ≡ false → ⊥
-runs_on is not = absurd (cc)
-
--- a container that is stopped stays stopped
-pub stopped_stays : {Context Words : Type 0} (theory : Theory Context Words) (before after : State Context Words) (happenings : List Happening) (answers : List (Answer Context))
-    → Run theory before happenings answers after → before.stopped ≡ true → after.stopped ≡ true
-stopped_stays theory before after [] [] run stopped = ap (λ s. s.stopped) run ∙ stopped
-stopped_stays theory before after [] (answer ∷ answers) run stopped = absurd run
-stopped_stays theory before after (happening ∷ happenings) [] run stopped = absurd run
-stopped_stays theory before after (happening ∷ happenings) (Ok effect ∷ answers) run stopped = absurd (runs_on stopped run.1.runs)
-stopped_stays {Context} {Words} theory before after (happening ∷ happenings) (Err Stopped ∷ answers) run stopped =
-    stopped_stays theory run.0 after happenings answers run.2 (ap (λ (s : State Context Words). s.stopped) run.1.1 ∙ stopped)
-stopped_stays theory before after (happening ∷ happenings) (Err BadConnection ∷ answers) run stopped = absurd (runs_on stopped run.1.runs)
-stopped_stays theory before after (happening ∷ happenings) (Err TooManyConnections ∷ answers) run stopped = absurd (runs_on stopped run.1.runs)
-stopped_stays theory before after (happening ∷ happenings) (Err NoMemory ∷ answers) run stopped = absurd (runs_on stopped run.1.runs)
 
 module _ {Context Words : Type 0} (theory : Theory Context Words) (place number caller : ℕ) where
   -- a session that holds the caller held it before, and throughout, or got it by a login
@@ -141,38 +124,6 @@ module _ {Context Words : Type 0} (theory : Theory Context Words) (place number 
           ((λ same. absurd (apart.0 same)), tt),
         )
 
-    came_responds : (moment : ℕ) (to : Destination) (message : MessageRecord) (words : ℕ × ℕ) (before after : List Context) (effect : Effect Context)
-        → Responds theory moment to message words before effect after → Came before effect.deeds after
-    came_responds moment (Itself entry response) message words before after effect responds =
-        subst (λ (e : Effect Context). Came before e.deeds after) (sym responds.2) (came_answered before after entry responds.3)
-    came_responds moment (Within other canon) message words before after effect responds =
-        subst (λ (e : Effect Context). Came before e.deeds after) (sym responds.5) (came_handled moment other before after responds.0 responds.3)
-
-    came_item : (moment : ℕ) (item : Item) (before after : World Context Words) (effect : Effect Context)
-        → TakesItem theory moment item before effect after → Came before.contexts effect.deeds after.contexts
-    came_item moment Continue before after effect takes =
-        subst (λ (e : Effect Context). Came before.contexts e.deeds after.contexts) (sym takes.0)
-        (came_same before.contexts after.contexts (ap (λ (w : World Context Words). w.contexts) takes.1))
-    came_item moment (Refuse fault) before after effect takes =
-        subst (λ (e : Effect Context). Came before.contexts e.deeds after.contexts) (sym takes.2)
-        (came_answered before.contexts after.contexts _ (ap (λ (w : World Context Words). w.contexts) takes.3))
-    came_item moment (Message message) before after effect takes =
-        came_responds moment (destination theory before.contexts message.target) message takes.0 before.contexts after.contexts effect takes.2
-
-    came_takes : (moment : ℕ) (items : List Item) (before after : World Context Words) (effect : Effect Context)
-        → Takes theory moment items before effect after → Came before.contexts effect.deeds after.contexts
-    came_takes moment [] before after effect takes =
-        subst (λ (e : Effect Context). Came before.contexts e.deeds after.contexts) (sym takes.0)
-        (came_same before.contexts after.contexts (ap (λ (w : World Context Words). w.contexts) takes.1))
-    came_takes moment (item ∷ items) before after effect takes =
-        subst (λ (e : Effect Context). Came before.contexts e.deeds after.contexts) (sym takes.5)
-        (came_on before.contexts takes.0.contexts after.contexts takes.1.deeds takes.2.deeds
-        (came_item moment item before takes.0 takes.1 takes.3)
-        (either takes.1.closes takes.4
-        (λ none. subst (λ (e : Effect Context). Came takes.0.contexts e.deeds after.contexts) (sym none.0)
-        (came_same takes.0.contexts after.contexts (ap (λ (w : World Context Words). w.contexts) none.1)))
-        (λ rest. came_takes moment items takes.0 after takes.2 rest)))
-
     -- an edit keeps the sessions, and so their callers
     came_edited : (found : Option ℕ) (before after : List Context) (edit : Edit) (answer : Result ℕ EditFault) → EditsIn theory found before edit answer after
         → Came before [] after
@@ -194,28 +145,6 @@ module _ {Context Words : Type 0} (theory : Theory Context Words) (place number 
               tt,
             )
         by_place (inr apart) = inl (record { context = holds.context; there = apart.1; holds = holds.holds }, tt)
-
-    came_happens : (before after : State Context Words) (happening : Happening) (effect : Effect Context)
-        → Happens theory before happening effect after → Came before.world.contexts effect.deeds after.world.contexts
-    came_happens before after (Opened other) effect happens =
-        subst (λ ds. Came before.world.contexts ds after.world.contexts) (sym (ap (λ (e : Effect Context). e.deeds) happens.0))
-        (came_same before.world.contexts after.world.contexts (ap (λ (s : State Context Words). s.world.contexts) happens.1))
-    came_happens before after (Piece other bytes moment) effect happens =
-        subst (λ cs. Came before.world.contexts effect.deeds cs) (sym (ap (λ (s : State Context Words). s.world.contexts) happens.is_after))
-        (came_takes before.moment happens.items before.world happens.world effect happens.takes)
-    came_happens before after (Ended other) effect happens =
-        subst (λ ds. Came before.world.contexts ds after.world.contexts) (sym (ap (λ (e : Effect Context). e.deeds) happens.0))
-        (came_same before.world.contexts after.world.contexts (ap (λ (s : State Context Words). s.world.contexts) happens.1))
-    came_happens before after (Lost other) effect happens =
-        subst (λ ds. Came before.world.contexts ds after.world.contexts) (sym (ap (λ (e : Effect Context). e.deeds) happens.0))
-        (came_same before.world.contexts after.world.contexts (ap (λ (s : State Context Words). s.world.contexts) happens.1))
-    came_happens before after (Tick moment) effect happens =
-        subst (λ ds. Came before.world.contexts ds after.world.contexts) (sym (ap (λ (e : Effect Context). e.deeds) happens.0))
-        (came_same before.world.contexts after.world.contexts (ap (λ (s : State Context Words). s.world.contexts) happens.1))
-    came_happens before after (Edited path edit) effect happens =
-        subst (λ ds. Came before.world.contexts ds after.world.contexts) (sym (ap (λ (e : Effect Context). e.deeds) happens.brings))
-        (subst (λ cs. Came before.world.contexts [] cs) (sym (ap (λ (s : State Context Words). s.world.contexts) happens.is_after))
-        (came_edited (place_with theory before.world.contexts path) before.world.contexts happens.contexts edit happens.answer happens.edits))
 
     -- sessions lose their callers when they end
     held_before : (contexts after : List Context) (moment : ℕ) (told : List Entry) (at : ℕ) → ExpiresAll theory.conduct contexts moment told after
@@ -244,38 +173,23 @@ module _ {Context Words : Type 0} (theory : Theory Context Words) (place number 
         let old = held_before contexts after moment told place expires holds.context holds.there holds.holds in
         inl (record { context = old.0; there = old.1; holds = old.2 }, tt)
 
-    came_accepts : (before after : State Context Words) (happening : Happening) (effect : Effect Context)
-        → Accepts theory before happening effect after → Came before.world.contexts effect.deeds after.world.contexts
-    came_accepts before after happening effect accepts =
-        subst (λ (e : Effect Context). Came before.world.contexts e.deeds after.world.contexts) (sym accepts.is_joined)
-        (came_on before.world.contexts accepts.contexts after.world.contexts [] accepts.brings.deeds
-        (came_expires before.world.contexts accepts.contexts _ accepts.told accepts.expires)
-        (came_happens _ after happening accepts.brings accepts.happens))
-
-    came_run : (before after : State Context Words) (happenings : List Happening) (answers : List (Answer Context))
-        → Run theory before happenings answers after → after.stopped ≡ false → Came before.world.contexts (deeds_of answers) after.world.contexts
-    came_run before after [] [] run runs = came_same before.world.contexts after.world.contexts (ap (λ (s : State Context Words). s.world.contexts) run)
-    came_run before after [] (answer ∷ answers) run runs = absurd run
-    came_run before after (happening ∷ happenings) [] run runs = absurd run
-    came_run before after (happening ∷ happenings) (Ok effect ∷ answers) run runs =
-        came_on before.world.contexts run.0.world.contexts after.world.contexts effect.deeds (deeds_of answers)
-        (came_accepts before run.0 happening effect run.1) (came_run run.0 after happenings answers run.2 runs)
-    came_run before after (happening ∷ happenings) (Err Stopped ∷ answers) run runs =
-        subst (λ (s : State Context Words). Came s.world.contexts (deeds_of answers) after.world.contexts) run.1.1 (came_run run.0 after happenings answers run.2 runs)
-    came_run before after (happening ∷ happenings) (Err BadConnection ∷ answers) run runs =
-        subst (λ (s : State Context Words). Came s.world.contexts (deeds_of answers) after.world.contexts) run.1.stays (came_run run.0 after happenings answers run.2 runs)
-    came_run before after (happening ∷ happenings) (Err TooManyConnections ∷ answers) run runs =
-        subst (λ (s : State Context Words). Came s.world.contexts (deeds_of answers) after.world.contexts) run.1.stays (came_run run.0 after happenings answers run.2 runs)
-    came_run before after (happening ∷ happenings) (Err NoMemory ∷ answers) run runs =
-        absurd (runs_on (stopped_stays theory run.0 after happenings answers run.2 run.1.stops) runs)
+    kept_callers : IsKept theory Came
+    kept_callers = record {
+      none = came_so;
+      both = came_on;
+      answered = λ contexts entry. came_answered contexts contexts entry refl;
+      handled = came_handled;
+      edited = came_edited;
+      expired = came_expires;
+    }
 
 pub callers_stay_or_log_in : {Context Words : Type 0} (theory : Theory Context Words) → EditsAlone theory.path_of theory.conduct → GivesCallersByLogin theory → CallersStayOrLogIn theory
 callers_stay_or_log_in theory alone lawful before after happenings answers place number caller run runs holds =
-    came_run theory place number caller alone lawful before after happenings answers run runs holds
+    kept_run theory (Came theory place number caller) (kept_callers theory place number caller alone lawful) before after happenings answers run runs holds
 
 pub callers_logged_in : {Context Words : Type 0} (theory : Theory Context Words) → EditsAlone theory.path_of theory.conduct → GivesCallersByLogin theory → CallersLoggedIn theory
 callers_logged_in theory alone lawful before after happenings answers place number caller run runs not_before holds =
-    found (came_run theory place number caller alone lawful before after happenings answers run runs holds)
+    found (callers_stay_or_log_in theory alone lawful before after happenings answers place number caller run runs holds)
   where
     found : HeldThroughout theory place number caller before.world.contexts (deeds_of answers) ⊎ LoggedInBefore theory place number caller (deeds_of answers)
         → LoggedInBefore theory place number caller (deeds_of answers)

@@ -24,7 +24,7 @@ use Rattle.sv_run.specs.Runs.{Answer, Run}
 use Rattle.sv_run.specs.State.{State, World}
 use Rattle.sv_run.specs.declared.step_fault.StepFault.{StepFault}
 use Rattle.sv_run.specs.declared.step_fault.StepFault.TheVariants.{Stopped, BadConnection, TooManyConnections, NoMemory}
-use Rattle.sv_run.proofs.Callers.{runs_on, stopped_stays}
+use Rattle.sv_run.proofs.Tracing.{runs_on, stopped_stays}
 use Rattle.sv_run.proofs.Taking.{either}
 use Rattle.sv_wire.specs.declared.item.Item.{Item}
 use Rattle.sv_wire.specs.declared.item.Item.TheVariants.{Continue, Message, Refuse}

@@ -6,7 +6,7 @@ use Rattle.sv_run.specs.Events.{Happening}
 use Rattle.sv_run.specs.Laws.{RefusedEventsChangeNothing, RunsJoin, RunsSplit, WantOfMemoryStops}
 use Rattle.sv_run.specs.Runs.{Answer, Run}
 use Rattle.sv_run.specs.State.{State}
-use Rattle.sv_run.proofs.Callers.{runs_on}
+use Rattle.sv_run.proofs.Tracing.{runs_on}
 use Rattle.sv_run.specs.declared.step_fault.StepFault.TheVariants.{Stopped, BadConnection, TooManyConnections, NoMemory}
 
 module _ {Context Words : Type 0} (theory : Theory Context Words) where

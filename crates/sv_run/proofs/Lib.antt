@@ -20,5 +20,7 @@ mod Orders
 pub mod Outcomes
 pub mod Reactions
 pub mod Refusals
+mod SessionCalls
 mod Stepping
 pub mod Taking
+mod Tracing

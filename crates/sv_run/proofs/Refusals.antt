@@ -14,7 +14,7 @@ use Rattle.sv_run.specs.State.{State, settled_at}
 use Rattle.sv_run.specs.declared.step_fault.StepFault.{StepFault}
 use Rattle.sv_run.specs.declared.step_fault.StepFault.TheVariants.{Stopped, BadConnection, TooManyConnections, NoMemory}
 use Rattle.sv_run.proofs.Beside.{fault_beside, happens_apart}
-use Rattle.sv_run.proofs.Callers.{runs_on}
+use Rattle.sv_run.proofs.Tracing.{runs_on}
 use Rattle.sv_run.proofs.Cuts.{in_parts, of_parts}
 use Rattle.sv_run.proofs.Joining.{refused_events_change_nothing}
 use Rattle.sv_run.proofs.Orders.{other_first, piece_first}

@@ -13,6 +13,7 @@ use Rattle.sv_policy.specs.declared.edit.Edit.{Edit}
 use Rattle.sv_policy.specs.declared.edit_fault.EditFault.{EditFault}
 use Rattle.sv_run.specs.Contexts.{Conduct, Handling, HasNoneExpired, Theory}
 use Rattle.sv_session.specs.Calls.{HoldsCaller}
+use Rattle.sv_session.specs.Runs.{ChangedByCalls}
 
 -- whether an entry reports the outcome of a message; the other entries report calls and notifications
 abbrev pub is_outcome : Entry → Bool
@@ -93,6 +94,13 @@ module _ {Context Words : Type 0} (theory : Theory Context Words) where
         → Holds number caller handling.context ⊎ LogsIn number caller handling
     pub not_by_expiry : (context after : Context) (moment : ℕ) (told : List Entry) (number caller : ℕ)
         → theory.conduct.Expires context moment told after → Holds number caller after → Holds number caller context
+
+  -- requests and expiry change the sessions only by calls
+  pub record ChangesSessionsByCalls : Type 0 where
+    pub by_request : (handling : Handling Context) → theory.conduct.Handles handling
+        → ChangedByCalls (theory.conduct.sessions_of handling.context) (theory.conduct.sessions_of handling.after)
+    pub by_expiry : (context after : Context) (moment : ℕ) (told : List Entry)
+        → theory.conduct.Expires context moment told after → ChangedByCalls (theory.conduct.sessions_of context) (theory.conduct.sessions_of after)
 
   -- the constraints and the path are unchanged
   pub record KeepsConstraints (before after : Context) : Type 0 where

@@ -20,6 +20,7 @@ use Rattle.sv_run.specs.Runs.{Answer, Run, deeds_of, journal_of}
 use Rattle.sv_run.specs.State.{State}
 use Rattle.sv_run.specs.declared.step_fault.StepFault.{StepFault}
 use Rattle.sv_run.specs.declared.step_fault.StepFault.TheVariants.{NoMemory, Stopped}
+use Rattle.sv_session.specs.Runs.{ChangedByCalls}
 use Rattle.sv_wire.specs.Inbox.{Held}
 use Rattle.sv_wire.specs.Items.{are_ended}
 use Rattle.sv_wire.specs.Reads.{Reads}
@@ -246,6 +247,14 @@ module _ {Context Words : Type 0} (theory : Theory Context Words) where
       → Run theory before happenings answers after → after.stopped ≡ false
       → ¬ (HoldsAt place number caller before.world.contexts) → HoldsAt place number caller after.world.contexts
       → LoggedInBefore place number caller (deeds_of answers)
+
+  -- as long as no event runs out of memory, the sessions of each context change only by calls
+  abbrev pub SessionsChangeByCalls : Type 0
+  SessionsChangeByCalls =
+      (before after : State Context Words) (happenings : List Happening) (answers : List (Answer Context)) (place : ℕ) (first : Context)
+      → Run theory before happenings answers after → after.stopped ≡ false → slice_get before.world.contexts place ≡ Some first
+      → (last : Context) × (slice_get after.world.contexts place ≡ Some last)
+      × ChangedByCalls (theory.conduct.sessions_of first) (theory.conduct.sessions_of last)
 
   -- the current constraints of the context at a place
   abbrev pub policy_at : List Context → ℕ → Option Standing

@@ -2,8 +2,8 @@
 
 ghost use Rattle.std.specs.Prelude.{◌≡◌};
 ghost use Rattle.sv_run.specs.Contexts.{theory_of};
-ghost use Rattle.sv_run.specs.Lawful.{ChangesConstraintsByEdits, EndsExpired, GivesCallersByLogin, TellsOutcomes};
-ghost use Rattle.sv_run.specs.Laws.{CallersLoggedIn, CallersStayOrLogIn, ConstraintsChangeByEditsAlone, EndedReadingsStay, FeedingsMayBeCut, OrdersAreAlike, OthersStay, PiecesMayBeCut, PiecesMayComeInParts, RefusedEventsChangeNothing, RequestsEnterExactlyWhereAllowed, RunsJoin, RunsSplit, WantOfMemoryStops};
+ghost use Rattle.sv_run.specs.Lawful.{ChangesConstraintsByEdits, ChangesSessionsByCalls, EndsExpired, GivesCallersByLogin, TellsOutcomes};
+ghost use Rattle.sv_run.specs.Laws.{CallersLoggedIn, CallersStayOrLogIn, ConstraintsChangeByEditsAlone, EndedReadingsStay, FeedingsMayBeCut, OrdersAreAlike, OthersStay, PiecesMayBeCut, PiecesMayComeInParts, RefusedEventsChangeNothing, RequestsEnterExactlyWhereAllowed, RunsJoin, RunsSplit, SessionsChangeByCalls, WantOfMemoryStops};
 ghost use Rattle.sv_run.specs.Orders.{OrdersAreTakenAlike, PiecesAreTakenInParts};
 
 use crate::context::{Context, Words};
@@ -36,6 +36,12 @@ pub fn callers_stay_or_log_in<C: Context, W: Words>()
 /// session gains a caller only by a successful login that nothing has undone since.
 pub fn callers_logged_in<C: Context, W: Words>()
     ensures { GivesCallersByLogin (theory_of C.path_of C.conduct W.draws) → CallersLoggedIn (theory_of C.path_of C.conduct W.draws) }
+{}
+
+/// If requests and expiry change sessions only by calls, then for every list of events, as long as no event runs out of
+/// memory, the sessions of each context change only by calls.
+pub fn sessions_change_by_calls<C: Context, W: Words>()
+    ensures { ChangesSessionsByCalls (theory_of C.path_of C.conduct W.draws) → SessionsChangeByCalls (theory_of C.path_of C.conduct W.draws) }
 {}
 
 /// Once an item has ended the reading of a connection, further bytes change nothing.

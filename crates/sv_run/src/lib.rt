@@ -37,7 +37,7 @@ pub use laws::{
     ended_readings_stay, feedings_may_be_cut, limits_are_as_stated, orders_are_alike,
     orders_are_taken_alike, others_stay, pieces_are_taken_in_parts, pieces_may_be_cut,
     pieces_may_come_in_parts, refused_events_change_nothing, requests_enter_exactly_where_allowed,
-    runs_join, runs_split, want_of_memory_stops,
+    runs_join, runs_split, sessions_change_by_calls, want_of_memory_stops,
 };
 pub use limits::{LAST_MOMENT, MAX_CONNECTIONS};
 pub use output::Output;

@@ -8,7 +8,7 @@ use Rattle.sv_session.specs.Store.{IsOrderly, Store}
 use Rattle.sv_session.proofs.CallerLemmas.{call_enters}
 use Rattle.sv_session.proofs.RunLemmas.{call_leaves_none, call_leaves_order}
 
-left-append : (front back : List Call) (store : Store) → left_after (front ++ back) store ≡ left_after back (left_after front store)
+pub left-append : (front back : List Call) (store : Store) → left_after (front ++ back) store ≡ left_after back (left_after front store)
 left-append [] back store = refl
 left-append (call ∷ front) back store = left-append front back (left_by call store)
 

@@ -1,8 +1,10 @@
 -- Jakarta Servlet 6.0, chapter 7: theorems about the calls on the sessions of a context.
-use Rattle.std.specs.Prelude.{◌≡◌, ◌≢◌, ◌↔◌, ◌⊎◌, ◌<◌, ℕ, ◌+◌, false, List, [], ◌∷◌, length, Some, None, map}
+use Rattle.std.specs.Prelude.{◌≡◌, ◌≢◌, ◌↔◌, ◌⊎◌, ◌<◌, ◌≤◌, ℕ, ◌+◌, false, List, [], ◌∷◌, length, Some, None, map}
 use Rattle.std.specs.List.{AllPairs}
 use Rattle.sv_session.specs.declared.ended_sessions.EndedSession.{EndedSession}
 use Rattle.sv_session.specs.declared.session_fault.SessionFault.TheVariants.{SerialSpent}
+use Rattle.sv_session.specs.Id.{id_text}
+use Rattle.sv_session.specs.declared.limits.TheConstants.{GREATEST_SERIAL}
 use Rattle.sv_session.specs.Calls.{HoldsCaller, caller_of, ended, expiring, judged_by_expiry, opening_faults, renaming_faults, session_opened, touched}
 use Rattle.sv_session.specs.Expiry.{HasNoneExpired, by_deadline, expired, has_expired, unexpired}
 use Rattle.sv_session.specs.Runs.{Call, EnterCaller, Expires, IsAt, MovedByComponents, ids_given, left_after, left_by}
@@ -11,6 +13,21 @@ use Rattle.sv_session.specs.Store.{IsOrderly, Session, Store, empty_store, numbe
 -- No two ids that a context gives are the same, for any calls.
 abbrev pub NoIdIsGivenTwice : Type 0
 NoIdIsGivenTwice = (limit interval : ℕ) (calls : List Call) → AllPairs (λ a b. a ≢ b) (ids_given calls (empty_store limit interval))
+
+-- Each id was made with a serial of its own. The serials rise; all are above the first bound, and none is above the second.
+abbrev pub AreGivenBetween : ℕ → ℕ → List (List ℕ) → Type 0
+AreGivenBetween low high [] = low ≤ high
+AreGivenBetween low high (id ∷ ids) =
+    (words : ℕ × ℕ) × (serial : ℕ) × (low < serial) × (serial ≤ GREATEST_SERIAL) × (id ≡ id_text words serial) × AreGivenBetween serial high ids
+
+-- From any store, the ids that calls give are made with the serials that the calls use.
+abbrev pub IdsRiseWithTheSerial : Type 0
+IdsRiseWithTheSerial = (calls : List Call) (store : Store) → store.serial ≤ GREATEST_SERIAL
+    → AreGivenBetween store.serial (left_after calls store).serial (ids_given calls store)
+
+-- Such ids differ.
+abbrev pub RisingIdsDiffer : Type 0
+RisingIdsDiffer = (low high : ℕ) (ids : List (List ℕ)) → AreGivenBetween low high ids → AllPairs (λ a b. a ≢ b) ids
 
 -- Each live session is found by its own id.
 abbrev pub IdNamesItsSession : Type 0

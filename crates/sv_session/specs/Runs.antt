@@ -43,6 +43,10 @@ abbrev pub left_after : List Call → Store → Store
 left_after [] store = store
 left_after (call ∷ calls) store = left_after calls (left_by call store)
 
+-- Only calls change the sessions.
+abbrev pub ChangedByCalls : Store → Store → Type 0
+ChangedByCalls before after = (calls : List Call) × (after ≡ left_after calls before)
+
 -- The id that a call gives, if any.
 abbrev pub id_given : Call → Store → List (List ℕ)
 id_given (Open words now) store = unless (opening_faults store) (id_text words (store.serial + 1) ∷ []) []

@@ -12,6 +12,7 @@ ghost use Rattle.sv_session.specs.Laws.{
   ExpiryJudgesAtMostOneMore,
   HoldersAreFound,
   IdNamesItsSession,
+  IdsRiseWithTheSerial,
   MovesGiveNoCaller,
   MovesJoin,
   MovesLeaveNoneExpired,
@@ -19,6 +20,7 @@ ghost use Rattle.sv_session.specs.Laws.{
   NoIdIsGivenTwice,
   NoneFollowsTheGreatest,
   OpenedHasNotExpired,
+  RisingIdsDiffer,
   TouchedHasNotExpired,
 };
 
@@ -35,6 +37,13 @@ pub fn limits_are_as_stated()
 /// No two ids that a context gives are the same, for any calls and any random words.
 pub fn no_id_is_given_twice()
     ensures { NoIdIsGivenTwice }
+{}
+
+/// From any store, each id that calls give has a serial of its own, above those that were used before. So the ids differ,
+/// also from those that earlier calls gave, if the serials go on.
+pub fn ids_rise_with_the_serial()
+    ensures rise { IdsRiseWithTheSerial }
+    ensures differ { RisingIdsDiffer }
 {}
 
 /// Each live session is found by its own id, after any calls.

@@ -26,8 +26,9 @@ pub use expiry_queue::Queue;
 pub use laws::{
     an_accessed_session_has_not_expired, an_id_names_its_session, callers_are_entered,
     components_keep_the_sessions, expiry_ends_exactly_the_expired_sessions,
-    expiry_judges_at_most_one_more, limits_are_as_stated, no_call_leaves_an_expired_session,
-    no_id_is_given_twice, no_serial_follows_the_greatest, sessions_stay_in_order,
+    expiry_judges_at_most_one_more, ids_rise_with_the_serial, limits_are_as_stated,
+    no_call_leaves_an_expired_session, no_id_is_given_twice, no_serial_follows_the_greatest,
+    sessions_stay_in_order,
 };
 pub use limits::{GREATEST_SERIAL, MAX_ATTRIBUTE_NAME_BYTES, MAX_ATTRIBUTES, MAX_VALUE_BYTES};
 pub use restore_fault::RestoreFault;
