@@ -23,4 +23,4 @@ pub mod Refusals
 mod SessionCalls
 mod Stepping
 pub mod Taking
-mod Tracing
+pub mod Tracing

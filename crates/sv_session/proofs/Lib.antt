@@ -9,7 +9,7 @@ mod ExpiryLemmas
 mod FirstLemmas
 mod IdLemmas
 mod LiveIdLemmas
-mod MoveLemmas
+pub mod MoveLemmas
 mod OrderLemmas
 mod RestoreLemmas
 mod RunLemmas
