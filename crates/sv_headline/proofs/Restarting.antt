@@ -9,15 +9,14 @@ use Rattle.std.proofs.lemmas.List.Quantifiers.{position-Some}
 use Rattle.std.proofs.lemmas.Option.{get_or_from_slice_get}
 use Rattle.std.proofs.lemmas.Slice.Eq.{bytes_eq-Decides}
 use Rattle.sv_component.specs.Steps.{ComponentSteps}
-use Rattle.sv_context.specs.Deployment.{Deploys, deployed}
-use Rattle.sv_context.specs.Resuming.{IsOf, Resumes, ResumesAll, ResumesWith, Takes, TakesAll, TakesAt, TakesWhole, constraints_resumed, keeps_caller, place_of_path, resumed_session, resumed_sessions}
+use Rattle.sv_context.specs.Deployment.{Deploys, content_of, declared_policy, deployed, no_sessions}
+use Rattle.sv_context.specs.Resuming.{IsOf, Resumes, ResumesAll, ResumesWith, Takes, TakesAll, TakesAt, TakesWhole, constraints_resumed, keeps_caller, place_of_path, resumed_session, resumed_sessions, resumed_store}
 use Rattle.sv_context.specs.Several.{DeploysAll}
-use Rattle.sv_context.specs.State.{ContextState}
+use Rattle.sv_context.specs.State.{ContextState, context_of}
 use Rattle.sv_context.specs.Suspending.{Remains, SuspendsAll}
-use Rattle.sv_context.specs.declared.deploy_fault.DeployFault.{DeployFault}
 use Rattle.sv_context.specs.declared.resumption.Resumption.{Resumption}
 use Rattle.sv_descriptor.specs.declared.web_app.WebApp.{WebApp}
-use Rattle.sv_headline.specs.Restarts.{CallersGoOn}
+use Rattle.sv_headline.specs.Restarts.{CallersGoOn, ContextsGoOn, GoesOnFrom, IsNew}
 use Rattle.sv_journal.specs.Journal.{JournalState}
 use Rattle.sv_lifecycle.specs.declared.deployment.Deployment.{Deployment}
 use Rattle.sv_lifecycle.specs.declared.start_fault.StartFault.{StartFault}
@@ -25,6 +24,7 @@ use Rattle.sv_lifecycle.specs.declared.suspended_context.SuspendedContext.{Suspe
 use Rattle.sv_live.specs.Standing.{LiveState}
 use Rattle.sv_live.specs.declared.live.Parts.{Parts}
 use Rattle.sv_policy.specs.Compiled.{Standing}
+use Rattle.sv_policy.specs.Resuming.{resumption}
 use Rattle.sv_policy.specs.declared.edit_fault.EditFault.{EditFault}
 use Rattle.sv_realm.specs.Realm.{successor}
 use Rattle.sv_realm.specs.declared.account.User.{User}
@@ -125,26 +125,22 @@ module _ {S F L : Type 0} (moving : ComponentSteps S F L) where
   pub record OfDeployment (deployments : List (Deployment S F L)) (place : ℕ) (context : ContextState S F L) : Type 0 where
     pub deployment : Deployment S F L
     pub there : slice_get deployments place ≡ Some deployment
-    pub path : context.content.context_path ≡ deployment.path
-    pub none : context.store.sessions ≡ []
+    pub content : context.content ≡ content_of deployment
+    pub policy : context.policy ≡ declared_policy deployment.descriptor
+    pub store : context.store ≡ no_sessions deployment.descriptor
 
-  -- The path and the sessions of a context, or others if it was not started.
-  abbrev path_in : List ℕ → Result (ContextState S F L) (DeployFault S F L) → List ℕ
-  path_in other (Ok context) = context.content.context_path
-  path_in other (Err fault) = other
-
-  abbrev sessions_in : Result (ContextState S F L) (DeployFault S F L) → List Session
-  sessions_in (Ok context) = context.store.sessions
-  sessions_in (Err fault) = []
-
-  path_started : (deployment : Deployment S F L) (started : Result (LiveState S F L) (StartFault S F L))
-      → path_in deployment.path (deployed deployment started) ≡ deployment.path
-  path_started deployment (Ok live) = refl
-  path_started deployment (Err fault) = refl
-
-  none_started : (deployment : Deployment S F L) (started : Result (LiveState S F L) (StartFault S F L)) → sessions_in (deployed deployment started) ≡ []
-  none_started deployment (Ok live) = refl
-  none_started deployment (Err fault) = refl
+  of_itself : (deployment : Deployment S F L) (deployments : List (Deployment S F L)) (started : Result (LiveState S F L) (StartFault S F L))
+      (context : ContextState S F L) → Ok context ≡ deployed deployment started → OfDeployment (deployment ∷ deployments) zero context
+  of_itself deployment deployments (Ok live) context is =
+      let same : context ≡ context_of (content_of deployment) (declared_policy deployment.descriptor) deployment.users live (no_sessions deployment.descriptor) = cc in
+      record {
+        deployment = deployment;
+        there = refl;
+        content = ap (λ (one : ContextState S F L). one.content) same;
+        policy = ap (λ (one : ContextState S F L). one.policy) same;
+        store = ap (λ (one : ContextState S F L). one.store) same;
+      }
+  of_itself deployment deployments (Err fault) context is = absurd (cc)
 
   of_started : (deployment : Deployment S F L) (deployments : List (Deployment S F L)) (first : ContextState S F L) (rest : List (ContextState S F L))
       (before after : JournalState) → Deploys moving deployment before (Ok first) after
@@ -152,15 +148,10 @@ module _ {S F L : Type 0} (moving : ComponentSteps S F L) where
       → (place : ℕ) (context : ContextState S F L) → slice_get (first ∷ rest) place ≡ Some context → OfDeployment (deployment ∷ deployments) place context
   of_started deployment deployments first rest before after deploys others zero context is =
       let same : first ≡ context = cc in
-      record {
-        deployment = deployment;
-        there = refl;
-        path = sym (ap (λ (one : ContextState S F L). one.content.context_path) same) ∙ ap (path_in deployment.path) deploys.is ∙ path_started deployment deploys.started;
-        none = sym (ap (λ (one : ContextState S F L). one.store.sessions) same) ∙ ap sessions_in deploys.is ∙ none_started deployment deploys.started;
-      }
+      subst (OfDeployment (deployment ∷ deployments) zero) same (of_itself deployment deployments deploys.started first deploys.is)
   of_started deployment deployments first rest before after deploys others (suc place) context is =
       let found = others place context is in
-      record { deployment = found.deployment; there = found.there; path = found.path; none = found.none }
+      record { deployment = found.deployment; there = found.there; content = found.content; policy = found.policy; store = found.store }
 
   of_deployment : (deployments : List (Deployment S F L)) (before : JournalState) (contexts : List (ContextState S F L)) (after : JournalState)
       → DeploysAll moving deployments before contexts after → (place : ℕ) (context : ContextState S F L) → slice_get contexts place ≡ Some context
@@ -207,29 +198,31 @@ module _ {S F L : Type 0} (moving : ComponentSteps S F L) where
       (subst (λ (list : List (ContextState S F L)). slice_get list place ≡ Some context) resumes.5 is)
 
 -- What was taken for a deployment remains of a context with its path.
-pub record Taken (path : List ℕ) (suspended : List SuspendedContext) (resumes : Resumption) : Type 0 where
+pub record Taken (app : WebApp) (path : List ℕ) (suspended : List SuspendedContext) (resumes : Resumption) : Type 0 where
   pub one : SuspendedContext
   pub among : Among one suspended
   pub path_is : one.path ≡ path
   pub policy : Standing
+  pub constraints : constraints_resumed app one ≡ Ok policy
   pub of : IsOf one policy resumes
 
 module _ (app : WebApp) (path : List ℕ) (before after : List SuspendedContext) (resumes : Resumption) where
   taken_whole : (one : SuspendedContext) (rest : List SuspendedContext) (outcome : Result Standing EditFault) (result : Option Resumption)
-      → TakesWhole one outcome result rest before after → result ≡ Some resumes → Among one before → one.path ≡ path → Taken path before resumes
-  taken_whole one rest (Ok policy) result takes is among at =
+      → constraints_resumed app one ≡ outcome → TakesWhole one outcome result rest before after → result ≡ Some resumes → Among one before → one.path ≡ path
+      → Taken app path before resumes
+  taken_whole one rest (Ok policy) result resumed takes is among at =
       let same : takes.0 ≡ resumes = let both = sym takes.2 ∙ is in cc in
-      record { one = one; among = among; path_is = at; policy = policy; of = subst (IsOf one policy) same takes.1 }
-  taken_whole one rest (Err fault) result takes is among at = let both = sym takes.0 ∙ is in cc
+      record { one = one; among = among; path_is = at; policy = policy; constraints = resumed; of = subst (IsOf one policy) same takes.1 }
+  taken_whole one rest (Err fault) result resumed takes is among at = let both = sym takes.0 ∙ is in cc
 
   taken_place : (place : Option ℕ) (result : Option Resumption) → place_of_path path before ≡ place → TakesAt app place before result after → result ≡ Some resumes
-      → Taken path before resumes
+      → Taken app path before resumes
   taken_place None result found takes is = let both = sym takes.0 ∙ is in cc
   taken_place (Some place) result found takes is =
       let passes = (position-Some (λ (one : SuspendedContext). bytes_eq one.path path) before place takes.0 found).1 in
       let same = get_or_from_slice_get before place takes.0 takes.0 takes.1 in
       let equal : bytes_eq takes.0.path path ≡ true = ap (λ (one : SuspendedContext). bytes_eq one.path path) (sym same) ∙ passes in
-      taken_whole takes.0 (remove before place) (constraints_resumed app takes.0) result takes.2 is (place, takes.1) ((bytes_eq-Decides takes.0.path path).0 equal)
+      taken_whole takes.0 (remove before place) (constraints_resumed app takes.0) result refl takes.2 is (place, takes.1) ((bytes_eq-Decides takes.0.path path).0 equal)
 
 -- Nothing appears in the list.
 left_whole : (one : SuspendedContext) (rest before after : List SuspendedContext) (outcome : Result Standing EditFault) (result : Option Resumption)
@@ -247,13 +240,13 @@ module _ {S F L : Type 0} where
   taken_later : (first : Deployment S F L) (deployments : List (Deployment S F L)) (before between : List SuspendedContext) (one : Option Resumption) (others : List (Option Resumption))
       → Takes first before one between
       → ((place : ℕ) (deployment : Deployment S F L) (resumes : Resumption) → slice_get deployments place ≡ Some deployment → slice_get others place ≡ Some (Some resumes)
-      → Taken deployment.path between resumes)
+      → Taken deployment.descriptor deployment.path between resumes)
       → (place : ℕ) (deployment : Deployment S F L) (resumes : Resumption) → slice_get (first ∷ deployments) place ≡ Some deployment
-      → slice_get (one ∷ others) place ≡ Some (Some resumes) → Taken deployment.path before resumes
+      → slice_get (one ∷ others) place ≡ Some (Some resumes) → Taken deployment.descriptor deployment.path before resumes
   taken_later first deployments before between one others takes rest zero deployment resumes there is =
       let same : first ≡ deployment = cc in
       let taken : one ≡ Some resumes = cc in
-      subst (λ (at : Deployment S F L). Taken at.path before resumes) same
+      subst (λ (at : Deployment S F L). Taken at.descriptor at.path before resumes) same
       (taken_place first.descriptor first.path before between resumes (place_of_path first.path before) one refl takes taken)
   taken_later first deployments before between one others takes rest (suc place) deployment resumes there is =
       let found = rest place deployment resumes there is in
@@ -262,54 +255,93 @@ module _ {S F L : Type 0} where
         among = left_place first.descriptor (place_of_path first.path before) before between one takes found.one found.among;
         path_is = found.path_is;
         policy = found.policy;
+        constraints = found.constraints;
         of = found.of;
       }
 
   taken_at : (deployments : List (Deployment S F L)) (before : List SuspendedContext) (resumptions : List (Option Resumption)) (after : List SuspendedContext)
       → TakesAll deployments before resumptions after → (place : ℕ) (deployment : Deployment S F L) (resumes : Resumption)
-      → slice_get deployments place ≡ Some deployment → slice_get resumptions place ≡ Some (Some resumes) → Taken deployment.path before resumes
+      → slice_get deployments place ≡ Some deployment → slice_get resumptions place ≡ Some (Some resumes) → Taken deployment.descriptor deployment.path before resumes
   taken_at [] before resumptions after takes place deployment resumes there is = cc
   taken_at (first ∷ deployments) before resumptions after takes place deployment resumes there is =
       taken_later first deployments before takes.2 takes.0 takes.1 takes.3 (taken_at deployments takes.2 takes.1 after takes.4) place deployment resumes there
       (subst (λ (list : List (Option Resumption)). slice_get list place ≡ Some (Some resumes)) takes.5 is)
 
 module _ {S F L : Type 0} (moving : ComponentSteps S F L) where
-  -- The caller of a session that went on.
-  went_on : (number caller : ℕ) (context fresh before : ContextState S F L) (suspended : SuspendedContext) (policy : Standing) (resumes : Resumption)
-      (noted noted_after : JournalState) → Remains before suspended → IsOf suspended policy resumes → ResumesWith moving resumes fresh noted context noted_after
-      → HoldsCaller number caller context.store
-      → (old : ℕ) × HoldsCaller number old before.store × (successor context.users before.users old ≡ Some caller)
-  went_on number caller context fresh before suspended policy resumes noted noted_after remains of so held =
+  -- A context that was resumed with what was taken for its deployment goes on.
+  goes_on : (deployment : Deployment S F L) (context fresh before : ContextState S F L) (suspended : SuspendedContext) (policy : Standing) (resumes : Resumption)
+      (noted noted_after : JournalState) → fresh.content ≡ content_of deployment → suspended.path ≡ deployment.path
+      → constraints_resumed deployment.descriptor suspended ≡ Ok policy → Remains before suspended → IsOf suspended policy resumes
+      → ResumesWith moving resumes fresh noted context noted_after → GoesOnFrom context before
+  goes_on deployment context fresh before suspended policy resumes noted noted_after is path resumed remains of so =
+      let content : context.content ≡ content_of deployment = so.stays.content ∙ is in
+      let app : context.content.app ≡ deployment.descriptor = ap (λ (one : Content). one.app) content in
       let users : resumes.users ≡ before.users = of.users ∙ remains.users in
       let store : resumes.sessions.store ≡ before.store = ap (λ sessions. sessions.store) of.sessions ∙ remains.store in
-      let now = subst (λ (at : Store). HoldsCaller number caller at) so.store held in
-      let found = held_before fresh.users resumes.users number caller resumes.sessions.store.sessions now in (
-        found.0,
-        subst (λ (at : Store). HoldsCaller number found.0 at) store found.1,
-        subst (λ own. successor own before.users found.0 ≡ Some caller) (sym so.stays.users)
-            (subst (λ earlier. successor fresh.users earlier found.0 ≡ Some caller) users found.2),
-      )
+      record {
+        same_path = sym remains.path ∙ path ∙ sym (ap (λ (one : Content). one.context_path) content);
+        store = so.store
+            ∙ ap (λ (one : Content). resumed_store one.app fresh.users resumes.users resumes.sessions.store) (sym so.stays.content)
+            ∙ ap (λ own. resumed_store context.content.app own resumes.users resumes.sessions.store) (sym so.stays.users)
+            ∙ ap (λ earlier. resumed_store context.content.app context.users earlier resumes.sessions.store) users
+            ∙ ap (λ sessions. resumed_store context.content.app context.users before.users sessions) store;
+        constraints = ap (λ (one : WebApp). resumption one.constraints one.rules before.content.app.constraints before.policy.constraints before.policy.greatest) app
+            ∙ ap (λ declared. resumption deployment.descriptor.constraints deployment.descriptor.rules declared before.policy.constraints before.policy.greatest) (sym remains.declared)
+            ∙ ap (λ constraints. resumption deployment.descriptor.constraints deployment.descriptor.rules suspended.declared constraints before.policy.greatest) (sym remains.constraints)
+            ∙ ap (λ greatest. resumption deployment.descriptor.constraints deployment.descriptor.rules suspended.declared suspended.constraints greatest) (sym remains.greatest)
+            ∙ resumed ∙ ap Ok (sym (so.stays.policy ∙ of.policy_is));
+      }
 
-  pub callers_go_on : (W : Type 0) → CallersGoOn moving W
-  callers_go_on W before parts suspension stopped hands deployments words left noted noted_after container starts place number caller context there held =
+  -- A context that was started, and did not resume, is new.
+  is_new : (deployment : Deployment S F L) (context : ContextState S F L) → context.content ≡ content_of deployment
+      → context.policy ≡ declared_policy deployment.descriptor → context.store ≡ no_sessions deployment.descriptor → IsNew context
+  is_new deployment context content policy store =
+      let app : deployment.descriptor ≡ context.content.app = sym (ap (λ (one : Content). one.app) content) in
+      record { store = store ∙ ap no_sessions app; constraints = policy ∙ ap declared_policy app }
+
+  pub contexts_go_on : (W : Type 0) → ContextsGoOn moving W
+  contexts_go_on W before parts suspension stopped hands deployments words left noted noted_after container starts place context there =
       let resumed : slice_get starts.resumed place ≡ Some context = sym (ap (λ (at : State (ContextState S F L) W). slice_get at.world.contexts place) starts.state) ∙ there in
       let at = at_place moving starts.resumptions starts.contexts starts.between starts.resumed noted_after starts.resumes place context resumed in
       let own = of_deployment moving deployments noted starts.contexts starts.between starts.deploys place at.fresh at.there in
       elim at.how [
-        | inl same ↦ absurd (
-            let none : context.store.sessions ≡ [] = ap (λ (one : ContextState S F L). one.store.sessions) same ∙ own.none in
-            let empty = subst (λ (sessions : List Session). list_any (is_held_by number caller) sessions ≡ true) none held in cc)
+        | inl same ↦ inl (subst IsNew (sym same) (is_new own.deployment at.fresh own.content own.policy own.store))
         | inr went ↦
             let taken = taken_at deployments suspension.contexts.items starts.resumptions left starts.takes place own.deployment went.0 own.there went.1 in
             let first = of_context moving before.world.contexts _ parts suspension.contexts.items stopped hands.contexts taken.one taken.among in
-            let on = went_on number caller context at.fresh first.context taken.one taken.policy went.0 went.2 went.3 first.remains taken.of went.4 held in
-            record {
-              place = first.place;
-              before = first.context;
-              there = first.there;
-              same_path = sym first.remains.path ∙ taken.path_is ∙ sym own.path ∙ sym (ap (λ (content : Content). content.context_path) went.4.stays.content);
-              old = on.0;
-              held = on.1;
-              is_user = on.2;
-            }
+            inr (
+              first.place,
+              first.context,
+              first.there,
+              goes_on own.deployment context at.fresh first.context taken.one taken.policy went.0 went.2 went.3 own.content taken.path_is taken.constraints
+                  first.remains taken.of went.4,
+            )
       ]
+
+-- The caller of a session that went on.
+module _ {S F L : Type 0} where
+  went_on : (number caller : ℕ) (context before : ContextState S F L) → GoesOnFrom context before → HoldsCaller number caller context.store
+      → (old : ℕ) × HoldsCaller number old before.store × (successor context.users before.users old ≡ Some caller)
+  went_on number caller context before goes held =
+      held_before context.users before.users number caller before.store.sessions (subst (λ (at : Store). HoldsCaller number caller at) goes.store held)
+
+  none_held : (number caller : ℕ) (context : ContextState S F L) → IsNew context → HoldsCaller number caller context.store → ⊥
+  none_held number caller context new held =
+      let empty : list_any (is_held_by number caller) [] ≡ true = subst (λ (at : Store). HoldsCaller number caller at) new.store held in absurd (cc)
+
+pub callers_go_on : {S F L : Type 0} (moving : ComponentSteps S F L) (W : Type 0) → ContextsGoOn moving W → CallersGoOn moving W
+callers_go_on {S} {F} {L} moving W law before parts suspension stopped hands deployments words left noted noted_after container starts place number caller context there held =
+    elim (law before parts suspension stopped hands deployments words left noted noted_after container starts place context there) [
+      | inl new ↦ absurd (none_held number caller context new held)
+      | inr from ↦
+          let on = went_on number caller context from.1 from.3 held in
+          record {
+            place = from.0;
+            before = from.1;
+            there = from.2;
+            same_path = from.3.same_path;
+            old = on.0;
+            held = on.1;
+            is_user = on.2;
+          }
+    ]

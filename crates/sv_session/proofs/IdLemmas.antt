@@ -15,7 +15,7 @@ use Rattle.sv_session.specs.declared.session_fault.SessionFault.{SessionFault}
 use Rattle.sv_session.specs.declared.session_fault.SessionFault.TheVariants.{SerialSpent, TooMany}
 use Rattle.sv_session.specs.Calls.{expired_number, is_spent, missing, opened, opening_faults, renamed, renaming_faults, setting_faults, with_attribute, without}
 use Rattle.sv_session.specs.Id.{digits_of, id_text}
-use Rattle.sv_session.specs.Laws.{AreGivenBetween, RisingIdsDiffer}
+use Rattle.sv_session.specs.Laws.{AreOfSerials, IdsOfSerialsDiffer}
 use Rattle.sv_session.specs.Runs.{Call, Open, Touch, Expire, End, Rename, EnterCaller, Save, TakeSaved, Set, Remove, ids_given, left_after, left_by, unless}
 use Rattle.sv_session.specs.Store.{Store}
 
@@ -58,21 +58,21 @@ serials_tell words others a b small_a small_b same =
     digits_tell a b small_a small_b (sym (serial_of words a) ∙ (ap (drop 32) same ∙ serial_of others b))
 
 -- ---- ids of rising serials
-differ_from : (words : ℕ × ℕ) (serial low high : ℕ) (ids : List (List ℕ)) → serial ≤ low → serial ≤ GREATEST_SERIAL → AreGivenBetween low high ids
-    → (k : ℕ) (d : List ℕ) → k < length ids → id_text words serial ≢ get_or ids k d
-differ_from words serial low high [] under small above k d within = absurd (omega arith)
-differ_from words serial low high (id ∷ ids) under small above zero d within = λ same.
-    let equal : serial ≡ above.1 = serials_tell words above.0 serial above.1 (omega (arith, small)) (omega (arith, above.3)) (same ∙ above.4) in
-    omega (arith, equal, above.2, under)
-differ_from words serial low high (id ∷ ids) under small above (suc k) d within =
-    differ_from words serial above.1 high ids (omega (arith, above.2, under)) small above.5 k d (omega (arith, within))
+differ_from : (words : ℕ × ℕ) (own serial last : ℕ) (ids : List (List ℕ)) → own ≤ serial → own ≤ GREATEST_SERIAL → AreOfSerials serial last ids
+    → (k : ℕ) (d : List ℕ) → k < length ids → id_text words own ≢ get_or ids k d
+differ_from words own serial last [] under small are k d within = absurd (omega arith)
+differ_from words own serial last (id ∷ ids) under small are zero d within = λ same.
+    let equal : own ≡ serial + 1 = serials_tell words are.0 own (serial + 1) (omega (arith, small)) (omega (arith, are.2)) (same ∙ are.1) in
+    omega (arith, equal, under)
+differ_from words own serial last (id ∷ ids) under small are (suc k) d within =
+    differ_from words own (serial + 1) last ids (omega (arith, under)) small are.3 k d (omega (arith, within))
 
-pub pairs_differ : RisingIdsDiffer
-pairs_differ low high [] above i j d less within = absurd (omega arith)
-pairs_differ low high (id ∷ ids) above i zero d less within = absurd (omega arith)
-pairs_differ low high (id ∷ ids) above zero (suc j) d less within = λ same.
-    differ_from above.0 above.1 above.1 high ids (omega arith) above.3 above.5 j d (omega (arith, within)) (sym above.4 ∙ same)
-pairs_differ low high (id ∷ ids) above (suc i) (suc j) d less within = pairs_differ above.1 high ids above.5 i j d (omega (arith, less)) (omega (arith, within))
+pub pairs_differ : IdsOfSerialsDiffer
+pairs_differ serial last [] are i j d less within = absurd (omega arith)
+pairs_differ serial last (id ∷ ids) are i zero d less within = absurd (omega arith)
+pairs_differ serial last (id ∷ ids) are zero (suc j) d less within = λ same.
+    differ_from are.0 (serial + 1) (serial + 1) last ids (omega arith) are.2 are.3 j d (omega (arith, within)) (sym are.1 ∙ same)
+pairs_differ serial last (id ∷ ids) are (suc i) (suc j) d less within = pairs_differ (serial + 1) last ids are.3 i j d (omega (arith, less)) (omega (arith, within))
 
 -- ---- the ids that calls give
 pub nothing_behind : {F : Type 0} (front : List F) (test : Bool) (fault : F) → front ++ when test fault ≡ [] → test ≡ false
@@ -85,43 +85,43 @@ rises_unspent serial within unspent =
     let other : serial ≡ GREATEST_SERIAL → ⊥ = eqb-false serial GREATEST_SERIAL unspent in
     (omega (arith, other), omega (arith, other))
 
-pub given_rise : (calls : List Call) (store : Store) → store.serial ≤ GREATEST_SERIAL → AreGivenBetween store.serial (left_after calls store).serial (ids_given calls store)
-given_rise [] store within = omega arith
-given_rise (Open words now ∷ calls) store within = by_faults (given_rise calls) (opening_faults store) refl
+pub next_serials : (calls : List Call) (store : Store) → store.serial ≤ GREATEST_SERIAL → AreOfSerials store.serial (left_after calls store).serial (ids_given calls store)
+next_serials [] store within = refl
+next_serials (Open words now ∷ calls) store within = by_faults (next_serials calls) (opening_faults store) refl
   where
-    by_faults : ((next : Store) → next.serial ≤ GREATEST_SERIAL → AreGivenBetween next.serial (left_after calls next).serial (ids_given calls next)) → (faults : List SessionFault) → opening_faults store ≡ faults
-        → AreGivenBetween store.serial (left_after calls (unless faults (opened words now store) store)).serial
+    by_faults : ((next : Store) → next.serial ≤ GREATEST_SERIAL → AreOfSerials next.serial (left_after calls next).serial (ids_given calls next)) → (faults : List SessionFault) → opening_faults store ≡ faults
+        → AreOfSerials store.serial (left_after calls (unless faults (opened words now store) store)).serial
         (unless faults (id_text words (store.serial + 1) ∷ []) [] ++ ids_given calls (unless faults (opened words now store) store))
     by_faults again [] none =
         let more = rises_unspent store.serial within (nothing_behind (when (nat_le store.limit (length store.sessions)) TooMany) (is_spent store) SerialSpent none) in
-        (words, store.serial + 1, omega arith, more.0, refl, again (opened words now store) more.0)
+        (words, refl, more.0, again (opened words now store) more.0)
     by_faults again (fault ∷ faults) some = again store within
-given_rise (Rename number words ∷ calls) store within = by_faults (given_rise calls) (renaming_faults number store) refl
+next_serials (Rename number words ∷ calls) store within = by_faults (next_serials calls) (renaming_faults number store) refl
   where
-    by_faults : ((next : Store) → next.serial ≤ GREATEST_SERIAL → AreGivenBetween next.serial (left_after calls next).serial (ids_given calls next)) → (faults : List SessionFault) → renaming_faults number store ≡ faults
-        → AreGivenBetween store.serial (left_after calls (unless faults (renamed number words store) store)).serial
+    by_faults : ((next : Store) → next.serial ≤ GREATEST_SERIAL → AreOfSerials next.serial (left_after calls next).serial (ids_given calls next)) → (faults : List SessionFault) → renaming_faults number store ≡ faults
+        → AreOfSerials store.serial (left_after calls (unless faults (renamed number words store) store)).serial
         (unless faults (id_text words (store.serial + 1) ∷ []) [] ++ ids_given calls (unless faults (renamed number words store) store))
     by_faults again [] none =
         let more = rises_unspent store.serial within (nothing_behind (missing number store) (is_spent store) SerialSpent none) in
-        (words, store.serial + 1, omega arith, more.0, refl, again (renamed number words store) more.0)
+        (words, refl, more.0, again (renamed number words store) more.0)
     by_faults again (fault ∷ faults) some = again store within
-given_rise (Expire now ∷ calls) store within = by_number (given_rise calls) (expired_number now store)
+next_serials (Expire now ∷ calls) store within = by_number (next_serials calls) (expired_number now store)
   where
-    by_number : ((next : Store) → next.serial ≤ GREATEST_SERIAL → AreGivenBetween next.serial (left_after calls next).serial (ids_given calls next)) → (number : Option ℕ)
-        → AreGivenBetween store.serial (left_after calls (option_map_or (λ number. without number store) number store)).serial
+    by_number : ((next : Store) → next.serial ≤ GREATEST_SERIAL → AreOfSerials next.serial (left_after calls next).serial (ids_given calls next)) → (number : Option ℕ)
+        → AreOfSerials store.serial (left_after calls (option_map_or (λ number. without number store) number store)).serial
         (ids_given calls (option_map_or (λ number. without number store) number store))
     by_number again None = again store within
     by_number again (Some number) = again (without number store) within
-given_rise (Set number name value ∷ calls) store within = by_faults (given_rise calls) (setting_faults number name value store)
+next_serials (Set number name value ∷ calls) store within = by_faults (next_serials calls) (setting_faults number name value store)
   where
-    by_faults : ((next : Store) → next.serial ≤ GREATEST_SERIAL → AreGivenBetween next.serial (left_after calls next).serial (ids_given calls next)) → (faults : List SessionFault)
-        → AreGivenBetween store.serial (left_after calls (unless faults (with_attribute number name value store) store)).serial
+    by_faults : ((next : Store) → next.serial ≤ GREATEST_SERIAL → AreOfSerials next.serial (left_after calls next).serial (ids_given calls next)) → (faults : List SessionFault)
+        → AreOfSerials store.serial (left_after calls (unless faults (with_attribute number name value store) store)).serial
         (ids_given calls (unless faults (with_attribute number name value store) store))
     by_faults again [] = again (with_attribute number name value store) within
     by_faults again (fault ∷ faults) = again store within
-given_rise (Touch number now ∷ calls) store within = given_rise calls (left_by (Touch number now) store) within
-given_rise (End number ∷ calls) store within = given_rise calls (left_by (End number) store) within
-given_rise (EnterCaller number caller ∷ calls) store within = given_rise calls (left_by (EnterCaller number caller) store) within
-given_rise (Save number target ∷ calls) store within = given_rise calls (left_by (Save number target) store) within
-given_rise (TakeSaved number ∷ calls) store within = given_rise calls (left_by (TakeSaved number) store) within
-given_rise (Remove number name ∷ calls) store within = given_rise calls (left_by (Remove number name) store) within
+next_serials (Touch number now ∷ calls) store within = next_serials calls (left_by (Touch number now) store) within
+next_serials (End number ∷ calls) store within = next_serials calls (left_by (End number) store) within
+next_serials (EnterCaller number caller ∷ calls) store within = next_serials calls (left_by (EnterCaller number caller) store) within
+next_serials (Save number target ∷ calls) store within = next_serials calls (left_by (Save number target) store) within
+next_serials (TakeSaved number ∷ calls) store within = next_serials calls (left_by (TakeSaved number) store) within
+next_serials (Remove number name ∷ calls) store within = next_serials calls (left_by (Remove number name) store) within

@@ -14,20 +14,20 @@ use Rattle.sv_session.specs.Store.{IsOrderly, Session, Store, empty_store, numbe
 abbrev pub NoIdIsGivenTwice : Type 0
 NoIdIsGivenTwice = (limit interval : ℕ) (calls : List Call) → AllPairs (λ a b. a ≢ b) (ids_given calls (empty_store limit interval))
 
--- Each id was made with a serial of its own. The serials rise; all are above the first bound, and none is above the second.
-abbrev pub AreGivenBetween : ℕ → ℕ → List (List ℕ) → Type 0
-AreGivenBetween low high [] = low ≤ high
-AreGivenBetween low high (id ∷ ids) =
-    (words : ℕ × ℕ) × (serial : ℕ) × (low < serial) × (serial ≤ GREATEST_SERIAL) × (id ≡ id_text words serial) × AreGivenBetween serial high ids
+-- The ids were made with the serials above one, up to another, each with the next.
+abbrev pub AreOfSerials : ℕ → ℕ → List (List ℕ) → Type 0
+AreOfSerials serial last [] = last ≡ serial
+AreOfSerials serial last (id ∷ ids) =
+    (words : ℕ × ℕ) × (id ≡ id_text words (serial + 1)) × (serial + 1 ≤ GREATEST_SERIAL) × AreOfSerials (serial + 1) last ids
 
--- From any store, the ids that calls give are made with the serials that the calls use.
-abbrev pub IdsRiseWithTheSerial : Type 0
-IdsRiseWithTheSerial = (calls : List Call) (store : Store) → store.serial ≤ GREATEST_SERIAL
-    → AreGivenBetween store.serial (left_after calls store).serial (ids_given calls store)
+-- From any store, each id that calls give is made with the next serial.
+abbrev pub EachIdHasTheNextSerial : Type 0
+EachIdHasTheNextSerial = (calls : List Call) (store : Store) → store.serial ≤ GREATEST_SERIAL
+    → AreOfSerials store.serial (left_after calls store).serial (ids_given calls store)
 
 -- Such ids differ.
-abbrev pub RisingIdsDiffer : Type 0
-RisingIdsDiffer = (low high : ℕ) (ids : List (List ℕ)) → AreGivenBetween low high ids → AllPairs (λ a b. a ≢ b) ids
+abbrev pub IdsOfSerialsDiffer : Type 0
+IdsOfSerialsDiffer = (serial last : ℕ) (ids : List (List ℕ)) → AreOfSerials serial last ids → AllPairs (λ a b. a ≢ b) ids
 
 -- Each live session is found by its own id.
 abbrev pub IdNamesItsSession : Type 0

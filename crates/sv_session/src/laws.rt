@@ -5,6 +5,7 @@ ghost use Rattle.sv_session.specs.Laws.{
   CallersAreEntered,
   CallsLeaveNoneExpired,
   CallsLeaveOrder,
+  EachIdHasTheNextSerial,
   EmptyIsOrderly,
   ExpiryEndsNoneAgain,
   ExpiryEndsTheExpired,
@@ -12,7 +13,7 @@ ghost use Rattle.sv_session.specs.Laws.{
   ExpiryJudgesAtMostOneMore,
   HoldersAreFound,
   IdNamesItsSession,
-  IdsRiseWithTheSerial,
+  IdsOfSerialsDiffer,
   MovesGiveNoCaller,
   MovesJoin,
   MovesLeaveNoneExpired,
@@ -20,7 +21,6 @@ ghost use Rattle.sv_session.specs.Laws.{
   NoIdIsGivenTwice,
   NoneFollowsTheGreatest,
   OpenedHasNotExpired,
-  RisingIdsDiffer,
   TouchedHasNotExpired,
 };
 
@@ -39,11 +39,11 @@ pub fn no_id_is_given_twice()
     ensures { NoIdIsGivenTwice }
 {}
 
-/// From any store, each id that calls give has a serial of its own, above those that were used before. So the ids differ,
-/// also from those that earlier calls gave, if the serials go on.
-pub fn ids_rise_with_the_serial()
-    ensures rise { IdsRiseWithTheSerial }
-    ensures differ { RisingIdsDiffer }
+/// From any store, each id that calls give is made with the next serial. So the ids differ, also from those that earlier
+/// calls gave, if the serials go on.
+pub fn each_id_has_the_next_serial()
+    ensures next { EachIdHasTheNextSerial }
+    ensures differ { IdsOfSerialsDiffer }
 {}
 
 /// Each live session is found by its own id, after any calls.

@@ -25,8 +25,8 @@ pub use event::Event;
 pub use expiry_queue::Queue;
 pub use laws::{
     an_accessed_session_has_not_expired, an_id_names_its_session, callers_are_entered,
-    components_keep_the_sessions, expiry_ends_exactly_the_expired_sessions,
-    expiry_judges_at_most_one_more, ids_rise_with_the_serial, limits_are_as_stated,
+    components_keep_the_sessions, each_id_has_the_next_serial,
+    expiry_ends_exactly_the_expired_sessions, expiry_judges_at_most_one_more, limits_are_as_stated,
     no_call_leaves_an_expired_session, no_id_is_given_twice, no_serial_follows_the_greatest,
     sessions_stay_in_order,
 };
