@@ -12,7 +12,7 @@ use Rattle.sv_container.specs.declared.suspension.Suspension.{Suspension}
 use Rattle.sv_context.specs.State.{ContextState}
 use Rattle.sv_context.specs.Theory.{theory}
 use Rattle.sv_headline.specs.Record.{IsLawfulRun}
-use Rattle.sv_headline.specs.Restarts.{ComesFrom, HeldIt}
+use Rattle.sv_headline.specs.Restarts.{HeldIt}
 use Rattle.sv_journal.specs.Journal.{JournalState}
 use Rattle.sv_lifecycle.specs.declared.deployment.Deployment.{Deployment}
 use Rattle.sv_lifecycle.specs.declared.suspended_context.SuspendedContext.{SuspendedContext}
@@ -90,9 +90,8 @@ module _ {S F L W : Type 0} (moving : ComponentSteps S F L) (draws : W → ℕ �
   -- A session holds a caller only by such a login, with a name and a password that fitted, which nothing has undone.
   abbrev pub CallersOfAChainHaveLoggedIn : Type 0
   CallersOfAChainHaveLoggedIn =
-      (lives : List (Life S F L W)) → IsChain lives → (place number caller : ℕ) (context : ContextState S F L)
-      → slice_get (contexts_left lives) place ≡ Some context → HoldsAt (theory moving draws) place number caller (contexts_left lives)
-      → LoggedIn place number caller lives
+      (lives : List (Life S F L W)) → IsChain lives → (place number caller : ℕ)
+      → HoldsAt (theory moving draws) place number caller (contexts_left lives) → LoggedIn place number caller lives
 
   -- The ids that calls gave in the context at a place, and in the contexts that it goes on from, the earliest first.
   abbrev pub AreIdsOf : ℕ → List (List ℕ) → List (Life S F L W) → Type 0

@@ -37,7 +37,9 @@ pub use lives::{components_are_destroyed_once, each_component_is_destroyed_once}
 pub use record::{
     every_lawful_run_is_a_run, every_run_is_lawful, every_run_is_lawful_until_memory_is_refused,
 };
-pub use restarts::{callers_go_on, callers_of_a_resumed_container_have_logged_in};
+pub use restarts::{
+    callers_go_on, callers_of_a_resumed_container_have_logged_in, contexts_go_on,
+};
 pub use runs::{
     callers_logged_in, callers_logged_in_since_the_start, constraints_change_by_edits_alone,
     orders_are_alike, orders_are_taken_alike, pieces_are_taken_in_parts, pieces_may_be_cut,

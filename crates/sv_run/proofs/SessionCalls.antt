@@ -1,5 +1,5 @@
 -- The sessions of each context change only by calls.
-use Rattle.std.proofs.Common.{◌≡◌, ◌≢◌, ℕ, zero, suc, List, [], ◌∷◌, ◌++◌, Option, None, Some, Result, refl, sym, ap, ◌∙◌, subst, inl, inr, eqb, slice_get, slice_set}
+use Rattle.std.proofs.Common.{◌≡◌, ℕ, zero, suc, List, [], ◌∷◌, ◌++◌, Option, None, Some, Result, refl, sym, ap, ◌∙◌, subst, inl, inr, eqb, slice_get, slice_set}
 use Rattle.std.proofs.lemmas.Bool.{cases_Bool, eqb-false, eqb-true}
 use Rattle.sv_journal.specs.declared.entry.Entry.{Entry}
 use Rattle.sv_policy.specs.declared.edit.Edit.{Edit}
@@ -10,7 +10,7 @@ use Rattle.sv_run.specs.Effect.{Deed, Handled}
 use Rattle.sv_run.specs.Events.{ExpiresAll}
 use Rattle.sv_run.specs.Items.{HandlesAt}
 use Rattle.sv_run.specs.Lawful.{ChangesSessionsByCalls, EditsAlone}
-use Rattle.sv_run.specs.Laws.{SessionsChangeByCalls}
+use Rattle.sv_run.specs.Laws.{SessionsChange, SessionsChangeByCalls}
 use Rattle.sv_run.proofs.Constraints.{get_apart, get_set}
 use Rattle.sv_run.proofs.Tracing.{IsKept, kept_run}
 use Rattle.sv_session.specs.Runs.{ChangedByCalls, left_after}
@@ -20,53 +20,47 @@ use Rattle.sv_session.proofs.MoveLemmas.{left-append}
 changed_on : (before between after : Store) → ChangedByCalls before between → ChangedByCalls between after → ChangedByCalls before after
 changed_on before between after one other = (one.0 ++ other.0, other.1 ∙ ap (left_after other.0) one.1 ∙ sym (left-append one.0 other.0 before))
 
-same_member : {X : Type 0} (one other : X) → ◌≡◌ {A = Option X} (Some one) (Some other) → one ≡ other
-same_member one other same = cc
-
 module _ {Context Words : Type 0} (theory : Theory Context Words) where
-  -- the context that follows one at a place
-  pub record Follows (first : Context) (place : ℕ) (after : List Context) : Type 0 where
-    pub last : Context
-    pub there : slice_get after place ≡ Some last
-    pub changed : ChangedByCalls (theory.conduct.sessions_of first) (theory.conduct.sessions_of last)
+  unchanged : (there : Option Context) → SessionsChange theory there there
+  unchanged None = refl
+  unchanged (Some context) = (context, refl, [], refl)
+
+  changed_twice : (before between after : Option Context) → SessionsChange theory before between → SessionsChange theory between after
+      → SessionsChange theory before after
+  changed_twice None between after one other = subst (λ there. SessionsChange theory there after) one other
+  changed_twice (Some first) between after one other =
+      let end = subst (λ there. SessionsChange theory there after) one.1 other in (
+        end.0,
+        end.1,
+        changed_on (theory.conduct.sessions_of first) (theory.conduct.sessions_of one.0) (theory.conduct.sessions_of end.0) one.2 end.2,
+      )
+
+  as_there : (before after old new : Option Context) → before ≡ old → after ≡ new → SessionsChange theory old new → SessionsChange theory before after
+  as_there before after old new first last changed =
+      subst (λ there. SessionsChange theory there after) (sym first) (subst (SessionsChange theory old) (sym last) changed)
 
   abbrev Changed : List Context → List (Deed Context) → List Context → Type 0
-  Changed before deeds after = (place : ℕ) (first : Context) → slice_get before place ≡ Some first → Follows first place after
+  Changed before deeds after = (place : ℕ) → SessionsChange theory (slice_get before place) (slice_get after place)
 
   stays : (before after : List Context) → after ≡ before → Changed before [] after
-  stays before after same place first there =
-      record { last = first; there = ap (λ (contexts : List Context). slice_get contexts place) same ∙ there; changed = ([], refl) }
+  stays before after same place =
+      as_there (slice_get before place) (slice_get after place) (slice_get before place) (slice_get before place) refl
+      (ap (λ (contexts : List Context). slice_get contexts place) same) (unchanged (slice_get before place))
 
-  both : (before between after : List Context) (deeds more : List (Deed Context)) → Changed before deeds between → Changed between more after
-      → Changed before (deeds ++ more) after
-  both before between after deeds more one other place first there =
-      let middle = one place first there in
-      let end = other place middle.last middle.there in
-      record {
-        last = end.last;
-        there = end.there;
-        changed = changed_on (theory.conduct.sessions_of first) (theory.conduct.sessions_of middle.last) (theory.conduct.sessions_of end.last) middle.changed end.changed;
-      }
-
-  -- one context is replaced by another, whose sessions result from its own by calls
+  -- a context is replaced by another, whose sessions result from its own by calls
   replaced : (at : ℕ) (before after : List Context) (old new : Context) → slice_get before at ≡ Some old → after ≡ slice_set before at new
       → ChangedByCalls (theory.conduct.sessions_of old) (theory.conduct.sessions_of new)
-      → (place : ℕ) (first : Context) → slice_get before place ≡ Some first → Follows first place after
-  replaced at before after old new is set changed place first there = elim (cases_Bool (eqb place at)) [
+      → (place : ℕ) → SessionsChange theory (slice_get before place) (slice_get after place)
+  replaced at before after old new is set changed place = elim (cases_Bool (eqb place at)) [
     | inl same ↦
         let here = eqb-true place at same in
-        let own : old ≡ first = same_member old first (sym is ∙ ap (slice_get before) (sym here) ∙ there) in
-        record {
-          last = new;
-          there = ap (λ (contexts : List Context). slice_get contexts place) set ∙ ap (slice_get (slice_set before at new)) here ∙ get_set before at old new is;
-          changed = subst (λ (context : Context). ChangedByCalls (theory.conduct.sessions_of context) (theory.conduct.sessions_of new)) own changed;
-        }
+        as_there (slice_get before place) (slice_get after place) (Some old) (Some new) (ap (slice_get before) here ∙ is)
+        (ap (λ (contexts : List Context). slice_get contexts place) set ∙ ap (slice_get (slice_set before at new)) here ∙ get_set before at old new is)
+        (new, refl, changed)
     | inr apart ↦
-        record {
-          last = first;
-          there = ap (λ (contexts : List Context). slice_get contexts place) set ∙ get_apart before at place new (eqb-false place at apart) ∙ there;
-          changed = ([], refl);
-        }
+        as_there (slice_get before place) (slice_get after place) (slice_get before place) (slice_get before place) refl
+        (ap (λ (contexts : List Context). slice_get contexts place) set ∙ get_apart before at place new (eqb-false place at apart))
+        (unchanged (slice_get before place))
   ]
 
   module _ (alone : EditsAlone theory.path_of theory.conduct) (lawful : ChangesSessionsByCalls theory) where
@@ -82,28 +76,20 @@ module _ {Context Words : Type 0} (theory : Theory Context Words) where
         replaced other before after edits.context edits.edited edits.there edits.is_after ([], alone.sessions edits.context edits.edited edit answer edits.edits)
 
     expired : (before after : List Context) (moment : ℕ) (told : List Entry) → ExpiresAll theory.conduct before moment told after → Changed before [] after
-    expired [] after moment told expires = stays [] after expires.1
-    expired (context ∷ contexts) after moment told expires zero first there =
-        let own : context ≡ first = same_member context first there in
-        record {
-          last = expires.2;
-          there = ap (λ (all : List Context). slice_get all zero) expires.7;
-          changed = subst (λ (one : Context). ChangedByCalls (theory.conduct.sessions_of one) (theory.conduct.sessions_of expires.2)) own
-              (lawful.by_expiry context expires.2 moment expires.0 expires.4);
-        }
-    expired (context ∷ contexts) after moment told expires (suc place) first there =
-        let later = expired contexts expires.3 moment expires.1 expires.5 place first there in
-        record {
-          last = later.last;
-          there = ap (λ (all : List Context). slice_get all (suc place)) expires.7 ∙ later.there;
-          changed = later.changed;
-        }
+    expired [] after moment told expires place = stays [] after expires.1 place
+    expired (context ∷ contexts) after moment told expires zero =
+        as_there (Some context) (slice_get after zero) (Some context) (Some expires.2) refl (ap (λ (all : List Context). slice_get all zero) expires.7)
+        (expires.2, refl, lawful.by_expiry context expires.2 moment expires.0 expires.4)
+    expired (context ∷ contexts) after moment told expires (suc place) =
+        as_there (slice_get contexts place) (slice_get after (suc place)) (slice_get contexts place) (slice_get expires.3 place) refl
+        (ap (λ (all : List Context). slice_get all (suc place)) expires.7) (expired contexts expires.3 moment expires.1 expires.5 place)
 
     kept_sessions : IsKept theory Changed
     kept_sessions = record {
       none = λ contexts. stays contexts contexts refl;
-      both = both;
-      answered = λ contexts entry place first there. stays contexts contexts refl place first there;
+      both = λ before between after deeds more one other place.
+          changed_twice (slice_get before place) (slice_get between place) (slice_get after place) (one place) (other place);
+      answered = λ contexts entry place. stays contexts contexts refl place;
       handled = handled;
       edited = edited;
       expired = expired;
@@ -111,6 +97,5 @@ module _ {Context Words : Type 0} (theory : Theory Context Words) where
 
 pub sessions_change_by_calls : {Context Words : Type 0} (theory : Theory Context Words) → EditsAlone theory.path_of theory.conduct → ChangesSessionsByCalls theory
     → SessionsChangeByCalls theory
-sessions_change_by_calls theory alone lawful before after happenings answers place first run runs there =
-    let found = kept_run theory (Changed theory) (kept_sessions theory alone lawful) before after happenings answers run runs place first there in
-    (found.last, found.there, found.changed)
+sessions_change_by_calls theory alone lawful before after happenings answers place run runs =
+    kept_run theory (Changed theory) (kept_sessions theory alone lawful) before after happenings answers run runs place

@@ -1,5 +1,5 @@
 -- The laws of runs.
-use Rattle.std.specs.Prelude.{◌≡◌, ◌≢◌, ◌↔◌, ◌⊎◌, ℕ, true, false, List, [], ◌∷◌, ◌++◌, bytes_eq, filter, flat_map, map, Option, Some, Ok, Err, if◌then◌else◌, slice_get}
+use Rattle.std.specs.Prelude.{◌≡◌, ◌≢◌, ◌↔◌, ◌⊎◌, ℕ, true, false, List, [], ◌∷◌, ◌++◌, bytes_eq, filter, flat_map, map, Option, None, Some, Ok, Err, if◌then◌else◌, slice_get}
 use Rattle.std.specs.List.{AllByRecursion}
 use Rattle.sv_constraints.specs.declared.owned_decision.OwnedDecision.TheVariants as decisions
 use Rattle.sv_constraints.specs.declared.owned_decision.OwnedWhy.{OwnedWhy}
@@ -248,13 +248,18 @@ module _ {Context Words : Type 0} (theory : Theory Context Words) where
       → ¬ (HoldsAt place number caller before.world.contexts) → HoldsAt place number caller after.world.contexts
       → LoggedInBefore place number caller (deeds_of answers)
 
+  -- the context at a place, if there is one, stays there, and its sessions change only by calls
+  abbrev pub SessionsChange : Option Context → Option Context → Type 0
+  SessionsChange None after = after ≡ None
+  SessionsChange (Some first) after =
+      (last : Context) × (after ≡ Some last) × ChangedByCalls (theory.conduct.sessions_of first) (theory.conduct.sessions_of last)
+
   -- as long as no event runs out of memory, the sessions of each context change only by calls
   abbrev pub SessionsChangeByCalls : Type 0
   SessionsChangeByCalls =
-      (before after : State Context Words) (happenings : List Happening) (answers : List (Answer Context)) (place : ℕ) (first : Context)
-      → Run theory before happenings answers after → after.stopped ≡ false → slice_get before.world.contexts place ≡ Some first
-      → (last : Context) × (slice_get after.world.contexts place ≡ Some last)
-      × ChangedByCalls (theory.conduct.sessions_of first) (theory.conduct.sessions_of last)
+      (before after : State Context Words) (happenings : List Happening) (answers : List (Answer Context)) (place : ℕ)
+      → Run theory before happenings answers after → after.stopped ≡ false
+      → SessionsChange (slice_get before.world.contexts place) (slice_get after.world.contexts place)
 
   -- the current constraints of the context at a place
   abbrev pub policy_at : List Context → ℕ → Option Standing
