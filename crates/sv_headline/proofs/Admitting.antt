@@ -27,6 +27,7 @@ use Rattle.sv_policy.specs.Compiled.{Standing}
 use Rattle.sv_realm.specs.declared.account.User.{User}
 use Rattle.sv_session.specs.Calls.{HoldsCaller, opened, opening_faults, renamed, renaming_faults, with_saved}
 use Rattle.sv_session.specs.Laws.{CallersAreEntered, CallsLeaveOrder}
+use Rattle.sv_session.proofs.MoveLemmas.{left-append}
 use Rattle.sv_session.specs.Runs.{Call, EnterCaller, Open, Rename, Save, TakeSaved, Touch, left_after, left_by, unless}
 use Rattle.sv_session.specs.Store.{IsOrderly, Store}
 use Rattle.sv_session.specs.declared.session_fault.SessionFault.{SessionFault}
@@ -73,15 +74,11 @@ module _ (May : ℕ → ℕ → Type 0) where
   all_both [] back one other = other
   all_both (call ∷ front) back one other = (one.0, all_both front back one.1 other)
 
-  left_both : (front back : List Call) (store : Store) → left_after (front ++ back) store ≡ left_after back (left_after front store)
-  left_both [] back store = refl
-  left_both (call ∷ front) back store = left_both front back (left_by call store)
-
   left_then : (before between after : Store) → IsLeft May before between → IsLeft May between after → IsLeft May before after
   left_then before between after one other = record {
     calls = one.calls ++ other.calls;
     enter = all_both one.calls other.calls one.enter other.enter;
-    is = other.is ∙ ap (left_after other.calls) one.is ∙ sym (left_both one.calls other.calls before);
+    is = other.is ∙ ap (left_after other.calls) one.is ∙ sym (left-append one.calls other.calls before);
   }
 
   left_by_access : (session : Option ℕ) (moment : ℕ) (store : Store) → IsLeft May store (accessed session moment store)

@@ -3,6 +3,7 @@ mod AnsweringInOrder
 mod Answers
 mod Beginning
 mod Calling
+mod Chaining
 mod Completing
 mod Cutting
 mod Deciding

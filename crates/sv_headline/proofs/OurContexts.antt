@@ -1,5 +1,5 @@
 -- Our contexts meet the requirements of runs.
-use Rattle.std.proofs.Common.{◌≡◌, ℕ, ◌*◌, List, [], ◌∷◌, Some, Result, Ok, Err, refl, sym, ap, subst, inl, inr}
+use Rattle.std.proofs.Common.{◌≡◌, ℕ, ◌*◌, List, [], ◌∷◌, ◌++◌, Some, Result, Ok, Err, refl, sym, ap, ◌∙◌, subst, inl, inr}
 use Rattle.std.specs.List.{filter}
 use Rattle.sv_admission.specs.Admission.{outcome_in}
 use Rattle.sv_exchange.specs.Asked.{Asked}
@@ -20,11 +20,12 @@ use Rattle.sv_live.specs.Standing.{LiveState}
 use Rattle.sv_lifecycle.specs.declared.start_fault.StartFault.{StartFault}
 use Rattle.sv_login.specs.Post.{user_sent}
 use Rattle.sv_run.specs.Effect.{whole}
-use Rattle.sv_run.specs.Lawful.{ChangesConstraintsByEdits, EndsExpired, GivesCallersByLogin, TellsOutcomes, is_outcome}
+use Rattle.sv_run.specs.Lawful.{ChangesConstraintsByEdits, ChangesSessionsByCalls, EndsExpired, GivesCallersByLogin, TellsOutcomes, is_outcome}
 use Rattle.sv_session.specs.Calls.{HoldsCaller, left_by_expiry}
 use Rattle.sv_session.specs.Expiry.{HasNoneExpired}
 use Rattle.sv_session.specs.Laws.{CallersAreEntered, CallsLeaveOrder, EmptyIsOrderly, MovesLeaveOrder}
-use Rattle.sv_session.specs.Runs.{Expire, Expires}
+use Rattle.sv_session.proofs.MoveLemmas.{left-append}
+use Rattle.sv_session.specs.Runs.{ChangedByCalls, Expire, Expires, left_after}
 use Rattle.sv_session.specs.Store.{IsOrderly, Store}
 use Rattle.sv_session.specs.declared.ended_sessions.EndedSession.{EndedSession}
 use Rattle.sv_tree.specs.SiteOfDescriptor.{Content, site_of}
@@ -60,6 +61,12 @@ ordered_through : CallsLeaveOrder → (moment : ℕ) (ended : List EndedSession)
 ordered_through law moment [] before after expires orderly = subst IsOrderly (sym expires.1) orderly
 ordered_through law moment (session ∷ ended) before after expires orderly =
     ordered_through law moment ended (left_by_expiry moment before) after expires.1 (law (Expire moment) before orderly)
+
+-- an expiry changes the sessions by calls
+expired_by_calls : (moment : ℕ) (ended : List EndedSession) (before after : Store) → Expires moment before ended after → ChangedByCalls before after
+expired_by_calls moment [] before after expires = ([], expires.1)
+expired_by_calls moment (session ∷ ended) before after expires =
+    let rest = expired_by_calls moment ended (left_by_expiry moment before) after expires.1 in (Expire moment ∷ rest.0, rest.1)
 
 module _ {S F L : Type 0} (moving : ComponentSteps S F L) where
   -- after its admission, the response to a message moves the sessions as components may
@@ -105,6 +112,17 @@ module _ {S F L : Type 0} (moving : ComponentSteps S F L) where
           let moved = handled_moves moves asked context handling.after handling.response (whole handling.entries) handles in
           let kept = leave (exchange_begun context asked) handles.exchange moved (admission context.content context.policy context.users asked context.store none) in
           subst (HasNoneExpired asked.moment) (sym handles.store) (subst (λ now. HasNoneExpired now handles.exchange.store) moved.moment kept);
+    }
+
+    pub changes_by_calls : Moves → ChangesSessionsByCalls (theory moving draws)
+    changes_by_calls moves = record {
+      by_request = λ handling handles.
+          let context = handling.context in
+          let asked = asked_of context handling.request in
+          let moved = (handled_moves moves asked context handling.after handling.response (whole handling.entries) handles).sessions in
+          let left = left_by_admission context.content context.policy context.users asked context.store in
+          (left.calls ++ moved.0, handles.store ∙ moved.2 ∙ ap (left_after moved.0) left.is ∙ sym (left-append left.calls moved.0 context.store));
+      by_expiry = λ context after moment told expires. expired_by_calls moment expires.ended context.store after.store expires.ends;
     }
 
     pub tells_outcomes : RunsAreJournalled moving → TellsOutcomes (theory moving draws)

@@ -299,6 +299,12 @@ module _ {S F L : Type 0} (moving : ComponentSteps S F L) where
       let app : deployment.descriptor ≡ context.content.app = sym (ap (λ (one : Content). one.app) content) in
       record { store = store ∙ ap no_sessions app; constraints = policy ∙ ap declared_policy app }
 
+  pub are_new : (deployments : List (Deployment S F L)) (before : JournalState) (contexts : List (ContextState S F L)) (after : JournalState)
+      → DeploysAll moving deployments before contexts after → (place : ℕ) (context : ContextState S F L) → slice_get contexts place ≡ Some context → IsNew context
+  are_new deployments before contexts after deploys place context there =
+      let own = of_deployment moving deployments before contexts after deploys place context there in
+      is_new own.deployment context own.content own.policy own.store
+
   pub contexts_go_on : (W : Type 0) → ContextsGoOn moving W
   contexts_go_on W before parts suspension stopped hands deployments words left noted noted_after container starts place context there =
       let resumed : slice_get starts.resumed place ≡ Some context = sym (ap (λ (at : State (ContextState S F L) W). slice_get at.world.contexts place) starts.state) ∙ there in
@@ -325,7 +331,7 @@ module _ {S F L : Type 0} where
   went_on number caller context before goes held =
       held_before context.users before.users number caller before.store.sessions (subst (λ (at : Store). HoldsCaller number caller at) goes.store held)
 
-  none_held : (number caller : ℕ) (context : ContextState S F L) → IsNew context → HoldsCaller number caller context.store → ⊥
+  pub none_held : (number caller : ℕ) (context : ContextState S F L) → IsNew context → HoldsCaller number caller context.store → ⊥
   none_held number caller context new held =
       let empty : list_any (is_held_by number caller) [] ≡ true = subst (λ (at : Store). HoldsCaller number caller at) new.store held in absurd (cc)
 

@@ -1,5 +1,6 @@
 pub mod AnswersInOrder
 pub mod Callers
+pub mod Chains
 pub mod Connection
 pub mod Cut
 pub mod DecidedOnce

@@ -25,7 +25,6 @@ pub fn each_container_of_a_chain_runs_lawfully<S: Servlet, F: Filter, L: Listene
 pub fn callers_of_a_chain_have_logged_in<S: Servlet, F: Filter, L: Listener, W: Words>()
     ensures { CallersOfAChainHaveLoggedIn (steps_of S.servlet_step F.filter_step L.listener_step) W.draws }
 {
-    contexts_go_on::<S, F, L, W>();
     callers_go_on::<S, F, L, W>();
     callers_stay_or_log_in::<S, F, L, W>();
 }

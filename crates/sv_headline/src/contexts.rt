@@ -3,7 +3,7 @@
 ghost use Rattle.sv_component.specs.Steps.{steps_of};
 ghost use Rattle.sv_headline.specs.Order.{SessionsStayInOrder};
 ghost use Rattle.sv_context.specs.Theory.{theory};
-ghost use Rattle.sv_run.specs.Lawful.{ChangesConstraintsByEdits, EndsExpired, GivesCallersByLogin, TellsOutcomes};
+ghost use Rattle.sv_run.specs.Lawful.{ChangesConstraintsByEdits, ChangesSessionsByCalls, EndsExpired, GivesCallersByLogin, TellsOutcomes};
 
 use sv_admission::no_admission_leaves_an_expired_session;
 use sv_component::{Filter, Listener, Servlet, runs_are_journalled};
@@ -40,6 +40,14 @@ pub fn callers_come_by_login<S: Servlet, F: Filter, L: Listener, W: Words>()
     callers_are_entered();
     answers_move_the_sessions();
     moved_sessions_are_kept();
+}
+
+/// The sessions of a context change only by calls of the session store, at each request and each expiry (Jakarta Servlet
+/// 6.0, chapter 7).
+pub fn sessions_of_contexts_change_by_calls<S: Servlet, F: Filter, L: Listener, W: Words>()
+    ensures { ChangesSessionsByCalls (theory (steps_of S.servlet_step F.filter_step L.listener_step) W.draws) }
+{
+    answers_move_the_sessions();
 }
 
 /// The sessions of a context are in the order of their numbers, at first and after each request and each expiry

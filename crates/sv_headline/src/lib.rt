@@ -5,6 +5,7 @@
 //! proves the lives of components over every list of events, up to the stop.
 #![tactic(auto)]
 
+mod chains;
 mod contexts;
 mod handed_over;
 mod laws;
@@ -16,9 +17,14 @@ mod runs;
 mod unlawful;
 mod unlawful_runs;
 
+pub use chains::{
+    callers_of_a_chain_have_logged_in, each_container_of_a_chain_runs_lawfully,
+    no_id_of_a_chain_is_given_twice,
+};
 pub use contexts::{
     callers_come_by_login, contexts_end_expired_sessions, contexts_tell_outcomes,
-    edits_alone_change_the_constraints, sessions_of_contexts_stay_in_order,
+    edits_alone_change_the_constraints, sessions_of_contexts_change_by_calls,
+    sessions_of_contexts_stay_in_order,
 };
 pub use handed_over::{
     entries_are_handed_over, only_entries_are_dispatched, other_dispatches_hand_nothing_over,
@@ -37,13 +43,12 @@ pub use lives::{components_are_destroyed_once, each_component_is_destroyed_once}
 pub use record::{
     every_lawful_run_is_a_run, every_run_is_lawful, every_run_is_lawful_until_memory_is_refused,
 };
-pub use restarts::{
-    callers_go_on, callers_of_a_resumed_container_have_logged_in, contexts_go_on,
-};
+pub use restarts::{callers_go_on, callers_of_a_resumed_container_have_logged_in, contexts_go_on};
 pub use runs::{
-    callers_logged_in, callers_logged_in_since_the_start, constraints_change_by_edits_alone,
-    orders_are_alike, orders_are_taken_alike, pieces_are_taken_in_parts, pieces_may_be_cut,
-    pieces_may_come_in_parts, requests_enter_exactly_where_allowed,
+    callers_logged_in, callers_logged_in_since_the_start, callers_stay_or_log_in,
+    constraints_change_by_edits_alone, orders_are_alike, orders_are_taken_alike,
+    pieces_are_taken_in_parts, pieces_may_be_cut, pieces_may_come_in_parts,
+    requests_enter_exactly_where_allowed, sessions_change_by_calls,
 };
 pub use unlawful::{
     access_is_decided_once, entries_call_their_servlet, entries_pass_their_first_filter,

@@ -3,12 +3,12 @@
 ghost use Rattle.sv_component.specs.Steps.{steps_of};
 ghost use Rattle.sv_headline.specs.Start.{CallersLoggedInSinceTheStart};
 ghost use Rattle.sv_context.specs.Theory.{theory};
-ghost use Rattle.sv_run.specs.Laws.{CallersLoggedIn, ConstraintsChangeByEditsAlone, OrdersAreAlike, PiecesMayBeCut, PiecesMayComeInParts, RequestsEnterExactlyWhereAllowed};
+ghost use Rattle.sv_run.specs.Laws.{CallersLoggedIn, CallersStayOrLogIn, ConstraintsChangeByEditsAlone, OrdersAreAlike, PiecesMayBeCut, PiecesMayComeInParts, RequestsEnterExactlyWhereAllowed, SessionsChangeByCalls};
 ghost use Rattle.sv_run.specs.Orders.{OrdersAreTakenAlike, PiecesAreTakenInParts};
 
 use crate::contexts::{
     callers_come_by_login, contexts_end_expired_sessions, contexts_tell_outcomes,
-    edits_alone_change_the_constraints,
+    edits_alone_change_the_constraints, sessions_of_contexts_change_by_calls,
 };
 use sv_component::{Filter, Listener, Servlet};
 use sv_context::Context;
@@ -30,6 +30,24 @@ pub fn callers_logged_in<S: Servlet, F: Filter, L: Listener, W: Words>()
 {
     callers_come_by_login::<S, F, L, W>();
     sv_run::callers_logged_in::<Context<S, F, L>, W>();
+}
+
+/// Over every list of events, until memory runs out, a session that holds a caller held it before, and throughout, or got
+/// it by a login to it as that caller, which no later message has undone (Jakarta Servlet 6.0, section 13.6.3).
+pub fn callers_stay_or_log_in<S: Servlet, F: Filter, L: Listener, W: Words>()
+    ensures { CallersStayOrLogIn (theory (steps_of S.servlet_step F.filter_step L.listener_step) W.draws) }
+{
+    callers_come_by_login::<S, F, L, W>();
+    sv_run::callers_stay_or_log_in::<Context<S, F, L>, W>();
+}
+
+/// Over every list of events, until memory runs out, the sessions of each context change only by calls of the session
+/// store (Jakarta Servlet 6.0, chapter 7).
+pub fn sessions_change_by_calls<S: Servlet, F: Filter, L: Listener, W: Words>()
+    ensures { SessionsChangeByCalls (theory (steps_of S.servlet_step F.filter_step L.listener_step) W.draws) }
+{
+    sessions_of_contexts_change_by_calls::<S, F, L, W>();
+    sv_run::sessions_change_by_calls::<Context<S, F, L>, W>();
 }
 
 /// In a run that begins without sessions, every caller has logged in. Newly deployed contexts have no sessions
