@@ -1,6 +1,7 @@
 """Which trial fails without each line of nginx.conf, and the configurations in which a trial needs to see a line."""
 from __future__ import annotations
 
+from pathlib import Path
 from typing import Callable, Iterator, NamedTuple, Optional
 
 import hostile
@@ -90,6 +91,9 @@ TLS = [
 ]
 # The line that README.md adds for paths whose clients expect JSON, and the one that it follows.
 JSON_PATHS, TYPES = '"~/api/" "";', "default $http_accept;"
+# The module that README.md loads against an answer 101, and its line in the location of the application.
+MODULE = Path("/usr/lib/nginx/modules/ngx_http_headers_more_filter_module.so")
+NO_UPGRADE = "more_clear_input_headers Upgrade;"
 # Lines that are as wrong when they are changed: a line, another one in its place, and the trial that fails then.
 CHANGES: list[tuple[str, str, Try]] = [
     (
@@ -183,6 +187,12 @@ def _with_small_buffers(text: str) -> str:
     return replaced(text, LISTEN, LISTEN.replace(";", f" sndbuf={SEND_BUFFER};"))
 
 
+def _with_module(text: str) -> str:
+    first, place = "daemon off;", "location @application {"
+    loaded = replaced(text, first, f"load_module {MODULE};\n{first}")
+    return replaced(loaded, place, f"{place}\n{NO_UPGRADE}")
+
+
 # Additions to the configuration, for trials that otherwise cannot see whether its line is there.
 VARIANTS: dict[Try, Callable[[str], str]] = {
     trials.try_buffering: _with_small_buffers,
@@ -190,6 +200,7 @@ VARIANTS: dict[Try, Callable[[str], str]] = {
     trials.try_expires: _with_cache_of_application,
     trials.try_cache: _with_cache_of_all,
     trials.try_json_paths: _with_json_paths,
+    trials.try_no_switch: _with_module,
     trials.try_tls: _with_tls,
     trials.try_underscores: _with_underscores,
 }
@@ -198,3 +209,9 @@ VARIANTS: dict[Try, Callable[[str], str]] = {
 def variant(trial: Try, text: str) -> str:
     """The configuration for a trial."""
     return VARIANTS.get(trial, str)(text)
+
+
+def missing(trial: Try) -> str:
+    """The package without which a trial is impossible here, nothing if it has all."""
+    is_missing = trial is trials.try_no_switch and not MODULE.exists()
+    return "libnginx-mod-http-headers-more-filter" if is_missing else ""

@@ -454,6 +454,30 @@ def try_web_socket(trial: Trial) -> None:
     see("what arrives", (it.method, fields), ("GET", [None, None, None]))
 
 
+def see_after_switch(trial: Trial, wanted: list[tuple[str, bool]]) -> None:
+    """Sees what arrives of two requests on a connection, if the application answers the first one by 101: the paths, and whether each request has the secret."""
+    end = "HTTP/1.1\r\nHost: x\r\n"
+    for field in ("Connection: Upgrade\r\nUpgrade: websocket", "Upgrade: 0", "Upgrade:"):
+        trial.visitor()
+        text = f"GET /open?status=101 {end}{field}\r\n\r\nGET /admin/ {end}\r\n"
+        raw(trial.port, text.encode(), 2)
+        came = [
+            (it.target.partition("?")[0], it.fields.get("x-application-secret") == SECRET)
+            for it in trial.application.taken()
+        ]
+        see(f"what arrives, with {field!r}", came, wanted)
+
+
+def try_switch(trial: Trial) -> None:
+    """If the application answers 101, a client with a field Upgrade reaches it past the container, but without the secret."""
+    see_after_switch(trial, [("/open", True), ("/admin/", False)])
+
+
+def try_no_switch(trial: Trial) -> None:
+    """With two lines that README.md adds, no field Upgrade of a client opens a connection to an application that answers 101."""
+    see_after_switch(trial, [("/open", True)])
+
+
 @contextlib.contextmanager
 def uploads(trial: Trial, counts: dict[str, int], wanted: int) -> Iterator[list[int]]:
     """So many uploads of each address that do not end: the statuses of those that are refused, once there are as many as expected."""
