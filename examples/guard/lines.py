@@ -91,9 +91,10 @@ TLS = [
 ]
 # The line that README.md adds for paths whose clients expect JSON, and the one that it follows.
 JSON_PATHS, TYPES = '"~/api/" "";', "default $http_accept;"
-# The module that README.md loads against an answer 101, and its line in the location of the application.
+# The module that README.md loads, and the lines that it adds to the location of the application.
 MODULE = Path("/usr/lib/nginx/modules/ngx_http_headers_more_filter_module.so")
 NO_UPGRADE = "more_clear_input_headers Upgrade;"
+NO_PREFIXES = "more_clear_input_headers 'X-Application-*' 'X-Forwarded-*' 'Remote-*';"
 # Lines that are as wrong when they are changed: a line, another one in its place, and the trial that fails then.
 CHANGES: list[tuple[str, str, Try]] = [
     (
@@ -187,10 +188,18 @@ def _with_small_buffers(text: str) -> str:
     return replaced(text, LISTEN, LISTEN.replace(";", f" sndbuf={SEND_BUFFER};"))
 
 
-def _with_module(text: str) -> str:
+def _with_module(text: str, line: str) -> str:
     first, place = "daemon off;", "location @application {"
     loaded = replaced(text, first, f"load_module {MODULE};\n{first}")
-    return replaced(loaded, place, f"{place}\n{NO_UPGRADE}")
+    return replaced(loaded, place, f"{place}\n{line}")
+
+
+def _without_upgrade(text: str) -> str:
+    return _with_module(text, NO_UPGRADE)
+
+
+def _without_prefixes(text: str) -> str:
+    return _with_module(text, NO_PREFIXES)
 
 
 # Additions to the configuration, for trials that otherwise cannot see whether its line is there.
@@ -200,7 +209,8 @@ VARIANTS: dict[Try, Callable[[str], str]] = {
     trials.try_expires: _with_cache_of_application,
     trials.try_cache: _with_cache_of_all,
     trials.try_json_paths: _with_json_paths,
-    trials.try_no_switch: _with_module,
+    trials.try_no_switch: _without_upgrade,
+    trials.try_prefixes: _without_prefixes,
     trials.try_tls: _with_tls,
     trials.try_underscores: _with_underscores,
 }
@@ -213,5 +223,5 @@ def variant(trial: Try, text: str) -> str:
 
 def missing(trial: Try) -> str:
     """The package without which a trial is impossible here, nothing if it has all."""
-    is_missing = trial is trials.try_no_switch and not MODULE.exists()
-    return "libnginx-mod-http-headers-more-filter" if is_missing else ""
+    needs_module = trial in (trials.try_no_switch, trials.try_prefixes)
+    return "libnginx-mod-http-headers-more-filter" if needs_module and not MODULE.exists() else ""

@@ -233,7 +233,7 @@ REPLACED = {
 CLEARED = """Authorization Proxy-Authorization Remote-User Remote-Groups Remote-Name Remote-Email X-Remote-User X-Remote-Group X-Remote-Groups X-User
     X-Caller X-WEBAUTH-USER X-Auth-Request-User X-Auth-Request-Groups X-Auth-Request-Email X-Auth-Request-Preferred-Username
     X-Auth-Request-Access-Token X-Forwarded-User X-Forwarded-Groups X-Forwarded-Email X-Forwarded-Preferred-Username X-Forwarded-Access-Token
-    X-Forwarded-Client-Cert X-Client-Cert X-SSL-Client-Cert X-Application-Target X-Application-Cookie X-Application-Context Proxy Forwarded
+    X-Forwarded-Client-Cert X-Forwarded-Tls-Client-Cert X-Forwarded-Tls-Client-Cert-Info X-Client-Cert X-SSL-Client-Cert X-Application-Target X-Application-Cookie X-Application-Context Proxy Forwarded
     X-Forwarded-Port X-Forwarded-Server X-Forwarded-Ssl X-Forwarded-Scheme X-Forwarded-Protocol X-Forwarded-By X-Real-IP X-Client-IP
     X-Cluster-Client-IP True-Client-IP X-Original-Host X-Host Front-End-Https X-Url-Scheme X-Scheme X-Forwarded-Prefix X-Forwarded-Path
     X-Forwarded-Uri X-Forwarded-Method X-Original-URL X-Original-URI X-Original-Method X-Rewrite-URL X-Script-Name X-Ms-Original-Url
@@ -259,6 +259,16 @@ def try_fields_of_clients(trial: Trial) -> None:
     fields = trial.arrived().fields
     came = [fields.get(f"x-application-{key}") for key in ("caller", "roles")]
     see("the caller of a stranger who sends one", came, [None, None])
+
+
+def try_prefixes(trial: Trial) -> None:
+    """With a line that README.md adds, no field of a client arrives whose name begins like that of one that an application may trust."""
+    forged = {f"{it}Other": "forged" for it in ("X-Application-", "X-Forwarded-", "Remote-")}
+    trial.caller("ann").ask("GET", "/members/", {**forged, "X-Other": "own"})
+    fields = trial.arrived().fields
+    see("the fields of the client", [it for it in fields if it.endswith("other")], ["x-other"])
+    see("the caller", fields["x-application-caller"], "ann")
+    see("a field of nginx", fields["x-forwarded-proto"], "http")
 
 
 def try_underscores(trial: Trial) -> None:
