@@ -557,6 +557,19 @@ def try_guesses(trial: Trial) -> None:
     see("a login from elsewhere", trial.visitor("127.0.0.71").log_in("ann").status, 303)
 
 
+def try_uncounted_logins(trial: Trial) -> None:
+    """Where nginx reads another path than that of a login, and so does not count it, the right password is no login."""
+    content = b"j_username=ann&j_password=violet"
+    form = {**HTML, "Content-Type": "application/x-www-form-urlencoded"}
+    for target in ("/j_security_check;x=%2f..%2fy", "/members/j_security_check;a%2fb"):
+        visitor = trial.visitor("127.0.0.72")
+        visitor.get("/members/")
+        statuses = {visitor.ask("POST", target, form, content).status for _ in range(25)}
+        see(f"the answers to {target}", statuses, {200})
+        see_page("the page after it", visitor.get("/members/"), 200, LOGIN)
+    trial.see_none("requests of a stranger")
+
+
 def try_long_targets(trial: Trial) -> None:
     """The longest target that nginx takes arrives, and so do long cookies."""
     for piece in ("x", "%C3%A9", "%3B", "^"):
