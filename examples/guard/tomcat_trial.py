@@ -156,6 +156,19 @@ class Direct:
             yield peer.getresponse()
 
 
+def see_each_request(direct: Direct) -> None:
+    """Sees that the secret of a request does not count for the next one on its connection."""
+    peer = http.client.HTTPConnection("127.0.0.1", direct.port, timeout=SECONDS)
+    ann = {"X-Application-Caller": "ann", "X-Application-Roles": "tomcat"}
+    came = []
+    with contextlib.closing(peer):
+        for fields in ({**ann, **direct.fields}, ann):
+            peer.request("GET", PROTECTED, headers=fields)
+            answer = peer.getresponse()
+            came.append((answer.status, answer.will_close, b"<b>ann</b>" in answer.read()))
+    see("Tomcat, one connection", came, [(200, False, True), (403, False, False)])
+
+
 def session_of(text: str) -> str:
     """The id of the application's session on its protected page."""
     found = re.search(r"in session <b>(\w+)</b>", text)
@@ -320,6 +333,7 @@ def try_tomcat(program: str, room: str) -> None:
             see_sessions(guard_port)
             see_threads(guard_port)
             see_early(direct)
+            see_each_request(direct)
             see_root(guard_port, direct)
             see_paths(guard_port, direct)
             see_log_out(folder, guard_port)
