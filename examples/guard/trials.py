@@ -195,8 +195,10 @@ def try_cookies(trial: Trial) -> None:
     """The application receives all cookies but that of the container's session, which has a name of its own."""
     ann = trial.caller("ann")
     see("the names of the cookies", [name for name, _ in ann.jar], [COOKIE])
-    ann.get("/members/")
-    see("the field without others", trial.arrived().fields.get("cookie"), None)
+    # The second target is in another context, to which a browser sends the cookie of the root, too.
+    for target in ("/members/", "/two/open"):
+        ann.get(target)
+        see(f"the field without others at {target}", trial.arrived().fields.get("cookie"), None)
     ann.jar = {("JSESSIONID", "/"): "own", **ann.jar, ("last", "/"): "1"}
     ann.get("/members/")
     see("the field with others", trial.arrived().fields.get("cookie"), "JSESSIONID=own; last=1")
