@@ -26,6 +26,8 @@ ROWS: list[tuple[str, str, Optional[Try]]] = [
     ('map "$request_method', "", trials.try_failed_login),
     ('map "$http_content_length', "default", trials.try_bodies_of_all),
     ('map "$http_content_length', "", trials.try_bodies_of_address),
+    ("map $request", "default", trials.try_fields_of_clients),
+    ("map $request", "", trials.try_hosts),
     ('map "$scheme', '"~^https', trials.try_tls),
     ('map "$scheme', "", trials.try_strangers),
     ("map $with_body", "", trials.try_bodies_of_address),
@@ -89,6 +91,10 @@ TLS = [
     "ssl_certificate_key KEYS/key.pem;",
     "proxy_cookie_flags GUARDSESSION secure;",
 ]
+# What README.md adds for the name of a host: a line for the server, and a server for other names.
+NAMED = "named.example"
+NAME = f"server_name {NAMED};"
+OTHER_NAMES = f"server {{ {LISTEN.replace(';', ' default_server;')} return 421; }}"
 # The line that README.md adds for paths whose clients expect JSON, and the one that it follows.
 JSON_PATHS, TYPES = '"~/api/" "";', "default $http_accept;"
 # The module that README.md loads, and the lines that it adds to the location of the application.
@@ -179,6 +185,12 @@ def _with_tls(text: str) -> str:
     return replaced(text, LISTEN, "\n".join([LISTEN.replace(";", " ssl;"), *TLS]))
 
 
+def _with_name(text: str) -> str:
+    first = "upstream container {"
+    named = replaced(text, LISTEN, f"{LISTEN}\n{NAME}")
+    return replaced(named, first, f"{OTHER_NAMES}\n{first}")
+
+
 def _with_json_paths(text: str) -> str:
     return replaced(text, TYPES, f"{TYPES}\n{JSON_PATHS}")
 
@@ -209,6 +221,7 @@ VARIANTS: dict[Try, Callable[[str], str]] = {
     trials.try_expires: _with_cache_of_application,
     trials.try_cache: _with_cache_of_all,
     trials.try_json_paths: _with_json_paths,
+    trials.try_names: _with_name,
     trials.try_no_switch: _without_upgrade,
     trials.try_prefixes: _without_prefixes,
     trials.try_tls: _with_tls,

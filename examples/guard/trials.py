@@ -263,6 +263,32 @@ def try_fields_of_clients(trial: Trial) -> None:
     see("the caller of a stranger who sends one", came, [None, None])
 
 
+def host_of(trial: Trial, target: str, host: str) -> tuple[int, list[list[str]]]:
+    """The status of the answer to a request with this field Host, and the hosts that arrive."""
+    trial.visitor()
+    text = f"GET {target} HTTP/1.1\r\nHost: {host}\r\nConnection: close\r\n\r\n"
+    status = int(raw(trial.port, text.encode()).split(b" ", 2)[1])
+    taken = [it.fields for it in trial.application.taken()]
+    return status, [[it["host"], it["x-forwarded-host"]] for it in taken]
+
+
+def try_hosts(trial: Trial) -> None:
+    """The host of a target takes the place of the field Host."""
+    for target in ("http://a.example:81/open", "HTTP://a.example:81?x", "x://a.example:81/open"):
+        came = host_of(trial, target, "b.example")
+        see(f"the hosts for {target}", came, (200, [["a.example:81"] * 2]))
+    see("the hosts for a query", host_of(trial, "/open?x://a/", "b"), (200, [["b"] * 2]))
+
+
+def try_names(trial: Trial) -> None:
+    """With lines that README.md adds, a request for another host is refused, wherever it names the host."""
+    own, other = "named.example", "b.example"
+    see("the name", host_of(trial, "/open", f"{own}:80"), (200, [[f"{own}:80"] * 2]))
+    see("the name in a target", host_of(trial, f"http://{own}/open", other), (200, [[own] * 2]))
+    for target, host in (("/open", other), (f"http://{other}/open", own)):
+        see(f"{target} with Host: {host}", host_of(trial, target, host), (421, []))
+
+
 def try_prefixes(trial: Trial) -> None:
     """With a line that README.md adds, no field of a client arrives whose name begins like that of one that an application may trust."""
     forged = {f"{it}Other": "forged" for it in ("X-Application-", "X-Forwarded-", "Remote-")}
