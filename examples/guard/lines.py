@@ -1,6 +1,7 @@
 """Which trial fails without each line of nginx.conf, and the configurations in which a trial needs to see a line."""
 from __future__ import annotations
 
+from pathlib import Path
 from typing import Callable, Iterator, NamedTuple, Optional
 
 import hostile
@@ -25,6 +26,8 @@ ROWS: list[tuple[str, str, Optional[Try]]] = [
     ('map "$request_method', "", trials.try_failed_login),
     ('map "$http_content_length', "default", trials.try_bodies_of_all),
     ('map "$http_content_length', "", trials.try_bodies_of_address),
+    ("map $request", "default", trials.try_fields_of_clients),
+    ("map $request", "", trials.try_hosts),
     ('map "$scheme', '"~^https', trials.try_tls),
     ('map "$scheme', "", trials.try_strangers),
     ("map $with_body", "", trials.try_bodies_of_address),
@@ -88,8 +91,16 @@ TLS = [
     "ssl_certificate_key KEYS/key.pem;",
     "proxy_cookie_flags GUARDSESSION secure;",
 ]
+# What README.md adds for the name of a host: a line for the server, and a server for other names.
+NAMED = "named.example"
+NAME = f"server_name {NAMED};"
+OTHER_NAMES = f"server {{ {LISTEN.replace(';', ' default_server;')} return 421; }}"
 # The line that README.md adds for paths whose clients expect JSON, and the one that it follows.
 JSON_PATHS, TYPES = '"~/api/" "";', "default $http_accept;"
+# The module that README.md loads, and the lines that it adds to the location of the application.
+MODULE = Path("/usr/lib/nginx/modules/ngx_http_headers_more_filter_module.so")
+NO_UPGRADE = "more_clear_input_headers Upgrade;"
+NO_PREFIXES = "more_clear_input_headers 'X-Application-*' 'X-Forwarded-*' 'Remote-*';"
 # Lines that are as wrong when they are changed: a line, another one in its place, and the trial that fails then.
 CHANGES: list[tuple[str, str, Try]] = [
     (
@@ -174,6 +185,12 @@ def _with_tls(text: str) -> str:
     return replaced(text, LISTEN, "\n".join([LISTEN.replace(";", " ssl;"), *TLS]))
 
 
+def _with_name(text: str) -> str:
+    first = "upstream container {"
+    named = replaced(text, LISTEN, f"{LISTEN}\n{NAME}")
+    return replaced(named, first, f"{OTHER_NAMES}\n{first}")
+
+
 def _with_json_paths(text: str) -> str:
     return replaced(text, TYPES, f"{TYPES}\n{JSON_PATHS}")
 
@@ -183,6 +200,20 @@ def _with_small_buffers(text: str) -> str:
     return replaced(text, LISTEN, LISTEN.replace(";", f" sndbuf={SEND_BUFFER};"))
 
 
+def _with_module(text: str, line: str) -> str:
+    first, place = "daemon off;", "location @application {"
+    loaded = replaced(text, first, f"load_module {MODULE};\n{first}")
+    return replaced(loaded, place, f"{place}\n{line}")
+
+
+def _without_upgrade(text: str) -> str:
+    return _with_module(text, NO_UPGRADE)
+
+
+def _without_prefixes(text: str) -> str:
+    return _with_module(text, NO_PREFIXES)
+
+
 # Additions to the configuration, for trials that otherwise cannot see whether its line is there.
 VARIANTS: dict[Try, Callable[[str], str]] = {
     trials.try_buffering: _with_small_buffers,
@@ -190,6 +221,9 @@ VARIANTS: dict[Try, Callable[[str], str]] = {
     trials.try_expires: _with_cache_of_application,
     trials.try_cache: _with_cache_of_all,
     trials.try_json_paths: _with_json_paths,
+    trials.try_names: _with_name,
+    trials.try_no_switch: _without_upgrade,
+    trials.try_prefixes: _without_prefixes,
     trials.try_tls: _with_tls,
     trials.try_underscores: _with_underscores,
 }
@@ -198,3 +232,9 @@ VARIANTS: dict[Try, Callable[[str], str]] = {
 def variant(trial: Try, text: str) -> str:
     """The configuration for a trial."""
     return VARIANTS.get(trial, str)(text)
+
+
+def missing(trial: Try) -> str:
+    """The package without which a trial is impossible here, nothing if it has all."""
+    needs_module = trial in (trials.try_no_switch, trials.try_prefixes)
+    return "libnginx-mod-http-headers-more-filter" if needs_module and not MODULE.exists() else ""

@@ -66,7 +66,8 @@ def guard(text: str, room: str, container_port: int, application: str) -> Iterat
 @contextlib.contextmanager
 def program_at(words: list[str], address: str) -> Iterator[None]:
     """An application, once it accepts connections at an address."""
-    with subprocess.Popen(words, stdin=subprocess.DEVNULL, stderr=subprocess.DEVNULL) as process:
+    nothing = subprocess.DEVNULL
+    with subprocess.Popen(words, stdin=nothing, stdout=nothing, stderr=nothing) as process:
         try:
             wait_until(f"{words} listens", lambda: process.poll() is not None or accepts(address))
             if process.poll() is not None:
@@ -89,5 +90,5 @@ def accepts(address: str) -> bool:
 def replaced(text: str, old: str, new: str) -> str:
     """A configuration with one line in place of another."""
     if len(re.findall(rf"(?m)^ *{re.escape(old)}$", text)) != 1:
-        sys.exit(f"nginx.conf has not one line {old!r}")
+        sys.exit(f"not one line is {old!r}")
     return text.replace(old, new)

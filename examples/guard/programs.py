@@ -13,6 +13,7 @@ from typing import Iterator
 
 from others import try_others
 from parts import CONFIGURATION, HERE, SECRET, SITE, container, guard, program_at, see
+from readme import try_readme
 from recorder import recorder
 from servers import TOP, wait_until
 from sites import free_ports
@@ -168,6 +169,7 @@ def try_all(program: str, folder: str) -> None:
         try_down(port, folder)
     try_container_down(folder)
     try_edit(program, folder)
+    try_readme(program, folder)
     try_imported(folder)
     try_others(folder)
     try_tomcat(program, folder)

@@ -1,9 +1,8 @@
-"""What is tried of a real Tomcat: its examples, guarded by a site that tools/import-web-xml makes, with the valve of the folder `tomcat`."""
+"""What is tried of a real Tomcat: its examples and its manager, guarded by sites that tools/import-web-xml makes, with the valve of the folder `tomcat`."""
 from __future__ import annotations
 
 import contextlib
 import http.client
-import os
 import re
 import shutil
 import subprocess
@@ -22,6 +21,9 @@ TOMCAT = Path("/usr/share/tomcat10")
 APPLICATION = Path("/usr/share/tomcat10-examples/examples")
 PROTECTED = "/examples/jsp/security/protected/index.jsp"
 ROLES = {"ann": ["tomcat"], "ben": ["tomcat", "role1"], "eve": ["other"]}
+# An application whose own constraints ask by BASIC, and which works on Tomcat itself.
+MANAGER = Path("/usr/share/tomcat10-admin/manager")
+MANAGER_ROLES = {"ann": ["manager-gui"], "ben": ["manager-script"]}
 SERVER = """<Server port="-1"><Service name="Catalina"><Connector port="{port}" address="127.0.0.1"/>
 <Engine name="Catalina" defaultHost="localhost"><Valve className="GuardValve" secret="{secret}"/>
 <Valve className="org.apache.catalina.valves.RemoteIpValve"/>
@@ -32,6 +34,7 @@ CONTEXT = """<Context docBase="{place}"><Resources allowLinking="true">
 <PostResources className="org.apache.catalina.webresources.DirResourceSet" base="{here}/tomcat/trial" webAppMount="/trial"/>
 </Resources></Context>
 """
+MANAGER_CONTEXT = f'<Context docBase="{MANAGER}" privileged="true"/>\n'
 # Paths that Tomcat takes for the protected page, and what a stranger gets at each: the page for the login, or a refusal.
 READ_AS_PROTECTED = {
     "/examples/jsp/security;a=b/protected;c/index.jsp": 200,
@@ -55,7 +58,7 @@ JAVA = ["java", "-Xmx256m", "-XX:+UseSerialGC", "-XX:TieredStopAtLevel=1"]
 
 
 def make_tomcat(base: Path, port: int, secret: str) -> None:
-    """Makes the folder of a Tomcat with its examples and the valve."""
+    """Makes the folder of a Tomcat with its examples, its manager and the valve."""
     for name in ("conf/Catalina/localhost", "lib", "logs", "temp", "work"):
         (base / name).mkdir(parents=True)
     subprocess.run([HERE / "tomcat/build", base / "lib"], check=True)
@@ -64,6 +67,8 @@ def make_tomcat(base: Path, port: int, secret: str) -> None:
     (base / "conf/server.xml").write_text(SERVER.format(port=port, secret=secret))
     context = base / "conf/Catalina/localhost/examples.xml"
     context.write_text(CONTEXT.format(place=APPLICATION, here=HERE))
+    if MANAGER.exists():
+        context.with_name("manager.xml").write_text(MANAGER_CONTEXT)
 
 
 @contextlib.contextmanager
@@ -87,17 +92,19 @@ def tomcat(base: Path, port: int) -> Iterator[None]:
             process.terminate()
 
 
-def imported(folder: Path, port: int) -> str:
-    """Writes the site that guards the examples, with three users. Returns the secret."""
-    words = [f"{TOP}/tools/import-web-xml", str(APPLICATION / "WEB-INF/web.xml")]
-    more = ["--guard", f"http://127.0.0.1:{port}", "--context", "/examples"]
+def imported(folder: Path, port: int, application: Path, roles: dict[str, list[str]]) -> str:
+    """Writes the site that guards an application, with users. Returns the secret."""
+    words = [f"{TOP}/tools/import-web-xml", str(application / "WEB-INF/web.xml")]
+    more = ["--guard", f"http://127.0.0.1:{port}", "--context", f"/{application.name}"]
     subprocess.run(
         [*words, *more, "--users", "users.toml", "-o", str(folder)],
         stderr=subprocess.DEVNULL,
         check=True,
     )
-    users = [with_password(it, ROLES[it], b"salt", PASSWORDS[it].encode()) for it in ROLES]
+    users = [with_password(it, roles[it], b"salt", PASSWORDS[it].encode()) for it in roles]
     (folder / "users.toml").write_text("\n".join(it.text() for it in users))
+    # Workers of nginx read the pages.
+    folder.chmod(0o755)
     return found_in(folder, "X-Application-Secret ([0-9a-f]+);")
 
 
@@ -147,6 +154,19 @@ class Direct:
         with contextlib.closing(peer):
             peer.request(method, target, headers={**self.fields, **named})
             yield peer.getresponse()
+
+
+def see_each_request(direct: Direct) -> None:
+    """Sees that the secret of a request does not count for the next one on its connection."""
+    peer = http.client.HTTPConnection("127.0.0.1", direct.port, timeout=SECONDS)
+    ann = {"X-Application-Caller": "ann", "X-Application-Roles": "tomcat"}
+    came = []
+    with contextlib.closing(peer):
+        for fields in ({**ann, **direct.fields}, ann):
+            peer.request("GET", PROTECTED, headers=fields)
+            answer = peer.getresponse()
+            came.append((answer.status, answer.will_close, b"<b>ann</b>" in answer.read()))
+    see("Tomcat, one connection", came, [(200, False, True), (403, False, False)])
 
 
 def session_of(text: str) -> str:
@@ -267,13 +287,40 @@ def see_open(port: int, tomcat_port: int) -> None:
         see("Tomcat, without the secret", raw_status(tomcat_port, line, *forged, *more), 403)
 
 
+def try_manager(program: str, folder: Path, port: int, secret: str) -> None:
+    """Sees that the manager of a running Tomcat, whose own constraints ask by BASIC, takes the callers and roles of the guard."""
+    if not MANAGER.exists():
+        print("manager: tomcat10-admin is not installed, so it was not tried")
+        return
+    own = imported(folder, port, MANAGER, MANAGER_ROLES)
+    configuration = folder / "nginx.conf"
+    configuration.write_text(configuration.read_text().replace(own, secret))
+    with container(program, str(folder)) as it, nginx(folder, it) as guard_port:
+        see_manager(guard_port, port)
+    print("manager: Tomcat's manager takes the callers and roles of the guard in place of BASIC")
+
+
+def see_manager(port: int, tomcat_port: int) -> None:
+    page, text = "/manager/html", "/manager/text/list"
+    see("manager, past nginx", raw_status(tomcat_port, f"GET {page} HTTP/1.1"), 403)
+    ann, ben = Visitor(port), Visitor(port, "127.0.0.2")
+    see_page("manager, a stranger", ann.get(page), 200, "<h1>Log in</h1>")
+    see("manager, the login", ann.log_in("ann", f"{page}/list").status, 303)
+    shown = ann.get(page)
+    see("manager, its challenge", (shown.status, shown.field("www-authenticate")), (200, ""))
+    see("manager, its page", "Tomcat Web Application Manager" in shown.text, True)
+    see_page("manager, the role of scripts", ann.get(text), 403, "<h1>Not for you</h1>")
+    see("manager, a login of a script", ben.log_in("ben", text).status, 303)
+    see("manager, the list", ben.get(text).text.partition("\n")[0][:4], "OK -")
+    see_page("manager, the role of people", ben.get(page), 403, "<h1>Not for you</h1>")
+
+
 def try_tomcat(program: str, room: str) -> None:
     if not (TOMCAT.exists() and APPLICATION.exists() and shutil.which("javac")):
         print("Tomcat: it is not installed with its examples and a compiler, so it was not tried")
         return
     folder, (port,) = Path(room, "tomcat-site"), free_ports(1)
-    direct = Direct(port, imported(folder, port))
-    os.chmod(folder, 0o755)
+    direct = Direct(port, imported(folder, port, APPLICATION, ROLES))
     with open(folder / "web.toml", "a") as file:
         file.write(CONFIDENTIAL)
     secret = direct.fields["X-Application-Secret"]
@@ -286,12 +333,14 @@ def try_tomcat(program: str, room: str) -> None:
             see_sessions(guard_port)
             see_threads(guard_port)
             see_early(direct)
+            see_each_request(direct)
             see_root(guard_port, direct)
             see_paths(guard_port, direct)
             see_log_out(folder, guard_port)
         keys = f"{room}/keys"
         with nginx(folder, it, *[line.replace("KEYS", keys) for line in TLS]) as guard_port:
             see_tls(guard_port, f"{room}/certificate.pem")
-    print(
-        "Tomcat: its examples know the callers and roles of the guard, and a session is for one caller"
-    )
+        print(
+            "Tomcat: its examples know the callers and roles of the guard, and a session is for one caller"
+        )
+        try_manager(program, Path(room, "manager-site"), port, secret)

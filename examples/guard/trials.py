@@ -195,8 +195,10 @@ def try_cookies(trial: Trial) -> None:
     """The application receives all cookies but that of the container's session, which has a name of its own."""
     ann = trial.caller("ann")
     see("the names of the cookies", [name for name, _ in ann.jar], [COOKIE])
-    ann.get("/members/")
-    see("the field without others", trial.arrived().fields.get("cookie"), None)
+    # The second target is in another context, to which a browser sends the cookie of the root, too.
+    for target in ("/members/", "/two/open"):
+        ann.get(target)
+        see(f"the field without others at {target}", trial.arrived().fields.get("cookie"), None)
     ann.jar = {("JSESSIONID", "/"): "own", **ann.jar, ("last", "/"): "1"}
     ann.get("/members/")
     see("the field with others", trial.arrived().fields.get("cookie"), "JSESSIONID=own; last=1")
@@ -233,7 +235,7 @@ REPLACED = {
 CLEARED = """Authorization Proxy-Authorization Remote-User Remote-Groups Remote-Name Remote-Email X-Remote-User X-Remote-Group X-Remote-Groups X-User
     X-Caller X-WEBAUTH-USER X-Auth-Request-User X-Auth-Request-Groups X-Auth-Request-Email X-Auth-Request-Preferred-Username
     X-Auth-Request-Access-Token X-Forwarded-User X-Forwarded-Groups X-Forwarded-Email X-Forwarded-Preferred-Username X-Forwarded-Access-Token
-    X-Forwarded-Client-Cert X-Client-Cert X-SSL-Client-Cert X-Application-Target X-Application-Cookie X-Application-Context Proxy Forwarded
+    X-Forwarded-Client-Cert X-Forwarded-Tls-Client-Cert X-Forwarded-Tls-Client-Cert-Info X-Client-Cert X-SSL-Client-Cert X-Application-Target X-Application-Cookie X-Application-Context Proxy Forwarded
     X-Forwarded-Port X-Forwarded-Server X-Forwarded-Ssl X-Forwarded-Scheme X-Forwarded-Protocol X-Forwarded-By X-Real-IP X-Client-IP
     X-Cluster-Client-IP True-Client-IP X-Original-Host X-Host Front-End-Https X-Url-Scheme X-Scheme X-Forwarded-Prefix X-Forwarded-Path
     X-Forwarded-Uri X-Forwarded-Method X-Original-URL X-Original-URI X-Original-Method X-Rewrite-URL X-Script-Name X-Ms-Original-Url
@@ -259,6 +261,42 @@ def try_fields_of_clients(trial: Trial) -> None:
     fields = trial.arrived().fields
     came = [fields.get(f"x-application-{key}") for key in ("caller", "roles")]
     see("the caller of a stranger who sends one", came, [None, None])
+
+
+def host_of(trial: Trial, target: str, host: str) -> tuple[int, list[list[str]]]:
+    """The status of the answer to a request with this field Host, and the hosts that arrive."""
+    trial.visitor()
+    text = f"GET {target} HTTP/1.1\r\nHost: {host}\r\nConnection: close\r\n\r\n"
+    status = int(raw(trial.port, text.encode()).split(b" ", 2)[1])
+    taken = [it.fields for it in trial.application.taken()]
+    return status, [[it["host"], it["x-forwarded-host"]] for it in taken]
+
+
+def try_hosts(trial: Trial) -> None:
+    """The host of a target takes the place of the field Host."""
+    for target in ("http://a.example:81/open", "HTTP://a.example:81?x", "x://a.example:81/open"):
+        came = host_of(trial, target, "b.example")
+        see(f"the hosts for {target}", came, (200, [["a.example:81"] * 2]))
+    see("the hosts for a query", host_of(trial, "/open?x://a/", "b"), (200, [["b"] * 2]))
+
+
+def try_names(trial: Trial) -> None:
+    """With lines that README.md adds, a request for another host is refused, wherever it names the host."""
+    own, other = "named.example", "b.example"
+    see("the name", host_of(trial, "/open", f"{own}:80"), (200, [[f"{own}:80"] * 2]))
+    see("the name in a target", host_of(trial, f"http://{own}/open", other), (200, [[own] * 2]))
+    for target, host in (("/open", other), (f"http://{other}/open", own)):
+        see(f"{target} with Host: {host}", host_of(trial, target, host), (421, []))
+
+
+def try_prefixes(trial: Trial) -> None:
+    """With a line that README.md adds, no field of a client arrives whose name begins like that of one that an application may trust."""
+    forged = {f"{it}Other": "forged" for it in ("X-Application-", "X-Forwarded-", "Remote-")}
+    trial.caller("ann").ask("GET", "/members/", {**forged, "X-Other": "own"})
+    fields = trial.arrived().fields
+    see("the fields of the client", [it for it in fields if it.endswith("other")], ["x-other"])
+    see("the caller", fields["x-application-caller"], "ann")
+    see("a field of nginx", fields["x-forwarded-proto"], "http")
 
 
 def try_underscores(trial: Trial) -> None:
@@ -454,6 +492,30 @@ def try_web_socket(trial: Trial) -> None:
     see("what arrives", (it.method, fields), ("GET", [None, None, None]))
 
 
+def see_after_switch(trial: Trial, wanted: list[tuple[str, bool]]) -> None:
+    """Sees what arrives of two requests on a connection, if the application answers the first one by 101: the paths, and whether each request has the secret."""
+    end = "HTTP/1.1\r\nHost: x\r\n"
+    for field in ("Connection: Upgrade\r\nUpgrade: websocket", "Upgrade: 0", "Upgrade:"):
+        trial.visitor()
+        text = f"GET /open?status=101 {end}{field}\r\n\r\nGET /admin/ {end}\r\n"
+        raw(trial.port, text.encode(), 2)
+        came = [
+            (it.target.partition("?")[0], it.fields.get("x-application-secret") == SECRET)
+            for it in trial.application.taken()
+        ]
+        see(f"what arrives, with {field!r}", came, wanted)
+
+
+def try_switch(trial: Trial) -> None:
+    """If the application answers 101, a client with a field Upgrade reaches it past the container, but without the secret."""
+    see_after_switch(trial, [("/open", True), ("/admin/", False)])
+
+
+def try_no_switch(trial: Trial) -> None:
+    """With two lines that README.md adds, no field Upgrade of a client opens a connection to an application that answers 101."""
+    see_after_switch(trial, [("/open", True)])
+
+
 @contextlib.contextmanager
 def uploads(trial: Trial, counts: dict[str, int], wanted: int) -> Iterator[list[int]]:
     """So many uploads of each address that do not end: the statuses of those that are refused, once there are as many as expected."""
@@ -521,6 +583,19 @@ def try_guesses(trial: Trial) -> None:
     others = {guesser.log_in("ann", "/members/", "wrong").status for _ in range(20)}
     see("whether others are refused", others | {200}, {200, 429})
     see("a login from elsewhere", trial.visitor("127.0.0.71").log_in("ann").status, 303)
+
+
+def try_uncounted_logins(trial: Trial) -> None:
+    """Where nginx reads another path than that of a login, and so does not count it, the right password is no login."""
+    content = b"j_username=ann&j_password=violet"
+    form = {**HTML, "Content-Type": "application/x-www-form-urlencoded"}
+    for target in ("/j_security_check;x=%2f..%2fy", "/members/j_security_check;a%2fb"):
+        visitor = trial.visitor("127.0.0.72")
+        visitor.get("/members/")
+        statuses = {visitor.ask("POST", target, form, content).status for _ in range(25)}
+        see(f"the answers to {target}", statuses, {200})
+        see_page("the page after it", visitor.get("/members/"), 200, LOGIN)
+    trial.see_none("requests of a stranger")
 
 
 def try_long_targets(trial: Trial) -> None:
