@@ -23,7 +23,7 @@ changed_on before between after one other = (one.0 ++ other.0, other.1 ∙ ap (l
 module _ {Context Words : Type 0} (theory : Theory Context Words) where
   unchanged : (there : Option Context) → SessionsChange theory there there
   unchanged None = refl
-  unchanged (Some context) = (context, refl, [], refl)
+  unchanged (Some context) = (context, refl, ([], refl))
 
   changed_twice : (before between after : Option Context) → SessionsChange theory before between → SessionsChange theory between after
       → SessionsChange theory before after
