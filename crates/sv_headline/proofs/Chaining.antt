@@ -134,13 +134,7 @@ module _ {S F L W : Type 0} (moving : ComponentSteps S F L) (draws : W → ℕ �
       (change life.first life.last life.happenings life.answers place chain.0.run chain.0.runs) there in
       let new = new_first life chain.1 place was.0 was.1 in (
         ids_given was.2.0 was.0.store,
-        was.0,
-        context,
-        was.2.0,
-        was.1,
-        there,
-        was.2.1,
-        inl (ap (λ (store : Store). store.serial) new.store, refl),
+        (was.0, context, was.2.0, was.1, there, was.2.1, inl (ap (λ (store : Store). store.serial) new.store, refl)),
       )
   have_ids change go_on (life ∷ earlier ∷ lives) chain place context there =
       let was = was_there life place context (slice_get life.first.world.contexts place) (slice_get life.last.world.contexts place)
@@ -148,24 +142,12 @@ module _ {S F L W : Type 0} (moving : ComponentSteps S F L) (draws : W → ℕ �
       elim (from_earlier go_on earlier life chain.1 place was.0 was.1) [
         | inl new ↦ (
           ids_given was.2.0 was.0.store,
-          was.0,
-          context,
-          was.2.0,
-          was.1,
-          there,
-          was.2.1,
-          inl (ap (λ (store : Store). store.serial) new.store, refl),
+          (was.0, context, was.2.0, was.1, there, was.2.1, inl (ap (λ (store : Store). store.serial) new.store, refl)),
         )
         | inr from ↦
             let before = have_ids change go_on (earlier ∷ lives) chain.2 from.0 from.1 from.2 in (
               before.0 ++ ids_given was.2.0 was.0.store,
-              was.0,
-              context,
-              was.2.0,
-              was.1,
-              there,
-              was.2.1,
-              inr (from.0, from.1, before.0, from.2, ap (λ (store : Store). store.serial) from.3.store, before.1, refl),
+              (was.0, context, was.2.0, was.1, there, was.2.1, inr (from.0, from.1, before.0, from.2, ap (λ (store : Store). store.serial) from.3.store, before.1, refl)),
             )
       ]
 
