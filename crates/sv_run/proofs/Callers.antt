@@ -1,27 +1,21 @@
 -- Which sessions hold a caller.
-use Rattle.std.proofs.Common.{◌≡◌, ◌≢◌, ◌⊎◌, ℕ, zero, suc, Bool, true, false, List, [], ◌∷◌, ◌++◌, Option, None, Some, Result, Ok, Err, refl, sym, ap, ◌∙◌, subst, inl, inr, append_assoc, slice_get, slice_set}
+use Rattle.std.proofs.Common.{◌≡◌, ◌≢◌, ◌⊎◌, ℕ, zero, suc, List, [], ◌∷◌, ◌++◌, Option, None, Some, Result, refl, sym, ap, ◌∙◌, subst, inl, inr, append_assoc, slice_get, slice_set}
 use Rattle.std.specs.List.{AllByRecursion}
 use Rattle.sv_journal.specs.declared.entry.Entry.{Entry}
 use Rattle.sv_policy.specs.declared.edit.Edit.{Edit}
 use Rattle.sv_policy.specs.declared.edit_fault.EditFault.{EditFault}
 use Rattle.sv_run.specs.Contexts.{Handling, Theory}
-use Rattle.sv_run.specs.Editing.{EditsIn, place_with}
-use Rattle.sv_run.specs.Effect.{Answered, Deed, Effect, Handled}
-use Rattle.sv_run.specs.Events.{Accepts, Edited, Ended, ExpiresAll, Happening, Happens, Lost, Opened, Piece, Tick}
-use Rattle.sv_run.specs.Items.{HandlesAt, Responds, Takes, TakesItem}
+use Rattle.sv_run.specs.Editing.{EditsIn}
+use Rattle.sv_run.specs.Effect.{Answered, Deed, Handled}
+use Rattle.sv_run.specs.Events.{ExpiresAll}
+use Rattle.sv_run.specs.Items.{HandlesAt}
 use Rattle.sv_run.specs.Lawful.{EditsAlone, GivesCallersByLogin, Holds, LogsIn}
 use Rattle.sv_run.specs.Laws.{CallersLoggedIn, CallersStayOrLogIn, HeldThroughout, HoldsAt, KeepsCaller, LoggedInBefore}
-use Rattle.sv_run.specs.Messages.{Destination, Itself, Within, destination}
-use Rattle.sv_run.specs.Runs.{Answer, Run, deeds_of}
-use Rattle.sv_run.specs.State.{State, World}
-use Rattle.sv_run.specs.declared.step_fault.StepFault.TheVariants.{Stopped, BadConnection, TooManyConnections, NoMemory}
+use Rattle.sv_run.specs.Runs.{deeds_of}
 use Rattle.sv_run.proofs.Outcomes.{all_append}
 use Rattle.sv_run.proofs.Tracing.{IsKept, kept_run}
 use Rattle.sv_session.specs.Calls.{HoldsCaller}
 use Rattle.sv_session.specs.Store.{Store}
-use Rattle.sv_wire.specs.declared.item.Item.{Item}
-use Rattle.sv_wire.specs.declared.item.Item.TheVariants.{Continue, Message, Refuse}
-use Rattle.sv_message.specs.declared.message.Message.{Message as MessageRecord}
 
 -- the member at a place after some place was set is the new member or an old one
 pub at_set : {X : Type 0} (items : List X) (set place : ℕ) (new there : X) → slice_get (slice_set items set new) place ≡ Some there
