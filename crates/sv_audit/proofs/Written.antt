@@ -17,8 +17,6 @@ use Rattle.sv_uri.specs.Segment.{begins_with_digits, has_bad_escape, is_control,
 use Rattle.sv_uri.specs.DotSegments.{climbs, closing, ends_open, kept, remaining, removed_in_front}
 use Rattle.sv_uri.specs.Canonical.{canonical, path_text, raw_segments, target_faults}
 use Rattle.sv_uri.specs.Shape.{is_dot_segment, may_stand_in_a_path}
-use Rattle.sv_uri.proofs.LocationLemmas.{drop_first, escape_is_read, holds-escape, is_bad, is_percent}
-use Rattle.sv_uri.proofs.TargetLemmas.{before_none, behind_none}
 
 -- The byte occurs in the text.
 abbrev pub holds : ℕ → List ℕ → Bool
@@ -62,6 +60,12 @@ encoded_special b text is = ap (λ front. front ++ encoded text) (cond-true _ _ 
 encoded_plain : (b : ℕ) (text : List ℕ) → is_special b ≡ false → encoded (b ∷ text) ≡ b ∷ encoded text
 encoded_plain b text is = ap (λ front. front ++ encoded text) (cond-false _ _ _ is)
 
+no_escape_byte : (c b : ℕ) → (IsEscapeByte c → ⊥) → IsEscapeByte b → eqb b c ≡ false
+no_escape_byte c b never is = ⊎_elim (λ it. absurd (never (subst IsEscapeByte (eqb-true b c it) is))) (λ other. other) (cases_Bool (eqb b c))
+
+holds-escape : (c b : ℕ) → (IsEscapeByte c → ⊥) → holds c (percent_encode_byte b) ≡ false
+holds-escape c b never = list_any_none (λ x. eqb x c) (percent_encode_byte b) (All-weaker IsEscapeByte (λ x. eqb x c ≡ false) (λ x is. no_escape_byte c x never is) (percent_encode_byte b) (All-percent_encode_byte b))
+
 -- A byte with a meaning occurs nowhere.
 holds-special : (c : ℕ) → (IsEscapeByte c → ⊥) → is_special c ≡ true → (text : List ℕ) → holds c (encoded text) ≡ false
 holds-special c never special [] = refl
@@ -92,7 +96,24 @@ decoded (b ∷ text) =
     (cases_Bool (is_special b))
 
 -- ---- Escapes have their digits.
-no_percent : (d : ℕ) → d < 16 → eqb (digit_glyph true d) 37 ≡ false
+abbrev is_percent : ℕ → Bool
+is_percent b = eqb b 37
+
+abbrev is_bad : List ℕ → Bool
+is_bad behind_percent = not (begins_with_digits behind_percent)
+
+drop_first : (b : ℕ) (parts : List (List ℕ)) → drop 1 (onto_first b parts) ≡ drop 1 parts
+drop_first b [] = refl
+drop_first b (part ∷ parts) = refl
+
+digits_first : (high low : ℕ) (parts : List (List ℕ)) → (begins_with_digits (high ∷ low ∷ [])) ≡ true → list_any is_bad (drop 1 parts) ≡ false → list_any is_bad (onto_first high (onto_first low parts)) ≡ false
+digits_first high low [] digits rest = rw digits refl
+digits_first high low (part ∷ parts) digits rest = or_from _ _ (not_from_true _ digits) rest
+
+digits_written : (d : ℕ) → d < 16 → is_digit (digit_glyph true d) 16 ≡ true
+digits_written d small = agree_below_at (λ x. is_digit (digit_glyph true x) 16) (λ _. true) 16 d refl small
+
+digit_is_no_percent : (d : ℕ) → d < 16 → eqb (digit_glyph true d) 37 ≡ false
 digit_is_no_percent d small = agree_below_at (λ x. eqb (digit_glyph true x) 37) (λ _. false) 16 d refl small
 
 escape_is_read : (b : ℕ) (rest : List ℕ) → list_any is_bad (drop 1 (slice_split is_percent rest)) ≡ false → list_any is_bad (drop 1 (slice_split is_percent (percent_encode_byte b ++ rest))) ≡ false
@@ -120,6 +141,18 @@ has_digits (b ∷ text) =
     (cases_Bool (is_special b))
 
 -- ---- Names have no fault and are read as themselves.
+before_none : (c : ℕ) (text : List ℕ) → holds c text ≡ false → before c text ≡ text
+before_none c [] none = refl
+before_none c (b ∷ text) none =
+    let parts = or_parts (eqb b c) (holds c text) none in
+    ap (λ n. take n (b ∷ text)) (further parts.0) ∙ ap (λ x. b ∷ x) (before_none c text parts.1)
+  where
+    further : eqb b c ≡ false → position_or_len (λ x. eqb x c) (b ∷ text) ≡ suc (position_or_len (λ x. eqb x c) text)
+    further other = cond-true _ _ _ (not_from_false _ other) ∙ omega arith
+
+behind_none : (c : ℕ) (text : List ℕ) → holds c text ≡ false → behind c text ≡ None
+behind_none c text none = cond-false _ _ _ none
+
 unlikely : (text : List ℕ) → list_all may_stand_in_a_path text ≡ true → (list_any is_control text ≡ false) × (holds 92 text ≡ false)
 unlikely [] plain = (refl, refl)
 unlikely (b ∷ text) plain =
