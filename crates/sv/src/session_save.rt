@@ -50,7 +50,7 @@ impl<H: Files + Eprint> SessionFolder<'_, H> {
         };
         // If standard error cannot be written, nothing is reported.
         let _ = eprintln!(self.host;
-            "sv: sessions\n  {}: {}; the sessions of {} are lost",
+            "sv: sessions\n  {}: {}; the sessions of {} are not saved",
             self.name,
             reason_of(&fault),
             shown_context(path)
