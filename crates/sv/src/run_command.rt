@@ -134,7 +134,13 @@ fn serve_settled<H: Net + Clock + Files + Eprint, W: Write>(
 ) -> (Result<(), CommandFault>, ProgramContainer) {
     match settled {
         Ok(()) => match options.sessions_every {
-            Some(every) => serve_saving(folder, Saver::new(folder, *key, every), writer, options, started),
+            Some(every) => serve_saving(
+                folder,
+                Saver::new(folder, *key, every),
+                writer,
+                options,
+                started,
+            ),
             None => serve_all(folder.alloc, folder.host, writer, options, started),
         },
         Err(fault) => {
@@ -199,7 +205,15 @@ fn serve_handler<H: Net + Clock + Files + Eprint, W: Write, R: AccessSource + Qu
         last: &last,
     };
     match access_log(options) {
-        Some(log) => run_logged(alloc, host, writer, listening, options.journal, log, handler),
+        Some(log) => run_logged(
+            alloc,
+            host,
+            writer,
+            listening,
+            options.journal,
+            log,
+            handler,
+        ),
         None => run_journaled(alloc, host, writer, listening, options.journal, handler),
     }
 }

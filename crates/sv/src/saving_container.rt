@@ -14,6 +14,7 @@ use sv_wire::Awaited;
 
 // The greatest number of sessions that are copied or written after a tick, and after any other event.
 const TICK_PART: usize = 2_000;
+
 const EVENT_PART: usize = 100;
 
 /// A container that takes each event as the one inside does. After each event that is not refused, a part of its sessions
@@ -47,8 +48,7 @@ impl<'a, S, F, L, W, H: Files + Eprint> SavingContainer<'a, S, F, L, W, H> {
 }
 
 impl<S: Servlet, F: Filter, L: Listener, W: Words, H: Files + Eprint> EventHandler
-    for SavingContainer<'_, S, F, L, W, H>
-{
+    for SavingContainer<'_, S, F, L, W, H> {
     ghost steps = { λ before happening result after.
         ⟦<AskedContainer<S, F, L, W> as EventHandler>⟧.steps before.asked happening result after.asked };
 
@@ -75,8 +75,7 @@ impl<S: Servlet, F: Filter, L: Listener, W: Words, H: Files + Eprint> EventHandl
 }
 
 impl<S: Servlet, F: Filter, L: Listener, W: Words, H: Files + Eprint> AccessSource
-    for SavingContainer<'_, S, F, L, W, H>
-{
+    for SavingContainer<'_, S, F, L, W, H> {
     ghost answered = { λ saving. ⟦<AskedContainer<S, F, L, W> as AccessSource>⟧.answered saving.asked };
 
     fn accesses(&self) -> &[Access] {

@@ -10,9 +10,7 @@ ghost use Rattle.sv_arguments.specs.Settings.{Setting, values};
 ghost use Rattle.sv_arguments.specs.Values.{Finds, SaysOr};
 
 use crate::given::Given;
-use crate::key::{
-    Key, MAX_CONNECTIONS, MAX_HELD_MEBIBYTES, MAX_IDLE_SECONDS, MAX_SESSIONS_EVERY,
-};
+use crate::key::{Key, MAX_CONNECTIONS, MAX_HELD_MEBIBYTES, MAX_IDLE_SECONDS, MAX_SESSIONS_EVERY};
 use crate::option_fault::OptionFault;
 use crate::option_set::OptionSet;
 use std::net::SocketAddr;
