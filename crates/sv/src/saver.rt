@@ -75,14 +75,14 @@ struct Writing<F> {
 }
 
 impl<'a, H: Files + Eprint> Saver<'a, H> {
-    /// Creates a saver whose first round is due at once, and each further one this many seconds after the one before
-    /// began.
+    /// Creates a saver whose first round is due when the container has a time, and each further one this many seconds
+    /// after the one before began.
     pub fn new(folder: &'a SessionFolder<'a, H>, key: [u8; 32], every: u32) -> Saver<'a, H> {
         Saver {
             folder,
             key,
             every,
-            due: 0,
+            due: 1,
             is_faulty: false,
             is_reported: false,
             phase: Phase::Waiting,
