@@ -108,8 +108,17 @@ impl<'a, H: Files + Eprint> Saver<'a, H> {
 
     /// Removes the file that is not whole, if there is one.
     pub fn end(self) {
-        if let Phase::Writing(writing) = self.phase {
-            self.folder.discard(writing.file);
+        let Saver {
+            folder,
+            key: _,
+            every: _,
+            due: _,
+            is_faulty: _,
+            is_reported: _,
+            phase,
+        } = self;
+        if let Phase::Writing(writing) = phase {
+            folder.discard(writing.file);
         }
     }
 

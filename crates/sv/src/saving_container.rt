@@ -39,7 +39,7 @@ impl<'a, S, F, L, W, H: Files + Eprint> SavingContainer<'a, S, F, L, W, H> {
 
     /// Returns the container. A file that is not whole is removed.
     pub fn into_asked(self) -> AskedContainer<S, F, L, W>
-        ensures { result ≡ self.asked }
+        ensures { result ≡ self.entry.asked }
     {
         let SavingContainer { asked, saver } = self;
         saver.end();
