@@ -49,7 +49,7 @@ def asked_first(arguments, folder, request):
         yield number, lambda count: ask(peer, found, count)
 
 
-def counted_by_valgrind(program, folder, request):
+def counted_by_valgrind(program, folder, request, options=()):
     """The name of valgrind's second file, which has the counts after the first one."""
     file = f"{folder}/instructions"
     counting = [
@@ -62,6 +62,7 @@ def counted_by_valgrind(program, folder, request):
         program,
         "run",
         "server.toml",
+        *options,
     ]
     with asked_first(counting, folder, request) as (number, ask_more):
         for count in (0, COUNTED):
@@ -74,8 +75,8 @@ def counted_by_valgrind(program, folder, request):
     return f"{file}.2"
 
 
-def instructions(program, folder, request):
-    """The instructions of a request of `run` on the configuration of a folder."""
-    with open(counted_by_valgrind(program, folder, request)) as lines:
+def instructions(program, folder, request, options=()):
+    """The instructions of a request of `run` on the configuration of a folder, with these options."""
+    with open(counted_by_valgrind(program, folder, request, options)) as lines:
         total = next(line for line in lines if line.startswith("summary: "))
     return int(total.split()[1]) / COUNTED

@@ -20,6 +20,8 @@ EVENTS = re.compile(rb" events \d+ ")
 DIGITS = 48
 # How often `holds` reads a file before it fails, ten times a second.
 WAITS = 30
+# How often `replaced` looks for a new file before it fails, ten times a second.
+LOOKS = 100
 
 
 # What differs from run to run in a journal or an access log, and the words that stand for it in a case.
@@ -164,6 +166,26 @@ class Steps:
                 return
             time.sleep(0.1)
         raise Fault(f"the file holds {held!r}")
+
+    def replaced(self, name):
+        """Waits until the program has given a file its name twice: the second one was begun after this step."""
+        last = self.version(name)
+        left = 2
+        for _ in range(LOOKS):
+            found = self.version(name)
+            if found not in (None, last):
+                last, left = found, left - 1
+            if not left:
+                return
+            time.sleep(0.1)
+        raise Fault("the file was not replaced twice")
+
+    def version(self, name):
+        """What tells a file from a later one of the same name; None if there is none."""
+        with contextlib.suppress(FileNotFoundError):
+            found = os.stat(self.path(name))
+            return found.st_ino, found.st_mtime_ns
+        return None
 
     def end(self, name):
         self.peers[name].stream.shutdown(socket.SHUT_WR)

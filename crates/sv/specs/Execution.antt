@@ -19,7 +19,7 @@ use Rattle.sv.specs.CheckCommand.{Checks, IsBeforeReport}
 use Rattle.sv.specs.Policy.{RunsPolicy}
 use Rattle.sv.specs.Printed.{Shows}
 use Rattle.sv.specs.Help.{help_text, manual_text}
-use Rattle.sv_arguments.specs.ControlRequest.{line_of}
+use Rattle.sv_control_words.specs.ControlRequest.{line_of}
 use Rattle.sv_arguments.specs.declared.command.Command.{Command}
 use Rattle.sv_arguments.specs.declared.command.Command.TheVariants.{First, Policy, Uncovered, Audit, Check, Replay, Serve, Run, Ctl, SelfTest, Help, Manual, Version}
 use Rattle.sv_listening.specs.Controlling.{Answers}

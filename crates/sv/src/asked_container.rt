@@ -48,6 +48,13 @@ impl<S, F, L, W> AskedContainer<S, F, L, W> {
         }
     }
 
+    /// Returns the container, to read it.
+    pub fn container(&self) -> &Container<S, F, L, W>
+        ensures { result.now ≡ self.now.container }
+    {
+        &self.container
+    }
+
     /// Returns the container.
     pub fn into_container(self) -> Container<S, F, L, W>
         ensures { result ≡ self.container }

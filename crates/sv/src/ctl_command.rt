@@ -1,13 +1,13 @@
 //! The command `ctl`: sends a line to the server at a control socket.
 
 ghost use Rattle.std.specs.Prelude.{◌≡◌, ◌≢◌, IfErr, map, string_bytes};
-ghost use Rattle.sv_arguments.specs.ControlRequest.{line_of};
+ghost use Rattle.sv_control_words.specs.ControlRequest.{line_of};
 ghost use Rattle.sv_listening.specs.Controlling.{Answers};
 
 use std::alloc::Global;
 use std::io::Write;
 use std::net::Net;
-use sv_arguments::ControlRequest;
+use sv_control_words::ControlRequest;
 use sv_listening::ask_control;
 use sv_program::CommandFault;
 

@@ -11,6 +11,8 @@ mod policy_command;
 mod program_fault;
 mod replay_command;
 mod run_command;
+mod saver;
+mod saving_container;
 mod self_test_command;
 mod serve_command;
 mod server_start;

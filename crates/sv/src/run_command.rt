@@ -6,6 +6,8 @@ ghost use Rattle.sv.specs.Serving.{BeginsBySessions, BeginsResumed, BeginsWith};
 ghost use Rattle.sv.specs.Site as spec;
 
 use crate::asked_container::AskedContainer;
+use crate::saver::Saver;
+use crate::saving_container::SavingContainer;
 use crate::server_start::{
     ProgramContainer, ResumedServer, StartedServer, resume_server, start_server,
 };
@@ -17,12 +19,22 @@ use std::net::{IpAddr, Ipv4Addr, Net, SocketAddr};
 use std::random::RandomSource;
 use std::rt::Files;
 use std::time::Clock;
-use sv_access_log::LogFormat;
+use sv_access_log::{AccessSource, LogFormat};
 use sv_arguments::{AccessLogFormat, RunOptions};
 use sv_component::{Filter, Listener, Servlet};
+use sv_connection::Queries;
 use sv_deployments::{FolderStore, ProgramFilter, ProgramListener, ProgramServlet};
 use sv_listening::{AccessLogOptions, LastAccepted, ListenOptions, run_journaled, run_logged};
 use sv_program::{CommandFault, FileStore};
+use sv_run::SeededWords;
+
+// A container of the program that answers queries.
+type ProgramAskedContainer = AskedContainer<
+    ProgramServlet,
+    ProgramFilter,
+    ProgramListener,
+    SeededWords,
+>;
 
 /// Starts the container of the server file with the random words of the options' seeding, and listens at the address.
 /// The default address is 127.0.0.1 with the server file's port. Writes the line `listening ADDRESS:PORT`, and serves
@@ -31,7 +43,8 @@ use sv_program::{CommandFault, FileStore};
 /// is ended from outside. Shuts the container down, even after a fault. If a journal is named, appends the effects of the
 /// events to that file. If an access log is named, appends a line for each request to that file. If a folder of sessions is
 /// named, the container resumes with the sessions in its files, unless all sessions end. The files are removed before the
-/// line `listening`, and written again at the end, unless an event ran out of memory.
+/// line `listening`, and written again at the end, unless an event ran out of memory. If sessions are written every so many
+/// seconds, files are also written while the program runs, in parts after events, but not to the disk.
 ///
 /// # Errors
 /// The first fault: those of [`start_server`], with nothing written; with a folder of sessions those of
@@ -106,20 +119,30 @@ fn run_resumed<
         Err(refused) => return Err(refused),
     };
     let settled = folder.settle(files.as_slice());
-    let (served, container) = serve_settled(folder, writer, options, started, settled);
+    let (served, container) = serve_settled(folder, &key, writer, options, started, settled);
     suspend(folder, &key, container, served)
 }
 
 // Serves, unless the files of sessions are still there.
 fn serve_settled<H: Net + Clock + Files + Eprint, W: Write>(
     folder: &SessionFolder<'_, H>,
+    key: &[u8; 32],
     writer: &mut W,
     options: &RunOptions<'_>,
     started: StartedServer,
     settled: Result<(), CommandFault>,
 ) -> (Result<(), CommandFault>, ProgramContainer) {
     match settled {
-        Ok(()) => serve_all(folder.alloc, folder.host, writer, options, started),
+        Ok(()) => match options.sessions_every {
+            Some(every) => serve_saving(
+                folder,
+                Saver::new(folder, *key, every),
+                writer,
+                options,
+                started,
+            ),
+            None => serve_all(folder.alloc, folder.host, writer, options, started),
+        },
         Err(fault) => {
             let StartedServer {
                 container,
@@ -139,6 +162,40 @@ fn serve_all<H: Net + Clock + Files + Eprint, W: Write>(
     started: StartedServer,
 ) -> (Result<(), CommandFault>, ProgramContainer) {
     let StartedServer { port, container } = started;
+    let asked = asked_of(options, container);
+    let (served, asked) = serve_handler(alloc, host, writer, options, port, asked);
+    (served, asked.into_container())
+}
+
+// Serves all connections and writes sessions meanwhile, and returns the container.
+fn serve_saving<H: Net + Clock + Files + Eprint, W: Write>(
+    folder: &SessionFolder<'_, H>,
+    saver: Saver<'_, H>,
+    writer: &mut W,
+    options: &RunOptions<'_>,
+    started: StartedServer,
+) -> (Result<(), CommandFault>, ProgramContainer) {
+    let StartedServer { port, container } = started;
+    let saving = SavingContainer::new(asked_of(options, container), saver);
+    let (served, saving) = serve_handler(folder.alloc, folder.host, writer, options, port, saving);
+    (served, saving.into_asked().into_container())
+}
+
+fn asked_of(options: &RunOptions<'_>, container: ProgramContainer) -> ProgramAskedContainer {
+    let mut asked = AskedContainer::new(container);
+    asked.set_logs(options.access_log.is_some());
+    asked
+}
+
+// Serves all connections by a handler, and returns the handler. Port 0 selects any free port.
+fn serve_handler<H: Net + Clock + Files + Eprint, W: Write, R: AccessSource + Queries>(
+    alloc: Global,
+    host: &H,
+    writer: &mut W,
+    options: &RunOptions<'_>,
+    port: u16,
+    handler: R,
+) -> (Result<(), CommandFault>, R) {
     let last = LastAccepted::new();
     let listening = ListenOptions {
         address: address_or(options.listen, port),
@@ -147,13 +204,18 @@ fn serve_all<H: Net + Clock + Files + Eprint, W: Write>(
         signals: options.signal_descriptor,
         last: &last,
     };
-    let mut asked = AskedContainer::new(container);
-    asked.set_logs(options.access_log.is_some());
-    let (served, asked) = match access_log(options) {
-        Some(log) => run_logged(alloc, host, writer, listening, options.journal, log, asked),
-        None => run_journaled(alloc, host, writer, listening, options.journal, asked),
-    };
-    (served, asked.into_container())
+    match access_log(options) {
+        Some(log) => run_logged(
+            alloc,
+            host,
+            writer,
+            listening,
+            options.journal,
+            log,
+            handler,
+        ),
+        None => run_journaled(alloc, host, writer, listening, options.journal, handler),
+    }
 }
 
 // Suspends the container, and writes its sessions. Returns the first fault.

@@ -1,4 +1,4 @@
-//! How sessions are written to their folder at an orderly end.
+//! How files of sessions are written to their folder, and all of them at an orderly end.
 
 ghost use Rattle.std.specs.Io.KnownBytes.{WriteAppends};
 ghost use Rattle.std.specs.Prelude.{◌<◌, ◌≤◌, length, IfOk};
@@ -50,7 +50,7 @@ impl<H: Files + Eprint> SessionFolder<'_, H> {
         };
         // If standard error cannot be written, nothing is reported.
         let _ = eprintln!(self.host;
-            "sv: sessions\n  {}: {}; the sessions of {} are lost",
+            "sv: sessions\n  {}: {}; the sessions of {} are not saved",
             self.name,
             reason_of(&fault),
             shown_context(path)
@@ -67,18 +67,48 @@ impl<H: Files + Eprint> SessionFolder<'_, H> {
         moment: u64,
         context: &SuspendedContext,
     ) -> Result<(), CommandFault> {
-        let name = file_name(self.alloc, context.path.as_str())?;
-        let name = self.path_of(name.as_str())?;
-        let unfinished = format!(in self.alloc; "{name}.new")?;
-        let file = match self.create_file(unfinished.as_str()) {
-            Ok(file) => file,
-            Err(error) => return Err(self.fault(name.as_str(), error)),
-        };
-        let written = self.write_file(name.as_str(), file, key, moment, context);
-        self.finish(written, unfinished.as_str(), name.as_str())
+        let mut file = self.begin_file(context.path.as_str())?;
+        match write_context(self.alloc, &mut file.sink, key, moment, context) {
+            Ok(()) => self.place_synced(file),
+            Err(fault) => Err(self.refuse(file, fault)),
+        }
     }
 
-    // Creates a file that only its owner reads. An older one of this name, which was not finished, is removed.
+    // Writes a whole file to the disk, and gives it its name. If that fails, the file is removed.
+    fn place_synced(&self, file: UnfinishedFile<H::File>) -> Result<(), CommandFault> {
+        match file.sink.file.sync_all() {
+            Ok(()) => self.place(file),
+            Err(error) => {
+                let fault = self.fault(file.name.as_str(), error);
+                self.discard(file);
+                Err(fault)
+            }
+        }
+    }
+
+    /// Begins the file of the context at this path, under another name. An older file of that name, which was not
+    /// finished, is removed.
+    ///
+    /// # Errors
+    /// [`CommandFault::File`] if the file cannot be created, or [`CommandFault::NoMemory`].
+    pub fn begin_file(&self, path: &str) -> Result<UnfinishedFile<H::File>, CommandFault> {
+        let name = file_name(self.alloc, path)?;
+        let name = self.path_of(name.as_str())?;
+        let unfinished = format!(in self.alloc; "{name}.new")?;
+        match self.create_file(unfinished.as_str()) {
+            Ok(file) => Ok(UnfinishedFile {
+                name,
+                unfinished,
+                sink: FileSink {
+                    file,
+                    why: Unavailable::Other,
+                },
+            }),
+            Err(error) => Err(self.fault(name.as_str(), error)),
+        }
+    }
+
+    // Creates a file that only its owner reads. An older one of this name is removed.
     fn create_file(&self, name: &str) -> io::Result<H::File> {
         match remove_file(self.host, name) {
             Ok(()) => {}
@@ -92,45 +122,35 @@ impl<H: Files + Eprint> SessionFolder<'_, H> {
             .open(self.host, name)
     }
 
-    // Writes the file of a context, whose name is for a fault, up to the disk.
-    fn write_file(
-        &self,
-        name: &str,
-        file: H::File,
-        key: &[u8; 32],
-        moment: u64,
-        context: &SuspendedContext,
-    ) -> Result<(), CommandFault> {
-        let mut sink = FileSink {
-            file,
-            why: Unavailable::Other,
+    /// Removes a file that cannot be written, and returns the fault for it.
+    pub fn refuse(&self, file: UnfinishedFile<H::File>, fault: SaveFault) -> CommandFault {
+        let name = file.name.as_str();
+        let fault = match fault {
+            SaveFault::NoMemory => CommandFault::NoMemory,
+            SaveFault::WriteFailed => unavailable(self.alloc, name, file.sink.why),
+            SaveFault::TooManyUsers => unavailable(self.alloc, name, Unavailable::Other),
         };
-        match write_context(self.alloc, &mut sink, key, moment, context) {
-            Ok(()) => self.checked(name, sink.file.sync_all()),
-            Err(SaveFault::NoMemory) => Err(CommandFault::NoMemory),
-            Err(SaveFault::WriteFailed) => Err(unavailable(self.alloc, name, sink.why)),
-            Err(SaveFault::TooManyUsers) => {
-                Err(unavailable(self.alloc, name, Unavailable::Other))
-            }
-        }
+        self.discard(file);
+        fault
     }
 
-    // Gives a whole file its name, or removes a part of one.
-    fn finish(
-        &self,
-        written: Result<(), CommandFault>,
-        unfinished: &str,
-        name: &str,
-    ) -> Result<(), CommandFault> {
-        let renamed = match written {
-            Ok(()) => self.checked(name, rename(self.host, unfinished, name)),
-            Err(fault) => Err(fault),
-        };
-        if renamed.is_err() {
-            // If it stays, the next start removes it.
-            let _ = remove_file(self.host, unfinished);
+    /// Gives a whole file its name, in place of an older one.
+    ///
+    /// # Errors
+    /// [`CommandFault::File`] or [`CommandFault::NoMemory`]; the file is removed, and the older one is unchanged.
+    pub fn place(&self, file: UnfinishedFile<H::File>) -> Result<(), CommandFault> {
+        let name = file.name.as_str();
+        let placed = self.checked(name, rename(self.host, file.unfinished.as_str(), name));
+        if placed.is_err() {
+            self.discard(file);
         }
-        renamed
+        placed
+    }
+
+    /// Removes a file that is not whole.
+    pub fn discard(&self, file: UnfinishedFile<H::File>) {
+        // If it stays, the next start removes it.
+        let _ = remove_file(self.host, file.unfinished.as_str());
     }
 
     // Writes the names of the files to the disk, if the system can.
@@ -141,17 +161,27 @@ impl<H: Files + Eprint> SessionFolder<'_, H> {
     }
 }
 
-// Returns why a file could not be written.
-fn reason_of(fault: &CommandFault) -> &'static str {
+/// Returns why a file could not be written.
+pub(crate) fn reason_of(fault: &CommandFault) -> &'static str {
     match fault {
         CommandFault::File(_, why) => why.text(),
         _ => "memory ran out",
     }
 }
 
-// A file that is written, and why a write failed.
+/// The file of a context that is written under another name.
 #[derive(Drop)]
-struct FileSink<F> {
+pub(crate) struct UnfinishedFile<F> {
+    // The name that it is given when it is whole.
+    name: String,
+    // Its name until then.
+    unfinished: String,
+    pub sink: FileSink<F>,
+}
+
+/// A file that is written, and why a write failed.
+#[derive(Drop)]
+pub(crate) struct FileSink<F> {
     file: F,
     why: Unavailable,
 }

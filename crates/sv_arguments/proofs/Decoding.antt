@@ -7,7 +7,7 @@ use Rattle.std.specs.Str.{bytes_eq}
 use Rattle.sv_arguments.specs.Options.{IsProper, IsValue}
 use Rattle.sv_arguments.specs.Settings.{Setting, Keyed, key_word, own_words, setting_words, takes_word, words_of}
 use Rattle.sv_arguments.specs.declared.key.Key.{Key}
-use Rattle.sv_arguments.specs.declared.key.Key.TheVariants.{Control, Journal, AccessLog, AccessLogFormat, Sessions, EndAllSessions, Listen, SameSeed, Connections, IdleSeconds, HeldMebibytes, SignalDescriptor, Secure, Format, As, Role, FailOn, Accept, Lines, UnknownFiles, Path, Method, Diff}
+use Rattle.sv_arguments.specs.declared.key.Key.TheVariants.{Control, Journal, AccessLog, AccessLogFormat, Sessions, SessionsEvery, EndAllSessions, Listen, SameSeed, Connections, IdleSeconds, HeldMebibytes, SignalDescriptor, Secure, Format, As, Role, FailOn, Accept, Lines, UnknownFiles, Path, Method, Diff}
 use Rattle.sv_arguments.specs.declared.option_set.OptionSet.{OptionSet}
 
 -- the option of a word
@@ -18,6 +18,7 @@ key_at word =
     else if bytes_eq word (codes "--access-log") then Some AccessLog
     else if bytes_eq word (codes "--access-log-format") then Some AccessLogFormat
     else if bytes_eq word (codes "--sessions") then Some Sessions
+    else if bytes_eq word (codes "--sessions-every") then Some SessionsEvery
     else if bytes_eq word (codes "--end-all-sessions") then Some EndAllSessions
     else if bytes_eq word (codes "--listen") then Some Listen
     else if bytes_eq word (codes "--same-seed") then Some SameSeed
@@ -45,6 +46,7 @@ key_at-key_word Journal = refl
 key_at-key_word AccessLog = refl
 key_at-key_word AccessLogFormat = refl
 key_at-key_word Sessions = refl
+key_at-key_word SessionsEvery = refl
 key_at-key_word EndAllSessions = refl
 key_at-key_word Listen = refl
 key_at-key_word SameSeed = refl

@@ -10,7 +10,7 @@ use Rattle.sv_arguments.specs.Options.{AreProper}
 use Rattle.sv_arguments.specs.Settings.{Setting, first_lone, is_given, is_lone, is_missing, needed, option_keys}
 use Rattle.sv_arguments.specs.Values.{Finds}
 use Rattle.sv_arguments.specs.declared.key.Key.{Key}
-use Rattle.sv_arguments.specs.declared.key.Key.TheVariants.{AccessLog, AccessLogFormat, EndAllSessions, Method, Path, Sessions}
+use Rattle.sv_arguments.specs.declared.key.Key.TheVariants.{AccessLog, AccessLogFormat, EndAllSessions, Method, Path, Sessions, SessionsEvery}
 use Rattle.sv_arguments.specs.declared.option_set.OptionSet.{OptionSet}
 use Rattle.sv_arguments.specs.declared.option_set.OptionSet.TheVariants.{Run, Audit}
 
@@ -92,18 +92,38 @@ module _ (settings : List Setting) where
   abbrev pub lacks_one : Key → Key → Bool
   lacks_one key other = not (is_given settings other) && is_given settings key
 
+  -- the first lone option of `run`, by what is lone
+  run_lone : Bool → Bool → Bool → Option Key
+  run_lone form every end = cond form (Some AccessLogFormat) (cond every (Some SessionsEvery) (cond end (Some EndAllSessions) None))
+
   pub lone_format : lacks_one AccessLogFormat AccessLog ≡ true → first_lone Run settings ≡ Some AccessLogFormat
-  lone_format holds = ap (λ (test : Bool). cond test (Some AccessLogFormat) (cond (lacks_one EndAllSessions Sessions) (Some EndAllSessions) None)) holds
+  unfolding run_lone
+  lone_format holds = ap (λ (test : Bool). run_lone test (lacks_one SessionsEvery Sessions) (lacks_one EndAllSessions Sessions)) holds
 
-  pub lone_end : lacks_one AccessLogFormat AccessLog ≡ false → lacks_one EndAllSessions Sessions ≡ true → first_lone Run settings ≡ Some EndAllSessions
-  lone_end first holds =
-      ap (λ (test : Bool). cond test (Some AccessLogFormat) (cond (lacks_one EndAllSessions Sessions) (Some EndAllSessions) None)) first
-      ∙ ap (λ (test : Bool). cond test (Some EndAllSessions) None) holds
+  pub lone_every : lacks_one AccessLogFormat AccessLog ≡ false → lacks_one SessionsEvery Sessions ≡ true
+      → first_lone Run settings ≡ Some SessionsEvery
+  unfolding run_lone
+  lone_every first holds =
+      ap (λ (test : Bool). run_lone test (lacks_one SessionsEvery Sessions) (lacks_one EndAllSessions Sessions)) first
+      ∙ ap (λ (test : Bool). run_lone false test (lacks_one EndAllSessions Sessions)) holds
 
-  pub none_of_run : lacks_one AccessLogFormat AccessLog ≡ false → lacks_one EndAllSessions Sessions ≡ false → first_lone Run settings ≡ None
-  none_of_run first second =
-      ap (λ (test : Bool). cond test (Some AccessLogFormat) (cond (lacks_one EndAllSessions Sessions) (Some EndAllSessions) None)) first
-      ∙ ap (λ (test : Bool). cond test (Some EndAllSessions) None) second
+  -- no option before the last is lone
+  before_end : lacks_one AccessLogFormat AccessLog ≡ false → lacks_one SessionsEvery Sessions ≡ false
+      → first_lone Run settings ≡ run_lone false false (lacks_one EndAllSessions Sessions)
+  unfolding run_lone
+  before_end first second =
+      ap (λ (test : Bool). run_lone test (lacks_one SessionsEvery Sessions) (lacks_one EndAllSessions Sessions)) first
+      ∙ ap (λ (test : Bool). run_lone false test (lacks_one EndAllSessions Sessions)) second
+
+  pub lone_end : lacks_one AccessLogFormat AccessLog ≡ false → lacks_one SessionsEvery Sessions ≡ false
+      → lacks_one EndAllSessions Sessions ≡ true → first_lone Run settings ≡ Some EndAllSessions
+  unfolding run_lone
+  lone_end first second holds = before_end first second ∙ ap (run_lone false false) holds
+
+  pub none_of_run : lacks_one AccessLogFormat AccessLog ≡ false → lacks_one SessionsEvery Sessions ≡ false
+      → lacks_one EndAllSessions Sessions ≡ false → first_lone Run settings ≡ None
+  unfolding run_lone
+  none_of_run first second third = before_end first second ∙ ap (run_lone false false) third
 
   pub lone_method : lacks_one Method Path ≡ true → first_lone Audit settings ≡ Some Method
   lone_method holds = ap (λ (test : Bool). cond test (Some Method) None) holds

@@ -9,12 +9,12 @@ use Rattle.sv_arguments.specs.declared.command.Command.TheVariants.{First, Polic
 use Rattle.sv_arguments.specs.declared.topic.Topic.{Topic}
 use Rattle.sv_arguments.specs.declared.topic.Topic.TheVariants as topic
 use Rattle.sv_arguments.specs.AuditOptions.{IsAudit}
-use Rattle.sv_arguments.specs.ControlRequest.{IsControl}
+use Rattle.sv_control_words.specs.ControlRequest.{IsControl}
 use Rattle.sv_arguments.specs.RunOptions.{IsAsked}
 use Rattle.sv_arguments.specs.Topics.{IsCalled, topic_name}
 use Rattle.sv_arguments.specs.Values.{Finds}
 use Rattle.sv_arguments.specs.declared.audit_options.AuditOptions.{AuditOptions}
-use Rattle.sv_arguments.specs.declared.control_request.ControlRequest.{ControlRequest}
+use Rattle.sv_control_words.specs.declared.control_request.ControlRequest.{ControlRequest}
 use Rattle.sv_arguments.specs.declared.run_options.RunOptions.{RunOptions}
 
 module _ (words : List (List ℕ)) where

@@ -12,7 +12,7 @@ use Rattle.sv_arguments.specs.RunOptions.{GiveRun}
 use Rattle.sv_arguments.specs.RunWords.{IsAccessLogFormat, access_log_format_name}
 use Rattle.sv_arguments.specs.Settings.{Setting, values, words_of}
 use Rattle.sv_arguments.specs.Values.{IsAddress, IsCount, IsDescriptor, IsGiven, IsName, Says, SaysOr}
-use Rattle.sv_arguments.specs.declared.key.Key.TheVariants.{Accept, AccessLog, AccessLogFormat, As, Connections, Control, Diff, EndAllSessions, FailOn, Format, HeldMebibytes, IdleSeconds, Journal, Lines, Listen, Method, Path, Role, SameSeed, Secure, Sessions, SignalDescriptor, UnknownFiles}
+use Rattle.sv_arguments.specs.declared.key.Key.TheVariants.{Accept, AccessLog, AccessLogFormat, As, Connections, Control, Diff, EndAllSessions, FailOn, Format, HeldMebibytes, IdleSeconds, Journal, Lines, Listen, Method, Path, Role, SameSeed, Secure, Sessions, SessionsEvery, SignalDescriptor, UnknownFiles}
 use Rattle.sv_arguments.specs.declared.option_set.OptionSet.TheVariants as set
 use Rattle.sv_arguments.specs.declared.run_options.AccessLogFormat as log
 use Rattle.sv_arguments.specs.declared.run_options.AccessLogFormat.TheVariants as line
@@ -121,13 +121,14 @@ run_one settings one other config a b = (
   names_one (values AccessLog settings) one.access_log other.access_log a.2 b.2,
   usual_one line.Combined IsAccessLogFormat access_log_formats_one (values AccessLogFormat settings) one.access_log_format other.access_log_format a.3 b.3,
   names_one (values Sessions settings) one.sessions other.sessions a.4 b.4,
-  given_one (values EndAllSessions settings) one.end_all_sessions other.end_all_sessions a.5 b.5,
-  says_one IsAddress IsSocketText_unique (values Listen settings) one.listen other.listen a.6 b.6,
-  given_one (values SameSeed settings) one.same_seed other.same_seed a.7 b.7,
-  says_one (IsCount 1024) (counts_one 1024) (values Connections settings) one.connections other.connections a.8 b.8,
-  says_one (IsCount 86400) (counts_one 86400) (values IdleSeconds settings) one.idle_seconds other.idle_seconds a.9 b.9,
-  says_one (IsCount 1048576) (counts_one 1048576) (values HeldMebibytes settings) one.held_mebibytes other.held_mebibytes a.10 b.10,
-  says_one IsDescriptor descriptors_one (values SignalDescriptor settings) one.signal_descriptor other.signal_descriptor a.11 b.11,
+  says_one (IsCount 86400) (counts_one 86400) (values SessionsEvery settings) one.sessions_every other.sessions_every a.5 b.5,
+  given_one (values EndAllSessions settings) one.end_all_sessions other.end_all_sessions a.6 b.6,
+  says_one IsAddress IsSocketText_unique (values Listen settings) one.listen other.listen a.7 b.7,
+  given_one (values SameSeed settings) one.same_seed other.same_seed a.8 b.8,
+  says_one (IsCount 1024) (counts_one 1024) (values Connections settings) one.connections other.connections a.9 b.9,
+  says_one (IsCount 86400) (counts_one 86400) (values IdleSeconds settings) one.idle_seconds other.idle_seconds a.10 b.10,
+  says_one (IsCount 1048576) (counts_one 1048576) (values HeldMebibytes settings) one.held_mebibytes other.held_mebibytes a.11 b.11,
+  says_one IsDescriptor descriptors_one (values SignalDescriptor settings) one.signal_descriptor other.signal_descriptor a.12 b.12,
 )
 
 pub ask_for_one : AskForOne

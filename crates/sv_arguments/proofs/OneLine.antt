@@ -17,7 +17,7 @@ use Rattle.sv_arguments.specs.Topics.{IsCalled, topic_name}
 use Rattle.sv_arguments.specs.Usage.{IsLineAfter, IsOptionLine, IsUsageLine, needs_line, option_fault_line, unknown_option}
 use Rattle.sv_program.specs.Shown.{quoted}
 use Rattle.sv_arguments.specs.declared.key.Key.{Key}
-use Rattle.sv_arguments.specs.declared.key.Key.TheVariants.{AccessLogFormat, Diff, EndAllSessions, Method}
+use Rattle.sv_arguments.specs.declared.key.Key.TheVariants.{AccessLogFormat, Diff, EndAllSessions, Method, SessionsEvery}
 use Rattle.sv_arguments.specs.declared.option_fault.OptionFault.{OptionFault}
 use Rattle.sv_arguments.specs.declared.option_fault.OptionFault.TheVariants.{NoServer, Unknown, Twice, Excluded, NoValue, BadValue, Alone, Unfit}
 use Rattle.sv_arguments.specs.declared.option_set.OptionSet.{OptionSet}
@@ -213,6 +213,7 @@ module _ (its : OptionSet) (settings : List Setting) (proper : AreProper its set
   -- no option that needs another is given with another server
   lone_unfit : (key other : Key) → needed key ≡ Some other → is_given settings key ≡ true → is_given settings Diff ≡ true → ⊥
   lone_unfit AccessLogFormat other needs given server = run_audit (one_command AccessLogFormat Diff given server)
+  lone_unfit SessionsEvery other needs given server = run_audit (one_command SessionsEvery Diff given server)
   lone_unfit EndAllSessions other needs given server = run_audit (one_command EndAllSessions Diff given server)
   lone_unfit Method other needs given server = method_unfit given server
   lone_unfit key other needs given server = some_none other (sym needs)

@@ -1,7 +1,7 @@
 -- The command that arguments name.
 use Rattle.std.specs.Prelude.{◌≡◌, ℕ, ◌⊎◌, List, [], ◌∷◌, codes, Option, Some, None}
 use Rattle.sv_arguments.specs.AuditOptions.{IsAudit}
-use Rattle.sv_arguments.specs.ControlRequest.{IsControl}
+use Rattle.sv_control_words.specs.ControlRequest.{IsControl}
 use Rattle.sv_arguments.specs.RunOptions.{IsAsked}
 use Rattle.sv_arguments.specs.Manual.{manual_words}
 use Rattle.sv_arguments.specs.Question.{question_words}

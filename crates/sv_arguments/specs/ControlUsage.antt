@@ -1,14 +1,18 @@
 -- The second line about the arguments of the command `ctl`.
 use Rattle.std.specs.Prelude.{ℕ, List, [], ◌∷◌, ◌++◌, codes, if◌then◌else◌, length, nat_lt, not, Option, Some, None}
-use Rattle.sv_arguments.specs.ControlArguments.{blank_argument, blank_rule, pattern_rule, wrong_pattern}
-use Rattle.sv_arguments.specs.ControlRequest.{are_on_one_line}
-use Rattle.sv_arguments.specs.ControlWord.{least, most, word_named, word_names, word_usage}
+use Rattle.sv_control_words.specs.ControlArguments.{blank_argument, blank_rule, pattern_rule, wrong_pattern}
+use Rattle.sv_control_words.specs.ControlRequest.{are_on_one_line}
+use Rattle.sv_control_words.specs.ControlWord.{least, most, word_named, word_usage}
 use Rattle.sv_arguments.specs.Near.{near}
 use Rattle.sv_arguments.specs.Plain.{lacks_line, wrong_word}
 use Rattle.sv_arguments.specs.UnknownNames.{hint}
-use Rattle.sv_arguments.specs.declared.control_word.ControlWord.{ControlWord}
+use Rattle.sv_control_words.specs.declared.control_word.ControlWord.{ControlWord}
 use Rattle.sv_arguments.specs.declared.topic.Topic.TheVariants.{Ctl}
 use Rattle.sv_program.specs.Shown.{quoted}
+
+-- the names, in the order in which they are listed
+abbrev pub word_names : List (List ℕ)
+word_names = codes "status" ∷ codes "constraints" ∷ codes "uncovered" ∷ codes "explain" ∷ codes "append" ∷ codes "withdraw" ∷ codes "stop" ∷ []
 
 -- the line about a word that is not known
 abbrev pub unknown_line : List ℕ → List ℕ

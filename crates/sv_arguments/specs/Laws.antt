@@ -33,7 +33,7 @@ abbrev pub AreSame : RunOptions → RunOptions → Type 0
 AreSame one other =
     (one.config.now ≡ other.config.now) × (option_copied one.control ≡ option_copied other.control) × (option_copied one.journal ≡ option_copied other.journal)
     × (option_copied one.access_log ≡ option_copied other.access_log) × (one.access_log_format ≡ other.access_log_format)
-    × (option_copied one.sessions ≡ option_copied other.sessions) × (one.end_all_sessions ≡ other.end_all_sessions)
+    × (option_copied one.sessions ≡ option_copied other.sessions) × (one.sessions_every ≡ other.sessions_every) × (one.end_all_sessions ≡ other.end_all_sessions)
     × (one.listen ≡ other.listen) × (one.same_seed ≡ other.same_seed) × (one.connections ≡ other.connections) × (one.idle_seconds ≡ other.idle_seconds)
     × (one.held_mebibytes ≡ other.held_mebibytes) × (one.signal_descriptor ≡ other.signal_descriptor)
 

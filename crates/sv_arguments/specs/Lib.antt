@@ -4,9 +4,6 @@ pub mod AuditWords
 pub mod RunOptions
 pub mod RunWords
 pub mod Given
-pub mod ControlWord
-pub mod ControlArguments
-pub mod ControlRequest
 pub mod Command
 pub mod Laws
 pub mod Manual

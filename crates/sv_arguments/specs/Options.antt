@@ -7,7 +7,7 @@ use Rattle.sv_arguments.specs.Values.{IsAddress, IsCount, IsDescriptor}
 use Rattle.sv_arguments.specs.AuditWords.{IsFormat, IsUnfit}
 use Rattle.sv_arguments.specs.RunWords.{IsAccessLogFormat}
 use Rattle.sv_arguments.specs.declared.key.Key.{Key}
-use Rattle.sv_arguments.specs.declared.key.Key.TheVariants.{AccessLogFormat, EndAllSessions, Listen, SameSeed, Connections, IdleSeconds, HeldMebibytes, SignalDescriptor, Secure, Format, FailOn, UnknownFiles, Diff}
+use Rattle.sv_arguments.specs.declared.key.Key.TheVariants.{AccessLogFormat, SessionsEvery, EndAllSessions, Listen, SameSeed, Connections, IdleSeconds, HeldMebibytes, SignalDescriptor, Secure, Format, FailOn, UnknownFiles, Diff}
 use Rattle.sv_arguments.specs.declared.option_set.OptionSet.{OptionSet}
 use Rattle.sv_arguments.specs.declared.run_options.AccessLogFormat as log
 use Rattle.std.specs.declared.net.socket_addr.SocketAddr.{SocketAddr}
@@ -16,6 +16,7 @@ use Rattle.std.specs.declared.net.socket_addr.SocketAddr.{SocketAddr}
 abbrev pub IsValue : Key → List ℕ → Type 0
 IsValue AccessLogFormat word = (format : log.AccessLogFormat) × IsAccessLogFormat word format
 IsValue Listen word = (address : SocketAddr) × IsAddress word address
+IsValue SessionsEvery word = (count : ℕ) × IsCount 86400 word count
 IsValue EndAllSessions word = word ≡ []
 IsValue SameSeed word = word ≡ []
 IsValue Connections word = (count : ℕ) × IsCount 1024 word count

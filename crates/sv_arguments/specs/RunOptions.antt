@@ -4,7 +4,7 @@ use Rattle.sv_arguments.specs.Options.{AreComplete}
 use Rattle.sv_arguments.specs.RunWords.{IsAccessLogFormat}
 use Rattle.sv_arguments.specs.Settings.{Setting, values, words_of}
 use Rattle.sv_arguments.specs.Values.{IsAddress, IsCount, IsDescriptor, IsGiven, IsName, Says, SaysOr}
-use Rattle.sv_arguments.specs.declared.key.Key.TheVariants.{AccessLog, AccessLogFormat, Connections, Control, EndAllSessions, HeldMebibytes, IdleSeconds, Journal, Listen, SameSeed, Sessions, SignalDescriptor}
+use Rattle.sv_arguments.specs.declared.key.Key.TheVariants.{AccessLog, AccessLogFormat, Connections, Control, EndAllSessions, HeldMebibytes, IdleSeconds, Journal, Listen, SameSeed, Sessions, SessionsEvery, SignalDescriptor}
 use Rattle.sv_arguments.specs.declared.option_set.OptionSet.TheVariants.{Run}
 use Rattle.sv_arguments.specs.declared.run_options.AccessLogFormat.TheVariants.{Combined}
 use Rattle.sv_arguments.specs.declared.run_options.RunOptions.{RunOptions}
@@ -17,6 +17,7 @@ GiveRun settings options =
     × Says IsName (values AccessLog settings) options.access_log
     × SaysOr Combined IsAccessLogFormat (values AccessLogFormat settings) options.access_log_format
     × Says IsName (values Sessions settings) options.sessions
+    × Says (IsCount 86400) (values SessionsEvery settings) options.sessions_every
     × IsGiven (values EndAllSessions settings) options.end_all_sessions
     × Says IsAddress (values Listen settings) options.listen
     × IsGiven (values SameSeed settings) options.same_seed

@@ -3,7 +3,7 @@ use Rattle.std.specs.Prelude.{◌≡◌, ℕ, Bool, true, false, ◌&&◌, not, 
 use Rattle.std.specs.List.{find, flat_map}
 use Rattle.std.specs.Str.{bytes_eq}
 use Rattle.sv_arguments.specs.declared.key.Key.{Key}
-use Rattle.sv_arguments.specs.declared.key.Key.TheVariants.{Control, Journal, AccessLog, AccessLogFormat, Sessions, EndAllSessions, Listen, SameSeed, Connections, IdleSeconds, HeldMebibytes, SignalDescriptor, Secure, Format, As, Role, FailOn, Accept, Lines, UnknownFiles, Path, Method, Diff}
+use Rattle.sv_arguments.specs.declared.key.Key.TheVariants.{Control, Journal, AccessLog, AccessLogFormat, Sessions, SessionsEvery, EndAllSessions, Listen, SameSeed, Connections, IdleSeconds, HeldMebibytes, SignalDescriptor, Secure, Format, As, Role, FailOn, Accept, Lines, UnknownFiles, Path, Method, Diff}
 use Rattle.sv_arguments.specs.declared.option_set.OptionSet.{OptionSet}
 use Rattle.sv_arguments.specs.declared.option_set.OptionSet.TheVariants.{Run, Audit}
 
@@ -17,6 +17,7 @@ key_word Journal = codes "--journal"
 key_word AccessLog = codes "--access-log"
 key_word AccessLogFormat = codes "--access-log-format"
 key_word Sessions = codes "--sessions"
+key_word SessionsEvery = codes "--sessions-every"
 key_word EndAllSessions = codes "--end-all-sessions"
 key_word Listen = codes "--listen"
 key_word SameSeed = codes "--same-seed"
@@ -43,6 +44,7 @@ value_name Journal = codes "FILE"
 value_name AccessLog = codes "FILE"
 value_name AccessLogFormat = codes "combined or json"
 value_name Sessions = codes "FOLDER"
+value_name SessionsEvery = codes "a number from 1 to 86400"
 value_name EndAllSessions = codes "nothing"
 value_name Listen = codes "an address and a port, as 127.0.0.1:8080"
 value_name SameSeed = codes "nothing"
@@ -65,8 +67,8 @@ value_name Diff = codes "a server file"
 -- the options of a command, in the order of its help
 abbrev pub option_keys : OptionSet → List Key
 option_keys Run =
-    Control ∷ Journal ∷ AccessLog ∷ AccessLogFormat ∷ Sessions ∷ EndAllSessions ∷ Listen ∷ SameSeed ∷ Connections ∷ IdleSeconds ∷ HeldMebibytes
-    ∷ SignalDescriptor ∷ []
+    Control ∷ Journal ∷ AccessLog ∷ AccessLogFormat ∷ Sessions ∷ SessionsEvery ∷ EndAllSessions ∷ Listen ∷ SameSeed ∷ Connections
+    ∷ IdleSeconds ∷ HeldMebibytes ∷ SignalDescriptor ∷ []
 option_keys Audit = Secure ∷ Format ∷ As ∷ Role ∷ FailOn ∷ Accept ∷ Lines ∷ UnknownFiles ∷ Path ∷ Method ∷ Diff ∷ []
 
 abbrev pub option_words : OptionSet → List (List ℕ)
@@ -116,6 +118,7 @@ rivals other = []
 -- the option that must be given with this one
 abbrev pub needed : Key → Option Key
 needed AccessLogFormat = Some AccessLog
+needed SessionsEvery = Some Sessions
 needed EndAllSessions = Some Sessions
 needed Method = Some Path
 needed other = None

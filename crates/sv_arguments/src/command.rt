@@ -8,12 +8,12 @@ ghost use Rattle.sv_arguments.specs.Values.{Finds};
 ghost use Rattle.sv_program.specs.Arguments.{Names, name_words};
 
 use crate::audit_options::AuditOptions;
-use crate::control_request::ControlRequest;
 use crate::manual::Manual;
 use crate::question::Question;
 use crate::run_options::RunOptions;
 use crate::service::Service;
 use crate::topic::{Topic, is_help_option};
+use sv_control_words::ControlRequest;
 use sv_program::denies_uncovered;
 
 /// A command of the program.

@@ -1,18 +1,31 @@
 //! The second line about the arguments of the command `ctl`.
 
-ghost use Rattle.std.specs.Prelude.{map, string_bytes};
+ghost use Rattle.std.specs.Prelude.{◌≡◌, IfOk, map, option_copied, string_bytes};
 ghost use Rattle.sv_arguments.specs.ControlUsage as spec;
+ghost use Rattle.sv_arguments.specs.Near.{near};
 ghost use Rattle.sv_text.specs.Gives.{GivesAnswer};
 
-use crate::control_arguments::{blank_argument, blank_rule, pattern_rule, wrong_pattern};
-use crate::control_request::are_on_one_line;
-use crate::control_word::{ControlWord, near_word};
+use crate::near::nearest;
 use crate::plain::{lacks_line, wrong_word};
 use crate::topic::Topic;
 use crate::unknown_names::hint;
 use std::alloc::Global;
+use sv_control_words::{
+    ControlWord, are_on_one_line, blank_argument, blank_rule, pattern_rule, wrong_pattern,
+};
 use sv_program::quoted;
 use sv_text::{NoMemory, Text};
+
+/// The names of the words, in the order in which they are listed.
+const CONTROL_NAMES: [&str; 7] = [
+    "status",
+    "constraints",
+    "uncovered",
+    "explain",
+    "append",
+    "withdraw",
+    "stop",
+];
 
 /// The words, as they are listed for a word that is near to none.
 const LISTING: &str = "it knows status, constraints, uncovered, explain, append, withdraw, stop";
@@ -122,4 +135,14 @@ fn usage_after(alloc: Global, known: ControlWord) -> Result<Text, NoMemory>
 {
     let usage = known.usage();
     Ok(Text::from_string(format!(in alloc; "; usage: sv ctl SOCKET {usage}")?))
+}
+
+/// Returns the name of a word that is near to this one, if there is one.
+///
+/// # Errors
+/// [`NoMemory`].
+fn near_word(alloc: Global, name: &str) -> Result<Option<&'static str>, NoMemory>
+    ensures { IfOk result (λ found. option_copied found ≡ near spec.word_names name.now) }
+{
+    nearest(alloc, &CONTROL_NAMES, name)
 }

@@ -176,6 +176,9 @@ fn lone_run_option(words: &[String]) -> Option<(Key, Key)>
     if lacks(OptionSet::Run, words, Key::AccessLogFormat, Key::AccessLog) {
         return Some((Key::AccessLogFormat, Key::AccessLog));
     }
+    if lacks(OptionSet::Run, words, Key::SessionsEvery, Key::Sessions) {
+        return Some((Key::SessionsEvery, Key::Sessions));
+    }
     if lacks(OptionSet::Run, words, Key::EndAllSessions, Key::Sessions) {
         return Some((Key::EndAllSessions, Key::Sessions));
     }

@@ -15,6 +15,9 @@ pub(crate) const MAX_CONNECTIONS: u32 = 1024;
 /// Maximum value of `--idle-seconds`: a day.
 pub(crate) const MAX_IDLE_SECONDS: u32 = 86_400;
 
+/// Maximum value of `--sessions-every`: a day.
+pub(crate) const MAX_SESSIONS_EVERY: u32 = 86_400;
+
 /// Maximum value of `--held-mebibytes`: a tebibyte.
 pub(crate) const MAX_HELD_MEBIBYTES: u32 = 1_048_576;
 
@@ -31,6 +34,8 @@ pub enum Key {
     AccessLogFormat,
     /// `--sessions FOLDER`: the name of the folder in which sessions outlive a restart.
     Sessions,
+    /// `--sessions-every SECONDS`: the seconds from one writing of the sessions to the next, while the server runs.
+    SessionsEvery,
     /// `--end-all-sessions`: the sessions in that folder end.
     EndAllSessions,
     /// `--listen ADDRESS:PORT`: the address that the server listens on.
@@ -80,6 +85,7 @@ impl Key {
             Key::AccessLog => "--access-log",
             Key::AccessLogFormat => "--access-log-format",
             Key::Sessions => "--sessions",
+            Key::SessionsEvery => "--sessions-every",
             Key::EndAllSessions => "--end-all-sessions",
             Key::Listen => "--listen",
             Key::SameSeed => "--same-seed",
@@ -111,6 +117,7 @@ impl Key {
             Key::AccessLog => "FILE",
             Key::AccessLogFormat => "combined or json",
             Key::Sessions => "FOLDER",
+            Key::SessionsEvery => "a number from 1 to 86400",
             Key::EndAllSessions => "nothing",
             Key::Listen => "an address and a port, as 127.0.0.1:8080",
             Key::SameSeed => "nothing",
@@ -142,6 +149,7 @@ impl Key {
             Key::AccessLog => true,
             Key::AccessLogFormat => true,
             Key::Sessions => true,
+            Key::SessionsEvery => true,
             Key::EndAllSessions => false,
             Key::Listen => true,
             Key::SameSeed => false,
@@ -173,6 +181,7 @@ impl Key {
             Key::AccessLog => &[],
             Key::AccessLogFormat => &[],
             Key::Sessions => &[],
+            Key::SessionsEvery => &[],
             Key::EndAllSessions => &[],
             Key::Listen => &[],
             Key::SameSeed => &[],
@@ -213,6 +222,7 @@ impl Key {
             Key::AccessLog => true,
             Key::AccessLogFormat => access_log_format_named(word).is_some(),
             Key::Sessions => true,
+            Key::SessionsEvery => count_in(word, MAX_SESSIONS_EVERY).is_some(),
             Key::EndAllSessions => word.is_empty(),
             Key::Listen => address_in(word).is_some(),
             Key::SameSeed => word.is_empty(),

@@ -4,10 +4,7 @@
 
 mod audit_options;
 mod command;
-mod control_arguments;
-mod control_request;
 mod control_usage;
-mod control_word;
 mod count;
 mod given;
 mod help_usage;
@@ -26,8 +23,6 @@ mod usage;
 
 pub use audit_options::{AuditOptions, audit_arguments_ask_for_one_thing};
 pub use command::{Command, arguments_name_one_command};
-pub use control_request::ControlRequest;
-pub use control_word::ControlWord;
 pub use count::Count;
 pub use key::Key;
 pub use manual::Manual;

@@ -77,6 +77,9 @@ fn run_key(word: &str) -> Option<Key>
     if word == "--sessions" {
         return Some(Key::Sessions);
     }
+    if word == "--sessions-every" {
+        return Some(Key::SessionsEvery);
+    }
     if word == "--end-all-sessions" {
         return Some(Key::EndAllSessions);
     }

@@ -10,7 +10,7 @@ ghost use Rattle.sv_arguments.specs.Settings.{Setting, values};
 ghost use Rattle.sv_arguments.specs.Values.{Finds, SaysOr};
 
 use crate::given::Given;
-use crate::key::{Key, MAX_CONNECTIONS, MAX_HELD_MEBIBYTES, MAX_IDLE_SECONDS};
+use crate::key::{Key, MAX_CONNECTIONS, MAX_HELD_MEBIBYTES, MAX_IDLE_SECONDS, MAX_SESSIONS_EVERY};
 use crate::option_fault::OptionFault;
 use crate::option_set::OptionSet;
 use std::net::SocketAddr;
@@ -39,6 +39,9 @@ pub struct RunOptions<'a> {
     pub access_log_format: AccessLogFormat,
     /// The name of the folder in which sessions outlive a restart, if there is one.
     pub sessions: Option<&'a str>,
+    /// The seconds from one writing of the sessions to the next while the server runs, or none if they are written only
+    /// at the end.
+    pub sessions_every: Option<u32>,
     /// Whether the sessions in that folder end.
     pub end_all_sessions: bool,
     /// The address that the server listens on, or none for 127.0.0.1 with the server file's port.
@@ -58,8 +61,8 @@ pub struct RunOptions<'a> {
 impl<'a> RunOptions<'a> {
     /// Parses the arguments: the name of the server file, followed by options in any order, each at most once. The
     /// options are `--control SOCKET`, `--journal FILE`, `--access-log FILE`, `--access-log-format FORMAT` (`combined` or
-    /// `json`; `combined` without it), which needs `--access-log`, `--sessions FOLDER`, `--end-all-sessions`, which needs
-    /// `--sessions`, `--listen ADDRESS:PORT`, `--same-seed`, `--connections N` (1 to 1,024), `--idle-seconds N` (1 to
+    /// `json`; `combined` without it), which needs `--access-log`, `--sessions FOLDER`, `--sessions-every SECONDS` (1 to
+    /// 86,400) and `--end-all-sessions`, which need `--sessions`, `--listen ADDRESS:PORT`, `--same-seed`, `--connections N` (1 to 1,024), `--idle-seconds N` (1 to
     /// 86,400), `--held-mebibytes N` (1 to 1,048,576) and `--signal-descriptor N` (3 to 1,048,575).
     ///
     /// # Errors
@@ -76,6 +79,7 @@ impl<'a> RunOptions<'a> {
             access_log: given.value(Key::AccessLog),
             access_log_format: access_log_format_in(&given),
             sessions: given.value(Key::Sessions),
+            sessions_every: given.count(Key::SessionsEvery, MAX_SESSIONS_EVERY),
             end_all_sessions: given.has(Key::EndAllSessions),
             listen: given.address(Key::Listen),
             same_seed: given.has(Key::SameSeed),

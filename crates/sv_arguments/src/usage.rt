@@ -31,12 +31,13 @@ use sv_program::quoted;
 use sv_text::{NoMemory, Text};
 
 /// The options of `run`, in the order of its help.
-const RUN_OPTIONS: [&str; 12] = [
+const RUN_OPTIONS: [&str; 13] = [
     "--control",
     "--journal",
     "--access-log",
     "--access-log-format",
     "--sessions",
+    "--sessions-every",
     "--end-all-sessions",
     "--listen",
     "--same-seed",

@@ -73,7 +73,7 @@ pub const COMMANDS: [CommandRow; 12] = [
 ];
 
 /// The options, by their commands.
-pub const OPTIONS: [OptionRow; 24] = [
+pub const OPTIONS: [OptionRow; 25] = [
     (
         "audit",
         "--secure",
@@ -170,6 +170,13 @@ and what became of it",
         "--sessions",
         "FOLDER",
         "keeps sessions in that folder from an orderly end to the next start",
+    ),
+    (
+        "run",
+        "--sessions-every",
+        "SECONDS",
+        "writes them there that often while it runs, for a kill; 1 to 86400;
+needs --sessions",
     ),
     (
         "run",

@@ -14,7 +14,7 @@ pub first_above : (number high : ℕ) (sessions : List Session) → NumbersRise 
 first_above number high [] rise = refl
 first_above number high (session ∷ sessions) rise = rw (lt-ltb number session.number rise.0) refl
 
-above : (number high : ℕ) (sessions : List Session) (place : ℕ) (session : Session) → NumbersRise number high sessions → slice_get sessions place ≡ Some session → number < session.number
+pub above : (number high : ℕ) (sessions : List Session) (place : ℕ) (session : Session) → NumbersRise number high sessions → slice_get sessions place ≡ Some session → number < session.number
 above number high [] place session rise is = absurd cc
 above number high (first ∷ others) zero session rise is = subst (λ (s : Session). number < s.number) (same_session first session is) rise.0
 above number high (first ∷ others) (suc place) session rise is = omega (arith, rise.0, above first.number high others place session rise.1 is)

@@ -2,6 +2,7 @@ mod After
 mod Appending
 mod ContentReaders
 mod ContentSteps
+mod CopyLemmas
 mod FileLaws
 mod ListReaders
 mod Loop

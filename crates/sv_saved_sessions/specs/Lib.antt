@@ -1,5 +1,6 @@
 pub mod Encoding
 pub mod Content
+pub mod Copying
 pub mod File
 pub mod Hmac
 pub mod Laws

@@ -1,54 +1,26 @@
-//! Writing the file of a suspended context.
+//! Writing the content of a file before its sessions.
 
-ghost use Rattle.std.specs.Prelude.{◌≡◌, ◌<◌, ◌≤◌, ◌++◌, IfSome, IsErrOf, MatchOption, OnOk, length, slice_get};
+ghost use Rattle.std.specs.Prelude.{◌≡◌, ◌<◌, ◌≤◌, ◌^◌, ◌++◌, IfSome, MatchOption, OnOk, length, slice_get};
 ghost use Rattle.std.specs.List.{AllByRecursion, flat_map};
 ghost use Rattle.sv_realm.specs.declared.realm.TheConstants.{MAX_USERS};
-ghost use Rattle.sv_saved_sessions.specs.Content.{content, magic_line, session_bytes, user_bytes};
+ghost use Rattle.sv_saved_sessions.specs.Content.{magic_line, user_bytes};
 ghost use Rattle.sv_saved_sessions.specs.Encoding.{list_bytes, number_bytes, text_bytes};
-ghost use Rattle.sv_saved_sessions.specs.File.{file_of};
 ghost use Rattle.sv_saved_sessions.specs.Saved.{AreAll, CanBeSaved, IsSession, IsText, IsUser};
-ghost use Rattle.sv_saved_sessions.specs.Saving.{Passes, WritesFront};
+ghost use Rattle.sv_saved_sessions.specs.Saving.{Passes, head_bytes, suspended};
 ghost use Rattle.sv_session.specs.Restoring.{CanBeRestored};
 
 use crate::cursor::MAGIC_LINE;
 use crate::encoding::{append_account, append_number, append_text};
 use crate::pieces::Pieces;
 use crate::save_fault::SaveFault;
-use std::alloc::Global;
-use sv_lifecycle::SuspendedContext;
+use crate::saved_head::SavedHead;
 use sv_realm::{MAX_USERS, Realm};
 use sv_session::Sessions;
 use sv_streams::Sink;
 use sv_text::NoMemory;
 
-/// Writes the file of a context that was suspended at a time, in seconds. Pieces of at least 64 KiB are written as they
-/// are made, so that the file is never in memory as a whole.
-///
-/// # Errors
-/// [`SaveFault::WriteFailed`] or [`SaveFault::NoMemory`], after a front of the file was written.
-/// [`SaveFault::TooManyUsers`] if there are more users than a realm can have; nothing was written.
-pub fn write_context<O: Sink>(
-    alloc: Global,
-    sink: &mut O,
-    key: &[u8; 32],
-    moment: u64,
-    context: &SuspendedContext,
-) -> Result<(), SaveFault>
-    ensures written { WritesFront O.makes (file_of key.now moment context.now) sink.old result sink.new }
-    // So that it can be read again.
-    ensures saved { OnOk result (CanBeSaved moment context.now) }
-    ensures refused { IsErrOf result SaveFault.TooManyUsers → MAX_USERS < length context.now.users }
-{
-    let Some(count) = count_of(&context.users) else {
-        return Err(SaveFault::TooManyUsers);
-    };
-    let mut pieces = Pieces::new(alloc, key);
-    put_content(&mut pieces, sink, moment, count, context)?;
-    pieces.finish(sink)
-}
-
 /// Returns the number of users of a realm, or `None` if there are more than a realm can have.
-fn count_of(users: &Realm) -> Option<u32>
+pub(crate) fn count_of(users: &Realm) -> Option<u32>
     ensures { MatchOption result (MAX_USERS < length users.now) (λ count. (count ≡ length users.now) × (count ≤ MAX_USERS)) }
 {
     for count in 0..MAX_USERS as u32 + 1 {
@@ -59,25 +31,26 @@ fn count_of(users: &Realm) -> Option<u32>
     None
 }
 
-/// Adds the content.
-fn put_content<O: Sink>(
+/// Adds the content before the first session.
+pub(crate) fn put_head<O: Sink>(
     pieces: &mut Pieces,
     sink: &mut O,
     moment: u64,
     count: u32,
-    context: &SuspendedContext,
+    head: &SavedHead<'_>,
+    sessions: &Sessions,
 ) -> Result<(), SaveFault>
-    requires count { count ≡ length context.now.users }
+    requires count { count ≡ length head.now.users.now }
     requires known { count ≤ MAX_USERS }
-    ensures passes { Passes O.makes (content moment context.now) pieces.old sink.old result pieces.new sink.new }
-    ensures saved { OnOk result (CanBeSaved moment context.now) }
+    ensures passes { Passes O.makes (head_bytes moment head.now sessions.now.store) pieces.old sink.old result pieces.new sink.new }
+    ensures saved { OnOk result (AllByRecursion IsSession sessions.now.store.sessions → CanBeSaved moment (suspended head.now sessions.now)) }
 {
-    put_begin(pieces, sink, moment, context.path.as_str())?;
-    put_users(pieces, sink, count, &context.users)?;
-    pieces.put_list(sink, context.declared.as_slice())?;
-    pieces.put_list(sink, context.constraints.as_slice())?;
-    pieces.put_number(sink, context.greatest)?;
-    put_sessions(pieces, sink, &context.sessions)?;
+    put_begin(pieces, sink, moment, head.path)?;
+    put_users(pieces, sink, count, head.users)?;
+    pieces.put_list(sink, head.declared)?;
+    pieces.put_list(sink, head.constraints)?;
+    pieces.put_number(sink, head.greatest)?;
+    put_numbers(pieces, sink, sessions)?;
     Ok(())
 }
 
@@ -161,38 +134,16 @@ fn put_user<O: Sink>(
     pieces.flush_if_full(sink)
 }
 
-/// Adds the serial and the sessions.
-fn put_sessions<O: Sink>(
+/// Adds the serial and the number of the sessions.
+fn put_numbers<O: Sink>(
     pieces: &mut Pieces,
     sink: &mut O,
     sessions: &Sessions,
 ) -> Result<(), SaveFault>
-    ensures passes { Passes O.makes (number_bytes sessions.now.store.serial ++ list_bytes session_bytes sessions.now.store.sessions) pieces.old sink.old result pieces.new sink.new }
-    ensures fits { OnOk result (AreAll IsSession sessions.now.store.sessions × CanBeRestored sessions.now.store) }
+    ensures passes { Passes O.makes (number_bytes sessions.now.store.serial ++ number_bytes (length sessions.now.store.sessions)) pieces.old sink.old result pieces.new sink.new }
+    ensures fits { (length sessions.now.store.sessions < 2 ^ 64) × CanBeRestored sessions.now.store }
 {
     pieces.put_number(sink, sessions.serial())?;
     pieces.put_number(sink, sessions.count() as u64)?;
-    put_session_items(pieces, sink, sessions)?;
-    Ok(())
-}
-
-/// Adds the sessions, one after another.
-fn put_session_items<O: Sink>(
-    pieces: &mut Pieces,
-    sink: &mut O,
-    sessions: &Sessions,
-) -> Result<(), SaveFault>
-    ensures passes { Passes O.makes (flat_map session_bytes sessions.now.store.sessions) pieces.old sink.old result pieces.new sink.new }
-    ensures fits { OnOk result (AllByRecursion IsSession sessions.now.store.sessions) }
-{
-    let _order = sessions.serial();
-    let mut number = 0;
-    for _ in 0..sessions.count() {
-        let Some(session) = sessions.after(number) else {
-            unreachable!()
-        };
-        pieces.put(sink, session)?;
-        number = session.number;
-    }
     Ok(())
 }

@@ -1,7 +1,7 @@
 use Rattle.std.proofs.Common.{ℕ, List, Option, ap, codes, ◌∙◌}
 use Rattle.sv_arguments.proofs.Joining.{joined}
 use Rattle.sv_arguments.proofs.control_usage.unknown_line.Goals as goal
-use Rattle.sv_arguments.specs.ControlWord.{word_names}
+use Rattle.sv_arguments.specs.ControlUsage.{word_names}
 use Rattle.sv_arguments.specs.Near.{near}
 use Rattle.sv_arguments.specs.UnknownNames.{hint}
 use Rattle.sv_program.specs.Shown.{quoted}

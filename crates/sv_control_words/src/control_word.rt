@@ -1,23 +1,7 @@
 //! The words that begin a line at the control socket.
 
-ghost use Rattle.std.specs.Prelude.{◌≡◌, IfOk, option_copied};
-ghost use Rattle.sv_arguments.specs.ControlWord as spec;
-ghost use Rattle.sv_arguments.specs.Near.{near};
-
-use crate::near::nearest;
-use std::alloc::Global;
-use sv_text::NoMemory;
-
-/// The names of the words, in the order in which they are listed.
-const CONTROL_NAMES: [&str; 7] = [
-    "status",
-    "constraints",
-    "uncovered",
-    "explain",
-    "append",
-    "withdraw",
-    "stop",
-];
+ghost use Rattle.std.specs.Prelude.{◌≡◌};
+ghost use Rattle.sv_control_words.specs.ControlWord as spec;
 
 /// The word that begins a line at the control socket.
 #[derive(Clone, Copy, Debug, PartialEq, Eq)]
@@ -106,14 +90,4 @@ impl ControlWord {
             ControlWord::Stop => "stop",
         }
     }
-}
-
-/// Returns the name of a word that is near to this one, if there is one.
-///
-/// # Errors
-/// [`NoMemory`].
-pub(crate) fn near_word(alloc: Global, name: &str) -> Result<Option<&'static str>, NoMemory>
-    ensures { IfOk result (λ found. option_copied found ≡ near spec.word_names name.now) }
-{
-    nearest(alloc, &CONTROL_NAMES, name)
 }

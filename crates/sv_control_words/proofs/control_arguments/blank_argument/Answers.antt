@@ -1,9 +1,9 @@
 use Rattle.std.proofs.Common.{◌-◌, ap, map, string_bytes, sym, ◌∙◌}
 use Rattle.std.proofs.lemmas.List.{take-map}
 use Rattle.std.specs.List.{find}
-use Rattle.sv_arguments.proofs.control_arguments.blank_argument.Goals as goal
-use Rattle.sv_arguments.specs.ControlArguments.{has_blank}
-use Rattle.sv_arguments.specs.ControlWord.{most}
+use Rattle.sv_control_words.proofs.control_arguments.blank_argument.Goals as goal
+use Rattle.sv_control_words.specs.ControlArguments.{has_blank}
+use Rattle.sv_control_words.specs.ControlWord.{most}
 
 pub returns : goal.returns
 returns c =

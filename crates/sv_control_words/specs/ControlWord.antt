@@ -1,12 +1,8 @@
 -- The words that begin a line at the control socket.
-use Rattle.std.specs.Prelude.{ℕ, List, [], ◌∷◌, codes, if◌then◌else◌, Option, Some, None}
+use Rattle.std.specs.Prelude.{ℕ, List, codes, if◌then◌else◌, Option, Some, None}
 use Rattle.std.specs.Str.{bytes_eq}
-use Rattle.sv_arguments.specs.declared.control_word.ControlWord.{ControlWord}
-use Rattle.sv_arguments.specs.declared.control_word.ControlWord.TheVariants.{Status, Constraints, Uncovered, Explain, Append, Withdraw, Stop}
-
--- the names, in the order in which they are listed
-abbrev pub word_names : List (List ℕ)
-word_names = codes "status" ∷ codes "constraints" ∷ codes "uncovered" ∷ codes "explain" ∷ codes "append" ∷ codes "withdraw" ∷ codes "stop" ∷ []
+use Rattle.sv_control_words.specs.declared.control_word.ControlWord.{ControlWord}
+use Rattle.sv_control_words.specs.declared.control_word.ControlWord.TheVariants.{Status, Constraints, Uncovered, Explain, Append, Withdraw, Stop}
 
 abbrev pub word_named : List ℕ → Option ControlWord
 word_named name =

@@ -2,9 +2,9 @@
 -- the line to the last argument that the word may take.
 use Rattle.std.specs.Prelude.{ℕ, ◌-◌, ◌==◌, Bool, List, codes, if◌then◌else◌, length, nat_eq, nat_lt, slice_get, take, Option, Some, None, option_and_then}
 use Rattle.std.specs.List.{find, list_any, starts_with}
-use Rattle.sv_arguments.specs.ControlWord.{most}
-use Rattle.sv_arguments.specs.declared.control_word.ControlWord.{ControlWord}
-use Rattle.sv_arguments.specs.declared.control_word.ControlWord.TheVariants.{Append, Explain}
+use Rattle.sv_control_words.specs.ControlWord.{most}
+use Rattle.sv_control_words.specs.declared.control_word.ControlWord.{ControlWord}
+use Rattle.sv_control_words.specs.declared.control_word.ControlWord.TheVariants.{Append, Explain}
 use Rattle.sv_mapping.specs.Pattern.{is_pattern}
 use Rattle.sv_mapping.specs.declared.pattern.TheConstants.{MAX_PATTERN_BYTES}
 

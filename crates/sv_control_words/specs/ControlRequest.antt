@@ -1,10 +1,10 @@
 -- The line that the arguments of the command `ctl` are.
-use Rattle.std.specs.Prelude.{◌≡◌, ◌==◌, ◌&&◌, ℕ, Bool, true, false, List, [], ◌∷◌, ◌++◌, codes, flat_map, is_none, length, map, nat_le, not, string_bytes, Option, Some, None, Result, OnOk}
+use Rattle.std.specs.Prelude.{◌≡◌, ◌==◌, ◌&&◌, ℕ, Bool, true, false, List, [], ◌∷◌, ◌++◌, codes, flat_map, is_none, length, map, nat_le, not, string_bytes, Option, Some, None, Result, OnOk, IfSome, IsSome}
 use Rattle.std.specs.List.{list_all, list_any}
-use Rattle.sv_arguments.specs.ControlArguments.{blank_argument, wrong_pattern}
-use Rattle.sv_arguments.specs.ControlWord as word
-use Rattle.sv_arguments.specs.declared.control_request.ControlRequest.{ControlRequest}
-use Rattle.sv_arguments.specs.declared.control_word.ControlWord.{ControlWord}
+use Rattle.sv_control_words.specs.ControlArguments.{blank_argument, wrong_pattern}
+use Rattle.sv_control_words.specs.ControlWord as word
+use Rattle.sv_control_words.specs.declared.control_request.ControlRequest.{ControlRequest}
+use Rattle.sv_control_words.specs.declared.control_word.ControlWord.{ControlWord}
 use Rattle.sv_text.specs.declared.no_memory.NoMemory.{NoMemory}
 
 abbrev pub named : List ℕ → Option ControlWord
@@ -36,6 +36,11 @@ are_of_line (name ∷ arguments) =
 abbrev pub IsControl : List (List ℕ) → ControlRequest → Type 0
 IsControl arguments request =
     (arguments ≡ request.socket.now ∷ map string_bytes request.words.now) × (are_of_line (map string_bytes request.words.now) ≡ true)
+
+-- the result is the request of the arguments, and there is one if they are those of any
+abbrev pub FindsControl : List (List ℕ) → Option ControlRequest → Type 0
+FindsControl arguments found =
+    IfSome found (IsControl arguments) × ((any : ControlRequest) → IsControl arguments any → IsSome found)
 
 -- arguments, each after a blank
 abbrev pub arguments_text : List (List ℕ) → List ℕ

@@ -1,8 +1,7 @@
 //! The arguments of the command `ctl`.
 
 ghost use Rattle.std.specs.Prelude.{◌≡◌, [], map, string_bytes};
-ghost use Rattle.sv_arguments.specs.ControlRequest as spec;
-ghost use Rattle.sv_arguments.specs.Values.{Finds};
+ghost use Rattle.sv_control_words.specs.ControlRequest as spec;
 ghost use Rattle.sv_text.specs.Gives.{GivesAnswer};
 
 use crate::control_arguments::{blank_argument, wrong_pattern};
@@ -23,7 +22,7 @@ pub struct ControlRequest<'a> {
 impl<'a> ControlRequest<'a> {
     /// Parses the arguments `SOCKET WORD ..`. Returns none if the socket is missing or the words are none of a line.
     pub fn parse(arguments: &'a [String]) -> Option<ControlRequest<'a>>
-        ensures { Finds (spec.IsControl (map string_bytes arguments.now)) result }
+        ensures { spec.FindsControl (map string_bytes arguments.now) result }
     {
         let (socket, words) = arguments.split_first()?;
         if are_of_line(words) {
@@ -102,7 +101,7 @@ fn takes(name: &str, count: usize) -> bool
 }
 
 /// Whether no word has a line feed.
-pub(crate) fn are_on_one_line(words: &[String]) -> bool
+pub fn are_on_one_line(words: &[String]) -> bool
     ensures { result ≡ spec.are_on_one_line (map string_bytes words.now) }
 {
     for word in words {

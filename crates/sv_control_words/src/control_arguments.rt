@@ -2,8 +2,8 @@
 
 ghost use Rattle.std.specs.Prelude.{◌≡◌, ◌-◌, map, option_copied, string_bytes, take};
 ghost use Rattle.std.specs.List.{find};
-ghost use Rattle.sv_arguments.specs.ControlArguments as spec;
-ghost use Rattle.sv_arguments.specs.ControlWord.{most};
+ghost use Rattle.sv_control_words.specs.ControlArguments as spec;
+ghost use Rattle.sv_control_words.specs.ControlWord.{most};
 ghost use Rattle.sv_mapping.specs.Pattern as pattern;
 
 use crate::control_word::ControlWord;
@@ -11,7 +11,7 @@ use sv_mapping::MAX_PATTERN_BYTES;
 
 /// Returns the first argument at whose blank the server would split it. Only the last argument that a word may take can
 /// have blanks.
-pub(crate) fn blank_argument(known: ControlWord, arguments: &[String]) -> Option<&str>
+pub fn blank_argument(known: ControlWord, arguments: &[String]) -> Option<&str>
     ensures { option_copied result ≡ spec.blank_argument known (map string_bytes arguments.now) }
 {
     first_with_blank(before_last(known, arguments))
@@ -46,7 +46,7 @@ fn has_blank(word: &str) -> bool
 }
 
 /// Returns the pattern that the word takes, if it is no URL pattern (Jakarta Servlet 6.0, section 12.2).
-pub(crate) fn wrong_pattern(known: ControlWord, arguments: &[String]) -> Option<&str>
+pub fn wrong_pattern(known: ControlWord, arguments: &[String]) -> Option<&str>
     ensures { option_copied result ≡ spec.wrong_pattern known (map string_bytes arguments.now) }
 {
     if known != ControlWord::Append {
@@ -74,7 +74,7 @@ fn is_extension_pattern(text: &str) -> bool
 }
 
 /// Returns what a text lacks that is no URL pattern.
-pub(crate) fn pattern_rule(text: &str) -> &'static str
+pub fn pattern_rule(text: &str) -> &'static str
     ensures { result.now ≡ spec.pattern_rule text.now }
 {
     if MAX_PATTERN_BYTES < text.len() {
@@ -87,7 +87,7 @@ pub(crate) fn pattern_rule(text: &str) -> &'static str
 }
 
 /// Returns which argument of the word may have blanks.
-pub(crate) fn blank_rule(known: ControlWord) -> &'static str
+pub fn blank_rule(known: ControlWord) -> &'static str
     ensures { result.now ≡ spec.blank_rule known }
 {
     match known {

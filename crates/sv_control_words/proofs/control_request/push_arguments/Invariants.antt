@@ -1,6 +1,6 @@
 use Rattle.std.proofs.Common.{◌≡◌, ◌++◌, map, string_bytes, take}
-use Rattle.sv_arguments.proofs.control_request.push_arguments.Given as goal
-use Rattle.sv_arguments.specs.ControlRequest.{arguments_text}
+use Rattle.sv_control_words.proofs.control_request.push_arguments.Given as goal
+use Rattle.sv_control_words.specs.ControlRequest.{arguments_text}
 
 abbrev pub invariant-loop-argument : goal.invariant-loop-argument
 invariant-loop-argument l =

@@ -1,0 +1,3 @@
+pub mod ControlWord
+pub mod ControlArguments
+pub mod ControlRequest
