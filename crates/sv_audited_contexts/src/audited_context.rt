@@ -15,6 +15,7 @@ use sv_constraints::{Constraint, Rules};
 use sv_deployments::FoundContext;
 use sv_descriptor::{Descriptor, ServletMapping, WebApp};
 use sv_findings::Surroundings;
+use sv_policy::copied_constraints;
 use sv_program::{CommandFault, ContextTexts, FileText, descriptor_in, realm_in};
 use sv_realm::Realm;
 use sv_text::{Listed, NoMemory, Text, copied_texts};

@@ -4,7 +4,7 @@ use Rattle.std.specs.List.{AllPairs}
 use Rattle.sv_component.specs.Steps.{ComponentSteps}
 use Rattle.sv_context.specs.State.{ContextState}
 use Rattle.sv_context.specs.Theory.{theory}
-use Rattle.sv_headline.specs.Chains.{AreIdsOf, CallersOfAChainHaveLoggedIn, EachLivesLawfully, Follows, IsChain, IsStarted, Life, Lives, NoIdOfAChainIsGivenTwice, contexts_left}
+use Rattle.sv_headline.specs.Chains.{AreIdsOf, CallersOfAChainHaveLoggedIn, EachLivesLawfully, Follows, HasRun, IsChain, IsStarted, Life, NoIdOfAChainIsGivenTwice, contexts_left}
 use Rattle.sv_headline.specs.Record.{EveryRunIsLawful}
 use Rattle.sv_headline.specs.Restarts.{CallersGoOn, ComesFrom, ContextsGoOn, GoesOnFrom, HeldIt, IsNew}
 use Rattle.sv_headline.proofs.Restarting.{are_new, none_held}

@@ -37,8 +37,8 @@ contexts_left [] = []
 contexts_left (life ∷ lives) = life.last.world.contexts
 
 module _ {S F L W : Type 0} (moving : ComponentSteps S F L) (draws : W → ℕ × ℕ → W → Type 0) where
-  -- A container runs, and no event runs out of memory.
-  pub record Lives (life : Life S F L W) : Type 0 where
+  -- A container has run, and no event ran out of memory.
+  pub record HasRun (life : Life S F L W) : Type 0 where
     pub run : Run (theory moving draws) life.first life.happenings life.answers life.last
     pub runs : life.last.stopped ≡ false
 
@@ -68,8 +68,8 @@ module _ {S F L W : Type 0} (moving : ComponentSteps S F L) (draws : W → ℕ �
   -- The containers of a chain, the latest first.
   abbrev pub IsChain : List (Life S F L W) → Type 0
   IsChain [] = Unit {0}
-  IsChain (life ∷ []) = Lives life × IsStarted life
-  IsChain (life ∷ earlier ∷ lives) = Lives life × Follows earlier life × IsChain (earlier ∷ lives)
+  IsChain (life ∷ []) = HasRun life × IsStarted life
+  IsChain (life ∷ earlier ∷ lives) = HasRun life × Follows earlier life × IsChain (earlier ∷ lives)
 
   -- Each container of a chain runs lawfully.
   abbrev pub EachLivesLawfully : Type 0
