@@ -14,4 +14,4 @@ loop-deployment-preserved g c =
     subst (λ front. TakesAll front c.args.suspended.now.items c.push.new.self.items c.take.new.suspended.items) (sym more)
     (subst (λ taken. TakesAll (take place all ++ item ∷ []) c.args.suspended.now.items taken c.take.new.suspended.items) (sym c.in_ok-push.ensures.items)
     (takes_next (take place all) item c.args.suspended.now.items c.loop-deployment.suspended.items c.take.new.suspended.items c.loop-deployment.taken.items
-    c.in_ok-take.field-0 c.loop-deployment.invariant c.in_ok-take.ensures))
+    c.in_ok-take.field-0 c.loop-deployment.invariant c.in_ok-take.ensures.taken))
