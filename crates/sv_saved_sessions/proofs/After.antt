@@ -1,11 +1,11 @@
 -- Sessions that are visited in the order of their numbers.
-use Rattle.std.proofs.Common.{◌≡◌, ℕ, zero, suc, ◌<◌, Bool, false, ltb, List, [], ◌∷◌, length, Option, None, Some, refl, sym, subst, ◌∙◌, arith}
+use Rattle.std.proofs.Common.{◌≡◌, ℕ, zero, suc, ◌<◌, Bool, false, ltb, List, [], ◌∷◌, length, Option, Some, refl, subst, arith}
 use Rattle.std.specs.Prelude.{find, nat_lt, slice_get}
 use Rattle.std.proofs.lemmas.Bool.{lt-ltb, le-ltb}
 use Rattle.sv_session.specs.Store.{NumbersRise, Session}
 
-same_session : (one other : Session) → ◌≡◌ {A = Option Session} (Some one) (Some other) → one ≡ other
-same_session one other is = cc
+pub same_item : {A : Type 0} (one other : A) → ◌≡◌ {A = Option A} (Some one) (Some other) → one ≡ other
+same_item one other is = cc
 
 after : ℕ → Session → Bool
 after number session = nat_lt number session.number
@@ -16,14 +16,14 @@ first_above number high (session ∷ sessions) rise = rw (lt-ltb number session.
 
 pub above : (number high : ℕ) (sessions : List Session) (place : ℕ) (session : Session) → NumbersRise number high sessions → slice_get sessions place ≡ Some session → number < session.number
 above number high [] place session rise is = absurd cc
-above number high (first ∷ others) zero session rise is = subst (λ (s : Session). number < s.number) (same_session first session is) rise.0
+above number high (first ∷ others) zero session rise is = subst (λ (s : Session). number < s.number) (same_item first session is) rise.0
 above number high (first ∷ others) (suc place) session rise is = omega (arith, rise.0, above first.number high others place session rise.1 is)
 
 pub next_after : (low high : ℕ) (sessions : List Session) (place : ℕ) (session : Session) → NumbersRise low high sessions → slice_get sessions place ≡ Some session
     → find (λ other. nat_lt session.number other.number) sessions ≡ slice_get sessions (suc place)
 next_after low high [] place session rise is = absurd cc
 next_after low high (first ∷ others) zero session rise is =
-    let same = same_session first session is in
+    let same = same_item first session is in
     let own : ltb first.number first.number ≡ false = le-ltb first.number first.number (omega arith) in
     let of_first : find (λ other. nat_lt first.number other.number) (first ∷ others) ≡ slice_get others 0 = rw own (first_above first.number high others rise.1) in
     subst (λ (s : Session). find (λ other. nat_lt s.number other.number) (first ∷ others) ≡ slice_get others 0) same of_first
@@ -36,6 +36,3 @@ pub some_item : {A : Type 0} (items : List A) (place : ℕ) → place < length i
 some_item [] place lt = absurd (omega arith)
 some_item (first ∷ others) zero lt = (first, refl)
 some_item (first ∷ others) (suc place) lt = some_item others place (omega arith)
-
-pub not_none : {A : Type 0} (items : List A) (place : ℕ) → place < length items → slice_get items place ≡ None → ⊥
-not_none items place lt none = let item = some_item items place lt in absurd (let e : None ≡ Some item.0 = sym none ∙ item.1 in cc)

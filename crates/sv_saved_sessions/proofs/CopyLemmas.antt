@@ -1,15 +1,17 @@
 -- Copies that are made a part at a time.
-use Rattle.std.proofs.Common.{◌≡◌, ℕ, zero, suc, ◌+◌, ◌<◌, ◌≤◌, true, false, ltb, inl, inr, List, [], ◌∷◌, ◌++◌, length, take, drop, Option, Some, None, refl, sym, ap, subst, ◌∙◌, append_assoc, arith}
-use Rattle.std.specs.Prelude.{filter, find, max, min, nat_lt, slice_get}
+use Rattle.std.proofs.Common.{Bor, ◌≡◌, ℕ, zero, suc, ◌+◌, ◌<◌, ◌≤◌, true, false, ltb, inl, inr, List, [], ◌∷◌, ◌++◌, take, drop, Option, Some, None, Err, refl, sym, ap, subst, ◌∙◌, append_assoc, arith}
+use Rattle.std.specs.Prelude.{IsErrOf, filter, find, max, min, nat_lt, slice_get}
 use Rattle.std.specs.List.{AllByRecursion, Contains}
-use Rattle.std.specs.Option.{option_map}
+use Rattle.std.specs.Option.{is_some, option_copied, option_map}
 use Rattle.std.proofs.lemmas.Bool.{cases_Bool, le-ltb, lt-ltb, ltb-false, ltb-true}
 use Rattle.std.proofs.lemmas.List.{append-nil}
 use Rattle.sv_session.specs.Restoring.{CanFollow, session_after, with_last, with_used}
+use Rattle.sv_session.specs.declared.restore_fault.RestoreFault.{RestoreFault}
+use Rattle.sv_session.specs.declared.restore_fault.RestoreFault.TheVariants.{NoMemory, Unfit}
 use Rattle.sv_session.specs.declared.limits.TheConstants.{GREATEST_SERIAL}
 use Rattle.sv_session.specs.Store.{IsOrderly, NumbersRise, Session, SessionsState, Store}
 use Rattle.sv_saved_sessions.specs.Copying.{CanFollowAll, CopiesAreOrderly, CopiesStoodInTheStore, Part, StoodInOne, copies_after, last_number, next_part, part_after, with_copies}
-use Rattle.sv_saved_sessions.proofs.After.{above, first_above, next_after}
+use Rattle.sv_saved_sessions.proofs.After.{above, first_above, next_after, same_item}
 
 -- ---- the sessions above a number
 abbrev pub above_all : ℕ → List Session → List Session
@@ -47,19 +49,16 @@ above_rise after low high (x ∷ xs) rise = elim (cases_Bool (ltb after x.number
 ]
 
 -- ---- lists up to a place
-same_some : {A : Type 0} (one other : A) → ◌≡◌ {A = Option A} (Some one) (Some other) → one ≡ other
-same_some one other is = cc
-
 one_taken : {A : Type 0} (items : List A) (place : ℕ) (item : A) → slice_get items place ≡ Some item → take (suc place) items ≡ take place items ++ item ∷ []
 one_taken [] place item is = absurd cc
-one_taken (x ∷ xs) zero item is = ap (λ (first : _). first ∷ []) (same_some x item is)
+one_taken (x ∷ xs) zero item is = ap (λ (first : _). first ∷ []) (same_item x item is)
 one_taken (x ∷ xs) (suc place) item is = ap (λ (rest : List _). x ∷ rest) (one_taken xs place item is)
 
 one_left : {A : Type 0} (items : List A) (place count : ℕ) (item : A) → slice_get items place ≡ Some item → place < count
     → drop place (take count items) ≡ item ∷ drop (suc place) (take count items)
 one_left [] place count item is lt = absurd cc
 one_left items place zero item is lt = absurd (omega (arith, lt))
-one_left (x ∷ xs) zero (suc count) item is lt = ap (λ (first : _). first ∷ take count xs) (same_some x item is)
+one_left (x ∷ xs) zero (suc count) item is lt = ap (λ (first : _). first ∷ take count xs) (same_item x item is)
 one_left (x ∷ xs) (suc place) (suc count) item is lt = one_left xs place count item is (omega (arith, lt))
 
 none_left : {A : Type 0} (items : List A) (place count : ℕ) → slice_get items place ≡ None → place ≤ count → take count items ≡ take place items
@@ -146,6 +145,21 @@ module _ (after count : ℕ) (store : Store) (before : SessionsState) where
       let here = sym up.next ∙ is in
       let rest = subst (λ (left : List Session). CanFollowAll copies.store left) (one_left (above_all after store.sessions) place count session here lt) (up.follow can) in
       cannot rest.0
+
+-- The fault of a session is that of its part.
+pub unfit_too : (fault : RestoreFault) → IsErrOf {T = Option ℕ} (Err fault) Unfit → IsErrOf {T = Unit {0}} (Err fault) Unfit
+unfit_too NoMemory is = absurd cc
+unfit_too Unfit is = refl
+
+pub some_is_left : (last : ℕ) (found : Option (Bor Session)) (copied : Option Session) → option_copied found ≡ copied → is_some found ≡ true
+    → Some last ≡ option_map (λ (s : Session). last) copied
+some_is_left last (Some x) copied is some = ap (λ (o : Option Session). option_map (λ (s : Session). last) o) is
+some_is_left last None copied is some = absurd cc
+
+pub none_is_left : (last : ℕ) (found : Option (Bor Session)) (copied : Option Session) → option_copied found ≡ copied → is_some found ≡ false
+    → None ≡ option_map (λ (s : Session). last) copied
+none_is_left last (Some x) copied is none = absurd cc
+none_is_left last None copied is none = ap (λ (o : Option Session). option_map (λ (s : Session). last) o) is
 
 -- ---- copies stood in the store
 module _ {A : Type 0} where

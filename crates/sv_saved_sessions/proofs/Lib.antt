@@ -13,3 +13,4 @@ mod Readers
 mod Restored
 mod Signing
 mod TextLemmas
+mod UpToLemmas

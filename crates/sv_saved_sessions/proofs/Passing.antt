@@ -1,5 +1,5 @@
 -- Bytes that follow others, in pieces.
-use Rattle.std.proofs.Common.{◌≡◌, ℕ, zero, suc, ◌+◌, ◌<◌, ◌≤◌, Option, Some, take_all, get_or, List, [], ◌∷◌, ◌++◌, length, length-append, take, Result, Ok, Err, refl, sym, ap, subst, ◌∙◌, append_assoc, arith}
+use Rattle.std.proofs.Common.{◌≡◌, ℕ, zero, suc, ◌+◌, ◌<◌, ◌≤◌, Some, take_all, get_or, List, [], ◌∷◌, ◌++◌, length, length-append, take, Result, Ok, Err, refl, sym, ap, subst, ◌∙◌, append_assoc, arith}
 use Rattle.std.specs.Prelude.{IsErrOf, slice_get}
 use Rattle.std.specs.List.{AllByRecursion, flat_map}
 use Rattle.std.proofs.lemmas.List.{append-nil}
@@ -11,6 +11,7 @@ use Rattle.sv_saved_sessions.specs.declared.save_fault.SaveFault.TheVariants.{No
 use Rattle.sv_saved_sessions.specs.Saving.{Passes, TakesIn, WritesFront, WritesRest}
 use Rattle.sv_streams.specs.Calls.{Making, WritesAll}
 use Rattle.sv_streams.specs.declared.stream.WriteFailed.{WriteFailed as WriteFault}
+use Rattle.sv_saved_sessions.proofs.After.{same_item}
 use Rattle.sv_streams.proofs.CallJoins.{writes_join}
 
 module _ {S : Type 0} (makes : Making S) where
@@ -127,9 +128,6 @@ module _ {S : Type 0} (makes : Making S) where
 
 -- Values one after another: those before a place, the one there, and those after it.
 module _ {A : Type 0} (encode : A → List ℕ) where
-  same_item : (first item : A) → ◌≡◌ {A = Option A} (Some first) (Some item) → first ≡ item
-  same_item first item is = cc
-
   pub bytes_more : (items : List A) (place : ℕ) (item : A) → slice_get items place ≡ Some item
       → flat_map encode (take (suc place) items) ≡ flat_map encode (take place items) ++ encode item
   bytes_more [] place item is = absurd cc
@@ -215,17 +213,6 @@ module _ {S : Type 0} (makes : Making S) where
       → Passes makes more before sink (Err fault) after sink_after → WritesRest makes (more ++ behind) sink (Err fault) sink_after
   begun_failed more behind before after sink sink_after fault none fails =
       subst (λ (front : List ℕ). WritesRest makes (front ++ (more ++ behind)) sink (Err fault) sink_after) none (failed_before makes more behind before after sink sink_after fault fails)
-
-  pub finished : (key content : List ℕ) (before between : Pieces) (sink sink_between after : S) (result : Result (Unit {0}) SaveFault) → before.buffer.items ≡ [] → HoldsMessage key before.hmac []
-      → Passes makes content before sink (Ok tt) between sink_between
-      → ((k m : List ℕ) → HoldsMessage k between.hmac m → WritesRest makes (between.buffer.items ++ hmac_sha256 k (m ++ between.buffer.items)) sink_between result after)
-      → WritesRest makes (content ++ hmac_sha256 key content) sink result after
-  finished key content before between sink sink_between after result none holds (w, is, writes, takes) rest =
-      let whole : content ≡ w ++ between.buffer.items = ap (λ (front : List ℕ). front ++ content) (sym none) ∙ is in
-      let last = rest key w (takes key [] holds) in
-      let all = rest_follows w (between.buffer.items ++ hmac_sha256 key (w ++ between.buffer.items)) sink sink_between after result writes last in
-      subst (λ (text : List ℕ). WritesRest makes text sink result after)
-      (sym (append_assoc w between.buffer.items (hmac_sha256 key (w ++ between.buffer.items))) ∙ ap (λ (text : List ℕ). text ++ hmac_sha256 key text) (sym whole)) all
 
   pub as_front : (bytes : List ℕ) (sink after : S) (result : Result (Unit {0}) SaveFault) → WritesRest makes bytes sink result after → WritesFront makes bytes sink result after
   as_front bytes sink after (Ok done) rest = rest

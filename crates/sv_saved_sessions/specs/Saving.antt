@@ -1,5 +1,5 @@
 -- What was written of a file.
-use Rattle.std.specs.Prelude.{◌≡◌, List, ℕ, ◌+◌, ◌++◌, Bool, Result, Ok, Err, MatchResult, OnOk, drop, length, min, nat_le, slice_get}
+use Rattle.std.specs.Prelude.{◌≡◌, List, ℕ, ◌+◌, ◌++◌, Bool, Result, Ok, Err, MatchResult, drop, length, min, nat_le, slice_get}
 use Rattle.std.specs.List.{AllByRecursion, flat_map}
 use Rattle.sv_lifecycle.specs.declared.suspended_context.SuspendedContext.{SuspendedContext}
 use Rattle.sv_saved_sessions.specs.Content.{constraint_bytes, content, magic_line, session_bytes, user_bytes}

@@ -9,8 +9,8 @@ use sv_session::{RestoreFault, Sessions, StoredSession};
 
 /// Copies the next sessions of a store after those that were copied before: at most `count`, in the order of their
 /// numbers, from the first above `after`. The serials that the store has used count as used among the copies, too.
-/// Returns the number of the last session copied, or `after` if there is none, if sessions above it are left. Returns
-/// `None` if all have been copied.
+/// Returns the number of the last session of the part, or `after` if the part is empty, if sessions with higher numbers
+/// are left. Returns `None` if all have been copied.
 ///
 /// # Errors
 /// [`RestoreFault::Unfit`] if a session cannot follow the copies, or [`RestoreFault::NoMemory`]. Some sessions may have

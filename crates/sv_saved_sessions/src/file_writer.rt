@@ -39,13 +39,14 @@ impl FileWriter {
         sessions: &Sessions,
     ) -> Result<FileWriter, SaveFault>
         ensures begun { MatchResult result
-            (λ writer. IsUpTo O.makes key.now moment (suspended head sessions.now) 0 sink.old writer sink.new)
-            (λ fault. WritesFront O.makes (file_of key.now moment (suspended head sessions.now)) sink.old (Err fault) sink.new) }
-        ensures refused { IsErrOf result SaveFault.TooManyUsers → MAX_USERS < length head.users.now }
+            (λ writer. IsUpTo O.makes key.now moment (suspended head.entry sessions.now) 0 sink.old writer sink.new)
+            (λ fault. WritesFront O.makes (file_of key.now moment (suspended head.entry sessions.now)) sink.old (Err fault) sink.new) }
+        ensures refused { IsErrOf result SaveFault.TooManyUsers → MAX_USERS < length head.entry.users.now }
     {
         let Some(count) = count_of(head.users) else {
             return Err(SaveFault::TooManyUsers);
         };
+        let _order = sessions.serial();
         let mut pieces = Pieces::new(alloc, key);
         put_head(&mut pieces, sink, moment, count, &head, sessions)?;
         Ok(FileWriter { pieces, last: 0 })
@@ -64,6 +65,7 @@ impl FileWriter {
     ) -> Result<bool, SaveFault>
         ensures { GoesOn O.makes sessions.now.store count self.old sink.old result self.new sink.new }
     {
+        let _order = sessions.serial();
         for _ in 0..count {
             let Some(session) = sessions.after(self.last) else {
                 return Ok(true);

@@ -141,7 +141,7 @@ fn put_numbers<O: Sink>(
     sessions: &Sessions,
 ) -> Result<(), SaveFault>
     ensures passes { Passes O.makes (number_bytes sessions.now.store.serial ++ number_bytes (length sessions.now.store.sessions)) pieces.old sink.old result pieces.new sink.new }
-    ensures fits { (length sessions.now.store.sessions < 2 ^ 64) × CanBeRestored sessions.now.store }
+    ensures fits { OnOk result ((length sessions.now.store.sessions < 2 ^ 64) × CanBeRestored sessions.now.store) }
 {
     pieces.put_number(sink, sessions.serial())?;
     pieces.put_number(sink, sessions.count() as u64)?;
