@@ -24,6 +24,7 @@ _sv() {
     *:run:--access-log:*) ;;
     *:run:--access-log-format:*) return;;
     *:run:--sessions:*) ;;
+    *:run:--sessions-every:*) return;;
     *:run:--listen:*) return;;
     *:run:--connections:*) return;;
     *:run:--idle-seconds:*) return;;
@@ -37,7 +38,7 @@ _sv() {
     *:check:*:-*) names="";;
     *:replay:*:-*) names="";;
     *:serve:*:-*) names="";;
-    *:run:*:-*) names="--control --journal --access-log --access-log-format --sessions --end-all-sessions --listen --same-seed --connections --idle-seconds --held-mebibytes --signal-descriptor ";;
+    *:run:*:-*) names="--control --journal --access-log --access-log-format --sessions --sessions-every --end-all-sessions --listen --same-seed --connections --idle-seconds --held-mebibytes --signal-descriptor ";;
     *:ctl:*:-*) names="";;
     *:selftest:*:-*) names="";;
     *:help:*:-*) names="--format ";;
