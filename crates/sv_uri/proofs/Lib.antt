@@ -1,7 +1,7 @@
 mod AnswerLemmas
 mod DotSegmentLemmas
 mod ItsOwnLemmas
-mod LocationLemmas
+pub mod LocationLemmas
 mod PlainLemmas
 mod QueryLemmas
 mod SegmentLemmas
