@@ -2,7 +2,7 @@
 use Rattle.std.proofs.Common.{arith, ◌≡◌, ℕ, Bool, true, false, not, ◌||◌, List, [], ◌∷◌, ◌++◌, length, refl, ap, ap₂, sym, ◌∙◌, cond, Option, None, Some, is_none, is_some, ◌==◌}
 use Rattle.std.specs.Prelude.{filter}
 use Rattle.std.specs.List.{flat_map, list_any}
-use Rattle.std.specs.Option.{option_or}
+use Rattle.std.specs.Option.{option_copied, option_or}
 use Rattle.std.specs.Str.{bytes_eq}
 use Rattle.std.proofs.lemmas.Bool.{false≢true, or_left, or_parts, or_right}
 use Rattle.std.proofs.lemmas.List.Folds.{list_any-append}
@@ -21,8 +21,10 @@ use Rattle.sv_policy.proofs.Rising.{rising_lists}
 use Rattle.sv_policy.proofs.Steps.{filter_same}
 use Rattle.sv_policy.specs.Merged.{admits_everyone, names_everyone}
 use Rattle.sv_audit.proofs.Said.{admitted_one}
-use Rattle.sv_audit.specs.Access.{fitting_caller, login_access, login_number, means_role, roles_meant, roles_of}
+use Rattle.sv_audit.specs.Access.{asking, fitting_caller, login_access, login_number, means_role, roles_meant, roles_of}
 use Rattle.sv_audit.specs.declared.access.Access.TheVariants.{AnyLogin, Roles}
+use Rattle.sv_audit.specs.declared.access.CellCaller.{CellCaller}
+use Rattle.sv_audit.specs.declared.access.CellCaller.TheVariants.{Fitting, Given}
 
 -- ---- Whether names mean a role.
 some : {A : Type 0} (x : A) (xs : List A) → not (length (x ∷ xs) == 0) ≡ true
@@ -103,24 +105,41 @@ second_some : (a b c : Option ℕ) → is_some a ≡ false → option_or b c ≡
 second_some None b c is = refl
 second_some (Some n) b c is = absurd (false≢true (sym is))
 
+never : {A : Type 0} (xs : List A) → list_any (λ x. false) xs ≡ false
+never [] = refl
+never (x ∷ xs) = never xs
+
 module _ (rules : Rules) (pattern : Option (List ℕ)) (members : List Constraint) where
-  number_for : (held : List (List ℕ)) → (why_of (callers rules pattern members (Some (caller_with held)))).number ≡ option_or (least_where (admits_caller rules (Some (caller_with held))) members) (least_number members)
-  number_for held =
-      number_at (list_any (admits_caller rules (Some (caller_with held))) members) (least_where (admits_caller rules (Some (caller_with held))) members) (least_number members) pattern
-      (some_where (admits_caller rules (Some (caller_with held))) members)
+  number_for : (caller : Caller) → (why_of (callers rules pattern members (Some caller))).number ≡ option_or (least_where (admits_caller rules (Some caller)) members) (least_number members)
+  number_for caller =
+      number_at (list_any (admits_caller rules (Some caller)) members) (least_where (admits_caller rules (Some caller)) members) (least_number members) pattern
+      (some_where (admits_caller rules (Some caller)) members)
 
   fits_at : (everyone : Bool) → list_any admits_everyone members ≡ everyone
-      → (why_of (callers rules pattern members (fitting_caller (cond everyone AnyLogin (Roles (roles_of rules members)))))).number ≡ login_number rules (least_number members) members
+      → (why_of (callers rules pattern members (fitting_caller (cond everyone AnyLogin (Roles (roles_of rules members)))))).number ≡ login_number Fitting rules (least_number members) members
   fits_at true is =
-      number_for []
+      number_for (caller_with [])
       ∙ ap (λ found. option_or (least_number found) (least_number members)) (filter_same (admits_caller rules (Some (caller_with []))) admits_everyone (without_roles rules) members)
       ∙ first_some (least_where admits_everyone members) (least_where (means_role rules) members) (least_number members) (some_where admits_everyone members ∙ is)
   fits_at false is =
-      number_for (roles_of rules members)
+      number_for (caller_with (roles_of rules members))
       ∙ ap (λ found. option_or (least_number found) (least_number members))
       (those_with_roles rules (roles_of rules members) members is (λ role there. rising_lists (flat_map (λ (m : Constraint). roles_meant rules.declared m.auth) members) role ∙ there))
       ∙ second_some (least_where admits_everyone members) (least_where (means_role rules) members) (least_number members) (some_where admits_everyone members ∙ is)
 
-  -- Where only callers pass, this number is that of the constraint that decides for a caller who has just what they ask for.
-  pub fits : (why_of (callers rules pattern members (fitting_caller (login_access rules members)))).number ≡ login_number rules (least_number members) members
+  fits : (why_of (callers rules pattern members (fitting_caller (login_access rules members)))).number ≡ login_number Fitting rules (least_number members) members
   fits = fits_at (list_any admits_everyone members) refl
+
+  -- Nobody is admitted without a caller.
+  no_number : (passing : Option ℕ) → is_some passing ≡ false → least_number members ≡ option_or passing (least_number members)
+  no_number None is = refl
+  no_number (Some n) is = absurd (false≢true (sym is))
+
+  given : (caller : Option Caller) → (why_of (callers rules pattern members caller)).number ≡ option_or (least_where (admits_caller rules caller) members) (least_number members)
+  given None = no_number (least_where (admits_caller rules None) members) (some_where (admits_caller rules None) members ∙ never members)
+  given (Some caller) = number_for caller
+
+  -- Where only callers pass, this number is that of the constraint that decides the request.
+  pub decides : (whose : CellCaller) → (why_of (callers rules pattern members (asking whose (login_access rules members)))).number ≡ login_number whose rules (least_number members) members
+  decides Fitting = fits
+  decides (Given caller) = given (option_copied caller)

@@ -18,11 +18,12 @@ use Rattle.sv_policy.specs.Merged.{admits_everyone}
 use Rattle.sv_policy.specs.Uncovered.{rising}
 use Rattle.sv_audit.proofs.Filters.{filter_map, map_twice}
 use Rattle.sv_audit.proofs.Made.{map_agree, row_with}
-use Rattle.sv_audit.specs.Access.{access_at, cell_at, cell_with, fitting_caller, roles_meant, roles_of}
+use Rattle.sv_audit.specs.Access.{access_at, cell_for, cell_with, roles_meant, roles_of}
 use Rattle.sv_audit.specs.Focus.{focused, focused_collection, focused_collections}
-use Rattle.sv_audit.specs.Rows.{exceptions, groups_of, named_cell, row_at}
+use Rattle.sv_audit.specs.Rows.{exceptions, groups_of, named_cell, row_for}
 use Rattle.sv_audit.specs.Same.{same_cell}
 use Rattle.sv_audit.specs.declared.access.Cell.{Cell}
+use Rattle.sv_audit.specs.declared.access.Access.{Access}
 use Rattle.sv_audit.specs.declared.rows.NamedCell.{NamedCell}
 
 kept_at : {A : Type 0} (test : A → Bool) (x : A) (xs : List A) (b rest : Bool) → test x ≡ b → list_any test xs ≡ rest → list_any test (cond b (x ∷ xs) xs) ≡ (b || rest)
@@ -142,20 +143,20 @@ module _ (pattern : List ℕ) where
         least_focused members,
       )
 
-  cell_focused : (rules : Rules) (members : List Constraint) → cell_at rules (Some pattern) (map (focused pattern) members) ≡ cell_at rules (Some pattern) members
-  unfolding cell_at
-  cell_focused rules members =
-      ap (cell_with rules (Some pattern) (map (focused pattern) members)) (access_focused rules members)
+  cell_focused : (whose : Access → Option Caller) (rules : Rules) (members : List Constraint) → cell_for whose rules (Some pattern) (map (focused pattern) members) ≡ cell_for whose rules (Some pattern) members
+  unfolding cell_for
+  cell_focused whose rules members =
+      ap (cell_with whose rules (Some pattern) (map (focused pattern) members)) (access_focused rules members)
       ∙ ap (λ decision. let made : Cell = record { access = access_at rules (Some pattern) members; constraint = (why_of decision).number } in made)
-      (verdict_focused rules (fitting_caller (access_at rules (Some pattern) members)) members)
+      (verdict_focused rules (whose (access_at rules (Some pattern) members)) members)
 
-  pub row_focused : (constraints : List Constraint) (rules : Rules) → row_at (map (focused pattern) constraints) rules pattern ≡ row_at constraints rules pattern
+  pub row_focused : (whose : Access → Option Caller) (constraints : List Constraint) (rules : Rules) → row_for whose (map (focused pattern) constraints) rules pattern ≡ row_for whose constraints rules pattern
   unfolding exceptions
-  row_focused constraints rules =
+  row_focused whose constraints rules =
       ap₂ (λ o named. row_with pattern (groups_of (filter (λ (one : NamedCell). not (same_cell one.cell o)) named) o))
-      (ap (cell_at rules (Some pattern)) (others_focused constraints) ∙ cell_focused rules (filter (λ c. covers_unnamed c pattern) constraints))
-      (ap (map (named_cell (map (focused pattern) constraints) rules pattern)) (ap rising (named_focused constraints))
-      ∙ map_agree (named_cell (map (focused pattern) constraints) rules pattern) (named_cell constraints rules pattern)
+      (ap (cell_for whose rules (Some pattern)) (others_focused constraints) ∙ cell_focused whose rules (filter (λ c. covers_unnamed c pattern) constraints))
+      (ap (map (named_cell whose (map (focused pattern) constraints) rules pattern)) (ap rising (named_focused constraints))
+      ∙ map_agree (named_cell whose (map (focused pattern) constraints) rules pattern) (named_cell whose constraints rules pattern)
       (λ method. ap (λ cell. let made : NamedCell = record { name = method; cell = cell } in made)
-      (ap (cell_at rules (Some pattern)) (covering_focused method constraints) ∙ cell_focused rules (filter (λ c. covers c pattern method) constraints)))
+      (ap (cell_for whose rules (Some pattern)) (covering_focused method constraints) ∙ cell_focused whose rules (filter (λ c. covers c pattern method) constraints)))
       (rising (named_methods constraints pattern)))

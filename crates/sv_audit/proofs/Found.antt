@@ -13,6 +13,7 @@ use Rattle.std.proofs.lemmas.Slice.Eq.{bytes_eq-Decides}
 use Rattle.sv_mapping.specs.BestMatch.{BestExists, BestIsAMatch, best_pattern}
 use Rattle.sv_mapping.specs.Pattern.{form, is_extension_pattern, matches}
 use Rattle.sv_mapping.specs.Segments.{is_rooted}
+use Rattle.sv_realm.specs.declared.caller.Caller.{Caller}
 use Rattle.sv_constraints.specs.Covering.{all_patterns, covering, lists}
 use Rattle.sv_constraints.specs.Decision.{why_of}
 use Rattle.sv_constraints.specs.Verdict.{verdict}
@@ -26,10 +27,11 @@ use Rattle.sv_policy.specs.Uncovered.{IsRising, rising}
 use Rattle.sv_audit.proofs.Filters.{filter_map, filter_none, filter_twice}
 use Rattle.sv_audit.proofs.RowCells.{row_cell}
 use Rattle.sv_audit.proofs.Said.{said}
-use Rattle.sv_audit.specs.Access.{access_at, cell_at, fitting_caller}
+use Rattle.sv_audit.specs.Access.{access_at, cell_for}
 use Rattle.sv_audit.specs.Reading.{NumbersAreRight, TablesAreRight, cells_for, cells_in, is_same, row_patterns, said_to}
-use Rattle.sv_audit.specs.Rows.{in_row_order, match_every_path, other_paths, row_at, table_of}
+use Rattle.sv_audit.specs.Rows.{in_row_order, match_every_path, other_paths, row_for, table_for}
 use Rattle.sv_audit.specs.declared.access.Cell.{Cell}
+use Rattle.sv_audit.specs.declared.access.Access.{Access}
 use Rattle.sv_audit.specs.declared.rows.Row.{Row}
 
 -- ---- The rows have the patterns of the constraints, each once.
@@ -93,7 +95,7 @@ once_in_order patterns p there =
     (swapped (λ text. bytes_eq text p) is_extension_pattern (rising patterns) ∙ ap (filter is_extension_pattern) (once_in_rising patterns p there))
     ∙ parts_at p (is_extension_pattern p)
 
-module _ (constraints : List Constraint) (rules : Rules) where
+module _ (whose : Access → Option Caller) (constraints : List Constraint) (rules : Rules) where
   abbrev ordered : List (List ℕ)
   ordered = in_row_order (all_patterns constraints)
 
@@ -104,30 +106,30 @@ module _ (constraints : List Constraint) (rules : Rules) where
   none_last true = refl
   none_last false = refl
 
-  patterns_from : (texts : List (List ℕ)) (rest : List Row) → row_patterns (map (row_at constraints rules) texts ++ rest) ≡ texts ++ row_patterns rest
+  patterns_from : (texts : List (List ℕ)) (rest : List Row) → row_patterns (map (row_for whose constraints rules) texts ++ rest) ≡ texts ++ row_patterns rest
   patterns_from [] rest = refl
   patterns_from (text ∷ texts) rest = ap (λ others. text ∷ others) (patterns_from texts rest)
 
-  patterns_are : row_patterns (table_of constraints rules).rows ≡ ordered
+  patterns_are : row_patterns (table_for whose constraints rules).rows ≡ ordered
   patterns_are = patterns_from ordered last ∙ ap (λ ps. ordered ++ ps) (none_last (match_every_path (all_patterns constraints))) ∙ append-nil ordered
 
-  same_best : BestIsOfTexts → (path : List ℕ) → best_pattern (row_patterns (table_of constraints rules).rows) path ≡ best_pattern (all_patterns constraints) path
+  same_best : BestIsOfTexts → (path : List ℕ) → best_pattern (row_patterns (table_for whose constraints rules).rows) path ≡ best_pattern (all_patterns constraints) path
   same_best best_same path = ap (λ ps. best_pattern ps path) patterns_are ∙ best_same ordered (all_patterns constraints) path (ordered_lists (all_patterns constraints))
 
   others_stop : (p : List ℕ) (closed : Bool) → filter (λ (row : Row). is_same row.pattern (Some p)) (cond closed [] (other_paths ∷ [])) ≡ []
   others_stop p true = refl
   others_stop p false = refl
 
-  rows_of_pattern : (p : List ℕ) → lists (all_patterns constraints) p ≡ true → filter (λ (row : Row). is_same row.pattern (Some p)) (table_of constraints rules).rows ≡ row_at constraints rules p ∷ []
+  rows_of_pattern : (p : List ℕ) → lists (all_patterns constraints) p ≡ true → filter (λ (row : Row). is_same row.pattern (Some p)) (table_for whose constraints rules).rows ≡ row_for whose constraints rules p ∷ []
   rows_of_pattern p there =
-      filter-append (λ (row : Row). is_same row.pattern (Some p)) (map (row_at constraints rules) ordered) last
-      ∙ ap₂ (λ xs ys. xs ++ ys) (filter_map (row_at constraints rules) (λ (row : Row). is_same row.pattern (Some p)) ordered ∙ ap (map (row_at constraints rules)) (once_in_order (all_patterns constraints) p there))
+      filter-append (λ (row : Row). is_same row.pattern (Some p)) (map (row_for whose constraints rules) ordered) last
+      ∙ ap₂ (λ xs ys. xs ++ ys) (filter_map (row_for whose constraints rules) (λ (row : Row). is_same row.pattern (Some p)) ordered ∙ ap (map (row_for whose constraints rules)) (once_in_order (all_patterns constraints) p there))
       (others_stop p (match_every_path (all_patterns constraints)))
 
-  rows_of_none : match_every_path (all_patterns constraints) ≡ false → filter (λ (row : Row). is_same row.pattern None) (table_of constraints rules).rows ≡ other_paths ∷ []
+  rows_of_none : match_every_path (all_patterns constraints) ≡ false → filter (λ (row : Row). is_same row.pattern None) (table_for whose constraints rules).rows ≡ other_paths ∷ []
   rows_of_none some =
-      filter-append (λ (row : Row). is_same row.pattern None) (map (row_at constraints rules) ordered) last
-      ∙ ap₂ (λ xs ys. xs ++ ys) (filter_map (row_at constraints rules) (λ (row : Row). is_same row.pattern None) ordered ∙ ap (map (row_at constraints rules)) (filter_none (λ p. false) ordered (λ p. refl)))
+      filter-append (λ (row : Row). is_same row.pattern None) (map (row_for whose constraints rules) ordered) last
+      ∙ ap₂ (λ xs ys. xs ++ ys) (filter_map (row_for whose constraints rules) (λ (row : Row). is_same row.pattern None) ordered ∙ ap (map (row_for whose constraints rules)) (filter_none (λ p. false) ordered (λ p. refl)))
       (ap (λ b. filter (λ (row : Row). is_same row.pattern None) (cond b [] (other_paths ∷ []))) some)
 
 -- ---- A path without a match.
@@ -166,35 +168,35 @@ in_texts (x ∷ texts) text (zero, within, is) = or_first (bytes_eq x text) (lis
 in_texts (x ∷ texts) text (suc i, within, is) = or_right (bytes_eq x text) (lists texts text) (in_texts texts text (i, omega (arith, within), is))
 
 -- ---- The cell of a method and a path.
-module _ (best_exists : BestExists) (best_is_a_match : BestIsAMatch) (best_same : BestIsOfTexts) (constraints : List Constraint) (rules : Rules) (method path : List ℕ) (rooted : is_rooted path ≡ true) where
-  abbrev cell_for : Option (List ℕ) → Cell
-  cell_for best = cell_at rules best (covering constraints best method)
+module _ (best_exists : BestExists) (best_is_a_match : BestIsAMatch) (best_same : BestIsOfTexts) (whose : Access → Option Caller) (constraints : List Constraint) (rules : Rules) (method path : List ℕ) (rooted : is_rooted path ≡ true) where
+  abbrev its_cell : Option (List ℕ) → Cell
+  its_cell best = cell_for whose rules best (covering constraints best method)
 
-  none_cell : cell_at rules None [] ≡ record { access = access_at rules None []; constraint = None }
-  unfolding cell_at
+  none_cell : cell_for whose rules None [] ≡ record { access = access_at rules None []; constraint = None }
+  unfolding cell_for
   none_cell = refl
 
-  cells_at : (best : Option (List ℕ)) → best_pattern (all_patterns constraints) path ≡ best → flat_map (cells_in method) (filter (λ (row : Row). is_same row.pattern best) (table_of constraints rules).rows) ≡ cell_for best ∷ []
-  cells_at None is = ap (flat_map (cells_in method)) (rows_of_none constraints rules (no_match best_exists (all_patterns constraints) path rooted is)) ∙ ap (λ (cell : Cell). cell ∷ []) (sym none_cell)
+  cells_at : (best : Option (List ℕ)) → best_pattern (all_patterns constraints) path ≡ best → flat_map (cells_in method) (filter (λ (row : Row). is_same row.pattern best) (table_for whose constraints rules).rows) ≡ its_cell best ∷ []
+  cells_at None is = ap (flat_map (cells_in method)) (rows_of_none whose constraints rules (no_match best_exists (all_patterns constraints) path rooted is)) ∙ ap (λ (cell : Cell). cell ∷ []) (sym none_cell)
   cells_at (Some p) is =
-      ap (flat_map (cells_in method)) (rows_of_pattern constraints rules p (in_texts (all_patterns constraints) p (best_is_a_match (all_patterns constraints) path p is).0))
-      ∙ append-nil (cells_in method (row_at constraints rules p)) ∙ row_cell constraints rules p method
+      ap (flat_map (cells_in method)) (rows_of_pattern whose constraints rules p (in_texts (all_patterns constraints) p (best_is_a_match (all_patterns constraints) path p is).0))
+      ∙ append-nil (cells_in method (row_for whose constraints rules p)) ∙ row_cell whose constraints rules p method
 
-  pub cells_are : cells_for (table_of constraints rules) method path ≡ cell_for (best_pattern (all_patterns constraints) path) ∷ []
+  pub cells_are : cells_for (table_for whose constraints rules) method path ≡ its_cell (best_pattern (all_patterns constraints) path) ∷ []
   cells_are =
-      ap (λ best. flat_map (cells_in method) (filter (λ (row : Row). is_same row.pattern best) (table_of constraints rules).rows)) (same_best constraints rules best_same path)
+      ap (λ best. flat_map (cells_in method) (filter (λ (row : Row). is_same row.pattern best) (table_for whose constraints rules).rows)) (same_best whose constraints rules best_same path)
       ∙ cells_at (best_pattern (all_patterns constraints) path) refl
 
 pub answers : BestExists → BestIsAMatch → BestIsOfTexts → TablesAreRight
-unfolding cell_at
-answers best_exists best_is_a_match best_same constraints rules method path caller rooted =
-    ap (map (λ (cell : Cell). said_to caller cell.access)) (cells_are best_exists best_is_a_match best_same constraints rules method path rooted)
+unfolding cell_for
+answers best_exists best_is_a_match best_same whose constraints rules method path caller rooted =
+    ap (map (λ (cell : Cell). said_to caller cell.access)) (cells_are best_exists best_is_a_match best_same whose constraints rules method path rooted)
     ∙ ap (λ answer. answer ∷ []) (said rules caller (best_pattern (all_patterns constraints) path) (covering constraints (best_pattern (all_patterns constraints) path) method))
 
 pub numbers : BestExists → BestIsAMatch → BestIsOfTexts → NumbersAreRight
-unfolding cell_at
-numbers best_exists best_is_a_match best_same constraints rules method path rooted =
-    rw (cells_are best_exists best_is_a_match best_same constraints rules method path rooted)
-    (All-cons (λ (cell : Cell). cell.constraint ≡ (why_of (verdict constraints rules method path (fitting_caller cell.access))).number)
-    (cell_at rules (best_pattern (all_patterns constraints) path) (covering constraints (best_pattern (all_patterns constraints) path) method)) [] refl
-    (All-nil (λ (cell : Cell). cell.constraint ≡ (why_of (verdict constraints rules method path (fitting_caller cell.access))).number)))
+unfolding cell_for
+numbers best_exists best_is_a_match best_same whose constraints rules method path rooted =
+    rw (cells_are best_exists best_is_a_match best_same whose constraints rules method path rooted)
+    (All-cons (λ (cell : Cell). cell.constraint ≡ (why_of (verdict constraints rules method path (whose cell.access))).number)
+    (cell_for whose rules (best_pattern (all_patterns constraints) path) (covering constraints (best_pattern (all_patterns constraints) path) method)) [] refl
+    (All-nil (λ (cell : Cell). cell.constraint ≡ (why_of (verdict constraints rules method path (whose cell.access))).number)))

@@ -9,6 +9,7 @@ use Rattle.std.specs.List.Sorted.{IsStrictlySortedBy}
 use Rattle.std.specs.Str.{bytes_eq}
 use Rattle.std.proofs.lemmas.Bool.{false≢true, or_left, or_right}
 use Rattle.std.proofs.lemmas.Slice.Eq.{bytes_eq-Decides}
+use Rattle.sv_realm.specs.declared.caller.Caller.{Caller}
 use Rattle.sv_constraints.specs.Covering.{covers, lists}
 use Rattle.sv_constraints.specs.declared.constraint.Constraint.{Constraint}
 use Rattle.sv_constraints.specs.declared.constraint.Rules.{Rules}
@@ -17,9 +18,10 @@ use Rattle.sv_policy.proofs.Named.{unnamed_members}
 use Rattle.sv_policy.proofs.Rising.{absent_below, rising_lists, rising_rises}
 use Rattle.sv_policy.specs.Covering.{covers_at, covers_unnamed, named_methods}
 use Rattle.sv_policy.specs.Uncovered.{rising}
-use Rattle.sv_audit.specs.Access.{cell_at}
+use Rattle.sv_audit.specs.Access.{cell_for}
 use Rattle.sv_audit.specs.MethodIndex.{AreEntries, IsIndexed, at_name, entries, found_in, indexed_cell}
 use Rattle.sv_audit.specs.Rows.{named_cell}
+use Rattle.sv_audit.specs.declared.access.Access.{Access}
 use Rattle.sv_audit.specs.declared.method_index.MethodIndex.{MethodIndex}
 use Rattle.sv_audit.specs.declared.rows.NamedCell.{NamedCell}
 
@@ -87,16 +89,16 @@ found_covering pattern q constraints others names (Some by_name) are ordered nam
     ap (filter (λ c. covers c pattern q)) (are q) ∙ covering_entries pattern q names (named_methods constraints pattern) ordered named constraints
 
 -- ---- The cells of the named methods.
-cells_agree : (constraints : List Constraint) (rules : Rules) (pattern : List ℕ) (index : MethodIndex) → IsIndexed constraints pattern index → (names : List (List ℕ))
-    → ((q : List ℕ) → lists names q ≡ true → lists (named_methods constraints pattern) q ≡ true) → map (indexed_cell index rules pattern) names ≡ map (named_cell constraints rules pattern) names
-cells_agree constraints rules pattern index is [] within = refl
-cells_agree constraints rules pattern index is (name ∷ names) within =
+cells_agree : (whose : Access → Option Caller) (constraints : List Constraint) (rules : Rules) (pattern : List ℕ) (index : MethodIndex) → IsIndexed constraints pattern index → (names : List (List ℕ))
+    → ((q : List ℕ) → lists names q ≡ true → lists (named_methods constraints pattern) q ≡ true) → map (indexed_cell whose index rules pattern) names ≡ map (named_cell whose constraints rules pattern) names
+cells_agree whose constraints rules pattern index is [] within = refl
+cells_agree whose constraints rules pattern index is (name ∷ names) within =
     ap₂ (λ cell cells. cell ∷ cells)
-    (ap (λ members. let made : NamedCell = record { name = name; cell = cell_at rules (Some pattern) members } in made) (is.members name (within name (or_left (bytes_eq name name) (lists names name) ((bytes_eq-Decides name name).1 refl)))))
-    (cells_agree constraints rules pattern index is names (λ q there. within q (or_right (bytes_eq name q) (lists names q) there)))
+    (ap (λ members. let made : NamedCell = record { name = name; cell = cell_for whose rules (Some pattern) members } in made) (is.members name (within name (or_left (bytes_eq name name) (lists names name) ((bytes_eq-Decides name name).1 refl)))))
+    (cells_agree whose constraints rules pattern index is names (λ q there. within q (or_right (bytes_eq name q) (lists names q) there)))
 
-pub indexed_cells : (constraints : List Constraint) (rules : Rules) (pattern : List ℕ) (index : MethodIndex) → IsIndexed constraints pattern index
-    → map (indexed_cell index rules pattern) (map (λ name. name.now) index.names.items) ≡ map (named_cell constraints rules pattern) (rising (named_methods constraints pattern))
-indexed_cells constraints rules pattern index is =
-    ap (map (indexed_cell index rules pattern)) is.names
-    ∙ cells_agree constraints rules pattern index is (rising (named_methods constraints pattern)) (λ q there. sym (rising_lists (named_methods constraints pattern) q) ∙ there)
+pub indexed_cells : (whose : Access → Option Caller) (constraints : List Constraint) (rules : Rules) (pattern : List ℕ) (index : MethodIndex) → IsIndexed constraints pattern index
+    → map (indexed_cell whose index rules pattern) (map (λ name. name.now) index.names.items) ≡ map (named_cell whose constraints rules pattern) (rising (named_methods constraints pattern))
+indexed_cells whose constraints rules pattern index is =
+    ap (map (indexed_cell whose index rules pattern)) is.names
+    ∙ cells_agree whose constraints rules pattern index is (rising (named_methods constraints pattern)) (λ q there. sym (rising_lists (named_methods constraints pattern) q) ∙ there)

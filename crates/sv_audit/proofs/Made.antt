@@ -1,6 +1,6 @@
 -- Loop steps of sorted texts, cells and rows.
 use Rattle.std.proofs.lemmas.Bool.{or_parts}
-use Rattle.std.proofs.Common.{None, Some, Result, Ok, Err, codes, ◌≡◌, ℕ, ◌+◌, ◌<◌, Bool, true, false, not, ◌||◌, List, [], ◌∷◌, ◌++◌, length, take, get_or, map, refl, ap, ap₂, sym, ◌∙◌, cond, append-nil, Ordering, Less, Equal, Greater, nat_cmp}
+use Rattle.std.proofs.Common.{Option, None, Some, Result, Ok, Err, codes, ◌≡◌, ℕ, ◌+◌, ◌<◌, Bool, true, false, not, ◌||◌, List, [], ◌∷◌, ◌++◌, length, take, get_or, map, refl, ap, ap₂, sym, ◌∙◌, cond, append-nil, Ordering, Less, Equal, Greater, nat_cmp}
 use Rattle.std.specs.Borrow.{Bor}
 use Rattle.std.specs.Prelude.{filter}
 use Rattle.std.specs.BTreeSet.{insert_key}
@@ -12,6 +12,7 @@ use Rattle.std.proofs.lemmas.List.Elements.{filter-append}
 use Rattle.std.proofs.lemmas.List.Sums.{fold-append}
 use Rattle.sv_text.specs.Gives.{GivesAnswer}
 use Rattle.sv_text.specs.declared.no_memory.NoMemory.{NoMemory}
+use Rattle.sv_realm.specs.declared.caller.Caller.{Caller}
 use Rattle.sv_constraints.specs.Covering.{all_patterns, covers, lists}
 use Rattle.sv_constraints.specs.declared.constraint.Collection.{Collection}
 use Rattle.sv_constraints.specs.declared.constraint.Constraint.{Constraint}
@@ -23,10 +24,11 @@ use Rattle.sv_policy.specs.Patterns.{lists_pattern}
 use Rattle.sv_policy.specs.Uncovered.{rising}
 use Rattle.sv_audit.proofs.Equal.{and_left, cell_from}
 use Rattle.sv_audit.proofs.Found.{ordered_lists}
-use Rattle.sv_audit.specs.Access.{cell_at}
-use Rattle.sv_audit.specs.Rows.{different_cells, exceptions, groups_of, in_row_order, match_every_path, named_cell, other_paths, others_cell, row_at, table_of}
+use Rattle.sv_audit.specs.Access.{cell_for}
+use Rattle.sv_audit.specs.Rows.{different_cells, exceptions, groups_of, in_row_order, match_every_path, named_cell, other_paths, others_cell, row_for, table_for}
 use Rattle.sv_audit.specs.Same.{same_cell}
 use Rattle.sv_audit.specs.declared.access.Cell.{Cell}
+use Rattle.sv_audit.specs.declared.access.Access.{Access}
 use Rattle.sv_audit.specs.declared.rows.Group.{Group}
 use Rattle.sv_audit.specs.declared.rows.NamedCell.{NamedCell}
 use Rattle.sv_audit.specs.declared.rows.Row.{Row}
@@ -94,15 +96,15 @@ next_cell named i one cell before after within at is was pushed =
     ∙ sym (ap different_cells (take_more named i one within ∙ ap (λ o. take i named ++ o ∷ []) (sym at)) ∙ different_more (take i named) one)
 
 -- ---- A row by its parts.
-pub row_made : (constraints : List Constraint) (rules : Rules) (text pattern : List ℕ) (members : List Constraint) (others : Cell) (named : List NamedCell) (groups : List Group) → text ≡ pattern → members ≡ filter (λ c. covers_at c pattern None) constraints → others ≡ cell_at rules (Some pattern) members
-    → named ≡ filter (λ one. not (same_cell one.cell others)) (map (named_cell constraints rules pattern) (rising (named_methods constraints pattern))) → groups ≡ groups_of named others
-    → row_with text groups ≡ row_at constraints rules pattern
+pub row_made : (whose : Access → Option Caller) (constraints : List Constraint) (rules : Rules) (text pattern : List ℕ) (members : List Constraint) (others : Cell) (named : List NamedCell) (groups : List Group) → text ≡ pattern → members ≡ filter (λ c. covers_at c pattern None) constraints → others ≡ cell_for whose rules (Some pattern) members
+    → named ≡ filter (λ one. not (same_cell one.cell others)) (map (named_cell whose constraints rules pattern) (rising (named_methods constraints pattern))) → groups ≡ groups_of named others
+    → row_with text groups ≡ row_for whose constraints rules pattern
 unfolding exceptions
-row_made constraints rules text pattern members others named groups same are is named_are made =
-    let its_cell : others ≡ others_cell constraints rules pattern = is ∙ ap (cell_at rules (Some pattern)) are in
+row_made whose constraints rules text pattern members others named groups same are is named_are made =
+    let its_cell : others ≡ others_cell whose constraints rules pattern = is ∙ ap (cell_for whose rules (Some pattern)) are in
     ap₂ row_with same
     (made ∙ ap (λ ns. groups_of ns others) named_are
-    ∙ ap (λ o. groups_of (filter (λ (one : NamedCell). not (same_cell one.cell o)) (map (named_cell constraints rules pattern) (rising (named_methods constraints pattern)))) o) its_cell)
+    ∙ ap (λ o. groups_of (filter (λ (one : NamedCell). not (same_cell one.cell o)) (map (named_cell whose constraints rules pattern) (rising (named_methods constraints pattern)))) o) its_cell)
 
 -- ---- The row by the constraints that list the pattern.
 weaker_or : (a b r s : Bool) → (a ≡ true → b ≡ true) → (r ≡ true → s ≡ true) → (a || r) ≡ true → (b || s) ≡ true
@@ -136,15 +138,15 @@ pub map_agree : {A B : Type 0} (f g : A → B) → ((x : A) → f x ≡ g x) →
 map_agree f g same [] = refl
 map_agree f g same (x ∷ xs) = ap₂ (λ y ys. y ∷ ys) (same x) (map_agree f g same xs)
 
-pub row_of_all : (constraints members : List Constraint) (rules : Rules) (pattern : List ℕ) → members ≡ filter (λ c. lists_pattern c pattern) constraints → row_at members rules pattern ≡ row_at constraints rules pattern
+pub row_of_all : (whose : Access → Option Caller) (constraints members : List Constraint) (rules : Rules) (pattern : List ℕ) → members ≡ filter (λ c. lists_pattern c pattern) constraints → row_for whose members rules pattern ≡ row_for whose constraints rules pattern
 unfolding exceptions
-row_of_all constraints members rules pattern are =
-    ap (λ ms. row_at ms rules pattern) are
+row_of_all whose constraints members rules pattern are =
+    ap (λ ms. row_for whose ms rules pattern) are
     ∙ ap₂ (λ o named. row_with pattern (groups_of (filter (λ (one : NamedCell). not (same_cell one.cell o)) named) o))
-    (ap (cell_at rules (Some pattern)) (filter_within (λ c. covers_unnamed c pattern) (λ c. lists_pattern c pattern) (unnamed_listed pattern) constraints))
-    (ap (map (named_cell (filter (λ c. lists_pattern c pattern) constraints) rules pattern)) (ap rising (named_of_all pattern constraints))
-    ∙ map_agree (named_cell (filter (λ c. lists_pattern c pattern) constraints) rules pattern) (named_cell constraints rules pattern)
-    (λ method. ap (λ covered. let made : NamedCell = record { name = method; cell = cell_at rules (Some pattern) covered } in made) (filter_within (λ c. covers c pattern method) (λ c. lists_pattern c pattern) (covers_listed pattern method) constraints))
+    (ap (cell_for whose rules (Some pattern)) (filter_within (λ c. covers_unnamed c pattern) (λ c. lists_pattern c pattern) (unnamed_listed pattern) constraints))
+    (ap (map (named_cell whose (filter (λ c. lists_pattern c pattern) constraints) rules pattern)) (ap rising (named_of_all pattern constraints))
+    ∙ map_agree (named_cell whose (filter (λ c. lists_pattern c pattern) constraints) rules pattern) (named_cell whose constraints rules pattern)
+    (λ method. ap (λ covered. let made : NamedCell = record { name = method; cell = cell_for whose rules (Some pattern) covered } in made) (filter_within (λ c. covers c pattern method) (λ c. lists_pattern c pattern) (covers_listed pattern method) constraints))
     (rising (named_methods constraints pattern)))
 
 -- ---- The last steps of functions.
@@ -159,11 +161,11 @@ gives_along (Ok x) a b same is = is ∙ same
 gives_along (Err e) a b same is = is
 
 -- ---- The table by its rows.
-pub table_made : (constraints : List Constraint) (rules : Rules) (patterns texts : List (List ℕ)) (rows all : List Row) → patterns ≡ in_row_order (all_patterns constraints) → texts ≡ patterns → rows ≡ map (row_at constraints rules) texts
-    → all ≡ rows ++ cond (match_every_path texts) [] (other_paths ∷ []) → table_with all ≡ table_of constraints rules
-table_made constraints rules patterns texts rows all are same made whole =
+pub table_made : (whose : Access → Option Caller) (constraints : List Constraint) (rules : Rules) (patterns texts : List (List ℕ)) (rows all : List Row) → patterns ≡ in_row_order (all_patterns constraints) → texts ≡ patterns → rows ≡ map (row_for whose constraints rules) texts
+    → all ≡ rows ++ cond (match_every_path texts) [] (other_paths ∷ []) → table_with all ≡ table_for whose constraints rules
+table_made whose constraints rules patterns texts rows all are same made whole =
     ap table_with
     (whole ∙ ap (λ rs. rs ++ cond (match_every_path texts) [] (other_paths ∷ [])) made
-    ∙ ap (λ ts. map (row_at constraints rules) ts ++ cond (match_every_path ts) [] (other_paths ∷ [])) (same ∙ are)
-    ∙ ap (λ b. map (row_at constraints rules) (in_row_order (all_patterns constraints)) ++ cond b [] (other_paths ∷ []))
+    ∙ ap (λ ts. map (row_for whose constraints rules) ts ++ cond (match_every_path ts) [] (other_paths ∷ [])) (same ∙ are)
+    ∙ ap (λ b. map (row_for whose constraints rules) (in_row_order (all_patterns constraints)) ++ cond b [] (other_paths ∷ []))
     (ap₂ (λ a b. a || b) (ordered_lists (all_patterns constraints) (codes "/")) (ordered_lists (all_patterns constraints) (codes "/*"))))

@@ -1,12 +1,13 @@
 -- A row has exactly one cell for each method.
 use Rattle.std.proofs.lemmas.Bool.{false≢true}
-use Rattle.std.proofs.Common.{◌≡◌, ℕ, Bool, true, false, not, ◌||◌, ◌&&◌, List, [], ◌∷◌, ◌++◌, map, refl, ap, ap₂, sym, ◌∙◌, cond, append-nil, Some}
+use Rattle.std.proofs.Common.{◌≡◌, ℕ, Bool, true, false, not, ◌||◌, ◌&&◌, List, [], ◌∷◌, ◌++◌, map, refl, ap, ap₂, sym, ◌∙◌, cond, append-nil, Option, Some}
 use Rattle.std.specs.Prelude.{filter}
 use Rattle.std.specs.List.{list_any}
 use Rattle.std.specs.Str.{bytes_eq}
 use Rattle.std.proofs.lemmas.List.{map-append}
 use Rattle.std.proofs.lemmas.List.Elements.{filter-append}
 use Rattle.std.proofs.lemmas.Slice.Eq.{bytes_eq-Decides}
+use Rattle.sv_realm.specs.declared.caller.Caller.{Caller}
 use Rattle.sv_constraints.specs.Covering.{covering, covers_method, lists}
 use Rattle.sv_constraints.specs.declared.constraint.Constraint.{Constraint}
 use Rattle.sv_constraints.specs.declared.constraint.Rules.{Rules}
@@ -17,11 +18,12 @@ use Rattle.sv_policy.specs.Covering.{named_methods}
 use Rattle.sv_policy.specs.Uncovered.{rising}
 use Rattle.sv_audit.proofs.Equal.{cell_from, cell_self, once}
 use Rattle.sv_audit.proofs.Filters.{filter_map, filter_none, map_self, map_twice}
-use Rattle.sv_audit.specs.Access.{cell_at}
+use Rattle.sv_audit.specs.Access.{cell_for}
 use Rattle.sv_audit.specs.Reading.{cells_in}
-use Rattle.sv_audit.specs.Rows.{different_cells, exceptions, group_with, groups_of, named_cell, others_cell, others_group, row_at}
+use Rattle.sv_audit.specs.Rows.{different_cells, exceptions, group_with, groups_of, named_cell, others_cell, others_group, row_for}
 use Rattle.sv_audit.specs.Same.{same_cell}
 use Rattle.sv_audit.specs.declared.access.Cell.{Cell}
+use Rattle.sv_audit.specs.declared.access.Access.{Access}
 use Rattle.sv_audit.specs.declared.rows.Group.{Group}
 use Rattle.sv_audit.specs.declared.rows.NamedCell.{NamedCell}
 
@@ -81,12 +83,12 @@ module _ (cell : List ℕ → Cell) (texts : List (List ℕ)) (others : Cell) (m
       ∙ ap₂ (λ xs ys. xs ++ ys) with_groups (last_at (lists texts method) (ap (λ ns. lists ns method) names))
       ∙ one_at (lists texts method) refl rest
 
-module _ (constraints : List Constraint) (rules : Rules) (pattern method : List ℕ) where
+module _ (whose : Access → Option Caller) (constraints : List Constraint) (rules : Rules) (pattern method : List ℕ) where
   abbrev cell_of : List ℕ → Cell
-  cell_of name = cell_at rules (Some pattern) (covering constraints (Some pattern) name)
+  cell_of name = cell_for whose rules (Some pattern) (covering constraints (Some pattern) name)
 
   abbrev others_of : Cell
-  others_of = others_cell constraints rules pattern
+  others_of = others_cell whose constraints rules pattern
 
   abbrev is_exception : List ℕ → Bool
   is_exception name = not (same_cell (cell_of name) others_of)
@@ -98,17 +100,17 @@ module _ (constraints : List Constraint) (rules : Rules) (pattern method : List 
 
   others_at : (named : Bool) → lists (named_methods constraints pattern) method ≡ named → (named && is_exception method) ≡ false → others_of ≡ cell_of method
   others_at true is none = same_from true (same_cell (cell_of method) others_of) refl none refl
-  others_at false is none = ap (cell_at rules (Some pattern)) (unnamed_members pattern method constraints is)
+  others_at false is none = ap (cell_for whose rules (Some pattern)) (unnamed_members pattern method constraints is)
 
   excepted : lists (filter is_exception (rising (named_methods constraints pattern))) method ≡ (lists (named_methods constraints pattern) method && is_exception method)
   excepted = passing_lists is_exception (rising (named_methods constraints pattern)) method ∙ ap (λ b. b && is_exception method) (rising_lists (named_methods constraints pattern) method)
 
-  exceptions_are : exceptions constraints rules pattern ≡ map (named_cell constraints rules pattern) (filter is_exception (rising (named_methods constraints pattern)))
+  exceptions_are : exceptions whose constraints rules pattern ≡ map (named_cell whose constraints rules pattern) (filter is_exception (rising (named_methods constraints pattern)))
   unfolding exceptions
-  exceptions_are = filter_map (named_cell constraints rules pattern) (λ (named : NamedCell). not (same_cell named.cell others_of)) (rising (named_methods constraints pattern))
+  exceptions_are = filter_map (named_cell whose constraints rules pattern) (λ (named : NamedCell). not (same_cell named.cell others_of)) (rising (named_methods constraints pattern))
 
   -- The row of a pattern has the cell of the constraints that cover the method.
-  pub row_cell : cells_in method (row_at constraints rules pattern) ≡ cell_of method ∷ []
+  pub row_cell : cells_in method (row_for whose constraints rules pattern) ≡ cell_of method ∷ []
   row_cell =
       ap (λ named. map (λ (g : Group). g.cell) (filter (λ (g : Group). covers_method g.methods method) (groups_of named others_of))) exceptions_are
       ∙ one_cell cell_of (filter is_exception (rising (named_methods constraints pattern))) others_of method

@@ -6,13 +6,15 @@ use Rattle.std.proofs.Common.{Global}
 use Rattle.std.specs.HashMap.{HashMap}
 use Rattle.std.specs.List.{flat_map}
 use Rattle.std.specs.Str.{bytes_eq}
+use Rattle.sv_realm.specs.declared.caller.Caller.{Caller}
 use Rattle.sv_constraints.specs.Covering.{covers, lists}
 use Rattle.sv_constraints.specs.declared.constraint.Constraint.{Constraint}
 use Rattle.sv_constraints.specs.declared.constraint.Rules.{Rules}
 use Rattle.sv_policy.specs.Covering.{covers_unnamed, named_methods}
 use Rattle.sv_policy.specs.Groups.{members_in}
 use Rattle.sv_policy.specs.Uncovered.{rising}
-use Rattle.sv_audit.specs.Access.{cell_at}
+use Rattle.sv_audit.specs.Access.{cell_for}
+use Rattle.sv_audit.specs.declared.access.Access.{Access}
 use Rattle.sv_audit.specs.declared.method_index.MethodIndex.{MethodIndex}
 use Rattle.sv_audit.specs.declared.rows.NamedCell.{NamedCell}
 
@@ -41,8 +43,8 @@ abbrev pub concerned : MethodIndex → List ℕ → List Constraint
 concerned index method = found_in index.by_name (map (λ member. member.now) index.members.items) method
 
 -- A method with the cell of these constraints.
-abbrev pub indexed_cell : MethodIndex → Rules → List ℕ → List ℕ → NamedCell
-indexed_cell index rules pattern method = record { name = method; cell = cell_at rules (Some pattern) (filter (λ constraint. covers constraint pattern method) (concerned index method)) }
+abbrev pub indexed_cell : (Access → Option Caller) → MethodIndex → Rules → List ℕ → List ℕ → NamedCell
+indexed_cell whose index rules pattern method = record { name = method; cell = cell_for whose rules (Some pattern) (filter (λ constraint. covers constraint pattern method) (concerned index method)) }
 
 -- The methods are those that the constraints name at the pattern, and the constraints that cover one are found.
 pub record IsIndexed (constraints : List Constraint) (pattern : List ℕ) (index : MethodIndex) : Type 0 where

@@ -17,8 +17,7 @@ use Rattle.sv_constraints.specs.declared.constraint.Constraint.{Constraint}
 use Rattle.sv_constraints.specs.declared.constraint.Rules.{Rules}
 use Rattle.sv_constraints.specs.declared.owned_decision.OwnedDecision.{OwnedDecision}
 use Rattle.sv_constraints.specs.declared.owned_decision.OwnedDecision.TheVariants.{Open, Login, Denied}
-use Rattle.sv_audit.specs.Access.{fitting_caller}
-use Rattle.sv_audit.specs.Rows.{table_of}
+use Rattle.sv_audit.specs.Rows.{table_for}
 use Rattle.sv_audit.specs.declared.access.Access.{Access}
 use Rattle.sv_audit.specs.declared.access.Access.TheVariants as access
 use Rattle.sv_audit.specs.declared.access.Cell.{Cell}
@@ -74,13 +73,14 @@ cells_for table method path = flat_map (cells_in method) (rows_for table.rows pa
 -- For every path that is empty or begins with a slash, every method and every caller, a table has exactly one cell, and
 -- it says what the verdict is.
 abbrev pub TablesAreRight : Type 0
-TablesAreRight = (constraints : List Constraint) (rules : Rules) (method path : List ℕ) (caller : Option Caller) → IsTrue (is_rooted path) →
-    map (λ cell. said_to caller cell.access) (cells_for (table_of constraints rules) method path) ≡ kind_and_cause (verdict constraints rules method path caller) ∷ []
+TablesAreRight = (whose : Access → Option Caller) (constraints : List Constraint) (rules : Rules) (method path : List ℕ) (caller : Option Caller) → IsTrue (is_rooted path) →
+    map (λ cell. said_to caller cell.access) (cells_for (table_for whose constraints rules) method path) ≡ kind_and_cause (verdict constraints rules method path caller) ∷ []
 
--- The number in that cell is that of the verdict on a caller who has just what the access asks for.
+-- The number in that cell is that of the verdict on the caller whose table it is: a given one, or one who has just what the
+-- access asks for.
 abbrev pub NumbersAreRight : Type 0
-NumbersAreRight = (constraints : List Constraint) (rules : Rules) (method path : List ℕ) → IsTrue (is_rooted path) →
-    All (λ cell. cell.constraint ≡ (why_of (verdict constraints rules method path (fitting_caller cell.access))).number) (cells_for (table_of constraints rules) method path)
+NumbersAreRight = (whose : Access → Option Caller) (constraints : List Constraint) (rules : Rules) (method path : List ℕ) → IsTrue (is_rooted path) →
+    All (λ cell. cell.constraint ≡ (why_of (verdict constraints rules method path (whose cell.access))).number) (cells_for (table_for whose constraints rules) method path)
 
 -- Each path that a context serves is such a path within it (section 3.5).
 abbrev pub ServedPathsAreRooted : Type 0

@@ -4,6 +4,7 @@ ghost use Rattle.std.specs.Prelude.{◌≡◌};
 ghost use Rattle.sv_audit.specs.Same.{same_access, same_cell, same_number};
 
 use sv_policy::same_texts;
+use sv_realm::Caller;
 use sv_text::{Listed, Text};
 
 /// Who may make a request, by the constraints that cover it (Jakarta Servlet 6.0, section 13.8).
@@ -32,9 +33,18 @@ pub enum Access {
 pub struct Cell {
     /// Who may make it.
     pub access: Access,
-    /// The number of the constraint that decides the request of a caller who has just what the access asks for: a login
-    /// for `AnyLogin`, the roles of `Roles`. None if no constraint covers the request.
+    /// The number of the constraint that decides the request of the [`CellCaller`]. None if no constraint covers the
+    /// request.
     pub constraint: Option<u64>,
+}
+
+/// Whose request the constraint of a cell decides.
+#[derive(Clone, Copy)]
+pub enum CellCaller<'a> {
+    /// That of a caller who has just what the access asks for: a login for `AnyLogin`, the roles of `Roles`.
+    Fitting,
+    /// That of this caller or, with none, of a visitor who is not logged in.
+    Given(Option<&'a Caller>),
 }
 
 /// Returns whether the numbers are equal, or there are none.

@@ -1,40 +1,33 @@
 //! The cell of the constraints that cover a method.
 
-ghost use Rattle.std.specs.Prelude.{◌≡◌, List, Some, None, map, ℕ};
-ghost use Rattle.sv_constraints.specs.Findings.{findings_of};
+ghost use Rattle.std.specs.Prelude.{◌≡◌, List, Some, map, ℕ};
 ghost use Rattle.sv_text.specs.Gives.{GivesAnswer};
-ghost use Rattle.sv_audit.specs.Access.{cell_at, found_cell, uncovered_access};
+ghost use Rattle.sv_audit.specs.Access.{asking, cell_for, found_cell, uncovered_access};
 
-use crate::access::{Access, Cell};
+use crate::access::{Access, Cell, CellCaller};
+use crate::coverage::covering_findings;
 use crate::roles::{login_access, login_number};
 use std::alloc::Global;
-use sv_constraints::{Constraint, Findings, Rules, one_more_is_found};
+use sv_constraints::{Constraint, Findings, Rules};
 use sv_text::{NoMemory, copied_texts};
 
-/// Returns the cell of the constraints that cover a method at a pattern.
-pub fn cell_at(alloc: Global, rules: &Rules, members: &[&Constraint]) -> Result<Cell, NoMemory>
-    ensures { (pattern : List ℕ) → GivesAnswer result (cell_at rules.now (Some pattern) (map (λ member. member.now) members.now)) }
+/// Returns the cell of the constraints that cover a method at a pattern, with the number for this caller.
+pub fn cell_for(
+    alloc: Global,
+    whose: CellCaller<'_>,
+    rules: &Rules,
+    members: &[&Constraint],
+) -> Result<Cell, NoMemory>
+    ensures { (pattern : List ℕ) → GivesAnswer result (cell_for (asking whose.entry) rules.now (Some pattern) (map (λ member. member.now) members.now)) }
 {
     let found = covering_findings(rules, members);
     match found_cell(rules, found) {
         Some(cell) => Ok(cell),
         None => Ok(Cell {
             access: login_access(alloc, rules, members)?,
-            constraint: login_number(rules, found.covering, members),
+            constraint: login_number(whose, rules, found.covering, members),
         }),
     }
-}
-
-/// Returns the findings for constraints without a caller.
-pub fn covering_findings(rules: &Rules, members: &[&Constraint]) -> Findings
-    ensures { result ≡ findings_of rules.now None (map (λ member. member.now) members.now) }
-{
-    one_more_is_found();
-    let mut found = Findings::none();
-    for member in members {
-        found = found.with(member, rules, None);
-    }
-    found
 }
 
 /// Returns the cell by the findings, or none if only callers may pass.

@@ -3,12 +3,13 @@
 ghost use Rattle.std.specs.Prelude.{◌≡◌, ◌++◌, ◌∷◌, [], IfOk, OnOk, filter, if◌then◌else◌, map, not};
 ghost use Rattle.std.specs.List.{list_any};
 ghost use Rattle.sv_text.specs.Gives.{GivesAnswer};
+ghost use Rattle.sv_audit.specs.Access.{asking};
 ghost use Rattle.sv_audit.specs.MethodIndex.{indexed_cell};
-ghost use Rattle.sv_audit.specs.Rows.{different_cells, group_with, groups_of, named_cell, row_at};
+ghost use Rattle.sv_audit.specs.Rows.{different_cells, group_with, groups_of, named_cell, row_for};
 ghost use Rattle.sv_audit.specs.Same.{same_cell};
 
-use crate::access::{Cell, same_cell};
-use crate::cells::{cell_at, copied_cell};
+use crate::access::{Cell, CellCaller, same_cell};
+use crate::cells::{cell_for, copied_cell};
 use crate::coverage::covering;
 use crate::method_index::{MethodIndex, method_index};
 use crate::rows::{Group, NamedCell, Row};
@@ -16,19 +17,20 @@ use std::alloc::Global;
 use sv_constraints::{Constraint, Methods, Rules};
 use sv_text::{Listed, NoMemory, Text};
 
-/// Returns the row of a pattern, by the constraints on it.
-pub fn row_at(
+/// Returns the row of a pattern, by the constraints on it, with the numbers for this caller.
+pub fn row_for(
     alloc: Global,
+    whose: CellCaller<'_>,
     rules: &Rules,
     pattern: &str,
     members: &[&Constraint],
 ) -> Result<Row, NoMemory>
-    ensures { GivesAnswer result (row_at (map (λ member. member.now) members.now) rules.now pattern.now) }
+    ensures { GivesAnswer result (row_for (asking whose.entry) (map (λ member. member.now) members.now) rules.now pattern.now) }
 {
     let unnamed = covering(alloc, members, pattern, None)?;
-    let others = cell_at(alloc, rules, unnamed.as_slice())?;
+    let others = cell_for(alloc, whose, rules, unnamed.as_slice())?;
     let index = method_index(alloc, members, pattern, unnamed.len())?;
-    let named = exceptions(alloc, rules, pattern, &index, &others)?;
+    let named = exceptions(alloc, whose, rules, pattern, &index, &others)?;
     Ok(Row {
         pattern: Some(Text::copy_of(alloc, pattern)?),
         groups: groups_of(alloc, named.as_slice(), others)?,
@@ -38,17 +40,18 @@ pub fn row_at(
 /// Returns the methods that constraints name at the pattern and whose cell is not that of the others.
 fn exceptions(
     alloc: Global,
+    whose: CellCaller<'_>,
     rules: &Rules,
     pattern: &str,
     index: &MethodIndex<'_>,
     others: &Cell,
 ) -> Result<Vec<NamedCell>, NoMemory>
     ensures { IfOk result (λ named. named.items ≡ filter (λ one. not (same_cell one.cell others.now))
-        (map (indexed_cell index.now rules.now pattern.now) (map (λ name. name.now) index.now.names.items))) }
+        (map (indexed_cell (asking whose.entry) index.now rules.now pattern.now) (map (λ name. name.now) index.now.names.items))) }
 {
     let mut named = Vec::new(alloc);
     for name in index.names.as_slice() {
-        let cell = indexed_cell(alloc, rules, pattern, index, *name)?;
+        let cell = indexed_cell(alloc, whose, rules, pattern, index, *name)?;
         push_exception(&mut named, alloc, *name, cell, others)?;
     }
     Ok(named)
@@ -57,30 +60,32 @@ fn exceptions(
 /// Returns the cell of the constraints that cover a method.
 fn indexed_cell(
     alloc: Global,
+    whose: CellCaller<'_>,
     rules: &Rules,
     pattern: &str,
     index: &MethodIndex<'_>,
     name: &str,
 ) -> Result<Cell, NoMemory>
-    ensures { GivesAnswer result (indexed_cell index.now rules.now pattern.now name.now).cell }
+    ensures { GivesAnswer result (indexed_cell (asking whose.entry) index.now rules.now pattern.now name.now).cell }
 {
     match index.on(name) {
-        Some(members) => covering_cell(alloc, rules, pattern, members.as_slice(), name),
-        None => covering_cell(alloc, rules, pattern, &[], name),
+        Some(members) => covering_cell(alloc, whose, rules, pattern, members.as_slice(), name),
+        None => covering_cell(alloc, whose, rules, pattern, &[], name),
     }
 }
 
 fn covering_cell(
     alloc: Global,
+    whose: CellCaller<'_>,
     rules: &Rules,
     pattern: &str,
     members: &[&Constraint],
     name: &str,
 ) -> Result<Cell, NoMemory>
-    ensures { GivesAnswer result (named_cell (map (λ member. member.now) members.now) rules.now pattern.now name.now).cell }
+    ensures { GivesAnswer result (named_cell (asking whose.entry) (map (λ member. member.now) members.now) rules.now pattern.now name.now).cell }
 {
     let covering = covering(alloc, members, pattern, Some(name))?;
-    cell_at(alloc, rules, covering.as_slice())
+    cell_for(alloc, whose, rules, covering.as_slice())
 }
 
 /// Appends a method with its cell, unless that is the cell of the others.

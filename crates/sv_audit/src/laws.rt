@@ -13,7 +13,7 @@ use sv_uri::laws::{canonical_has_shape, location_is_read_back};
 
 /// For every path that is empty or begins with a slash, every method and every caller, a table has exactly one cell, and
 /// it says what the constraints decide. The number in the cell is that of the constraint that decides the request of
-/// a caller who has just what the cell asks for.
+/// the caller whose table it is: a given one, or one who has just what the cell asks for.
 pub fn tables_are_right()
     ensures answers { TablesAreRight }
     ensures numbers { NumbersAreRight }

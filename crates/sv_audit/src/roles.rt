@@ -6,9 +6,10 @@ ghost use Rattle.sv_constraints.specs.Roles.{roles_named, roles_read};
 ghost use Rattle.sv_constraints.specs.Verdict.{least_where};
 ghost use Rattle.sv_policy.specs.Merged.{admits_everyone};
 ghost use Rattle.sv_text.specs.Gives.{GivesAnswer};
-ghost use Rattle.sv_audit.specs.Access.{login_access, login_number, means_role, roles_meant, roles_of};
+ghost use Rattle.sv_audit.specs.Access.{admitting_number, login_access, login_number, means_role, roles_meant, roles_of};
 
-use crate::access::Access;
+use crate::access::{Access, CellCaller};
+use crate::coverage::findings_for;
 use crate::order::{copied_texts, sorted};
 use std::alloc::Global;
 use sv_constraints::{
@@ -38,15 +39,28 @@ pub fn login_access(
     Ok(Access::Roles(roles_of(alloc, rules, members)?))
 }
 
-/// Returns the number of the constraint that decides the request of a caller who has just what the constraints ask for,
-/// if only callers may pass: the least number of one that admits every caller or, if there is none, of one that means a
-/// role, or else the least number of all, which is given.
-pub fn login_number(rules: &Rules, covering: Option<u64>, members: &[&Constraint]) -> Option<u64>
-    ensures { result ≡ login_number rules.now covering (map (λ member. member.now) members.now) }
+/// Returns the number of the constraint that decides the request of this caller, if only callers may pass: the least
+/// number of one that admits the caller, or else the least number of all, which is given.
+pub fn login_number(
+    whose: CellCaller<'_>,
+    rules: &Rules,
+    covering: Option<u64>,
+    members: &[&Constraint],
+) -> Option<u64>
+    ensures { result ≡ login_number whose.entry rules.now covering (map (λ member. member.now) members.now) }
 {
-    least_for_everyone(members)
-        .or(least_for_role(rules, members))
-        .or(covering)
+    admitting_number(whose, rules, members).or(covering)
+}
+
+/// Returns the least number of a constraint that admits this caller, if there is one. A caller who has just what the
+/// constraints ask for is admitted by those that admit every caller or, if there are none, by those that mean a role.
+fn admitting_number(whose: CellCaller<'_>, rules: &Rules, members: &[&Constraint]) -> Option<u64>
+    ensures { result ≡ admitting_number whose.entry rules.now (map (λ member. member.now) members.now) }
+{
+    match whose {
+        CellCaller::Fitting => least_for_everyone(members).or(least_for_role(rules, members)),
+        CellCaller::Given(caller) => findings_for(rules, caller, members).admitting,
+    }
 }
 
 /// Returns the least number of a constraint that admits every caller, if there is one.

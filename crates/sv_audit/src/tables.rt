@@ -6,11 +6,12 @@ ghost use Rattle.sv_constraints.specs.declared.constraint.Constraint.{Constraint
 ghost use Rattle.sv_mapping.specs.Pattern.{is_extension_pattern};
 ghost use Rattle.sv_policy.specs.Groups.{IsGrouped};
 ghost use Rattle.sv_text.specs.Gives.{GivesAnswer};
-ghost use Rattle.sv_audit.specs.Rows.{in_row_order, match_every_path, other_paths, row_at, table_of};
+ghost use Rattle.sv_audit.specs.Access.{asking};
+ghost use Rattle.sv_audit.specs.Rows.{in_row_order, match_every_path, other_paths, row_for, table_for, table_of};
 
-use crate::access::{Access, Cell};
+use crate::access::{Access, Cell, CellCaller};
 use crate::focus::focused;
-use crate::groups::row_at;
+use crate::groups::row_for;
 use crate::order::sorted;
 use crate::patterns::{all_patterns, is_among, is_extension_pattern};
 use crate::rows::{Group, Row, Table};
@@ -20,15 +21,31 @@ use sv_policy::{Groups, grouped};
 use sv_text::{Listed, NoMemory};
 
 /// Returns the access table of constraints and their rules (Jakarta Servlet 6.0, section 13.8). The constraints may be
-/// in any order and have any numbers.
+/// in any order and have any numbers. Its numbers are those for callers who have just what each access asks for.
 ///
 /// # Errors
 /// `NoMemory` if memory runs out.
 pub fn table_of(alloc: Global, constraints: &[Constraint], rules: &Rules) -> Result<Table, NoMemory>
     ensures { GivesAnswer result (table_of constraints.now rules.now) }
 {
+    table_for(alloc, CellCaller::Fitting, constraints, rules)
+}
+
+/// Returns the same table with the numbers for this caller. Methods share a group if the same callers may use them and
+/// the same constraint decides this caller's requests.
+///
+/// # Errors
+/// `NoMemory` if memory runs out.
+pub fn table_for(
+    alloc: Global,
+    whose: CellCaller<'_>,
+    constraints: &[Constraint],
+    rules: &Rules,
+) -> Result<Table, NoMemory>
+    ensures { GivesAnswer result (table_for (asking whose.entry) constraints.now rules.now) }
+{
     let patterns = in_row_order(alloc, constraints)?;
-    let mut rows = pattern_rows(alloc, constraints, rules, patterns.as_slice())?;
+    let mut rows = pattern_rows(alloc, whose, constraints, rules, patterns.as_slice())?;
     push_other_paths(&mut rows, alloc, patterns.as_slice())?;
     Ok(Table {
         rows: Listed::from_vec(rows),
@@ -85,16 +102,17 @@ fn match_every_path(patterns: &[&str]) -> bool
 /// Returns the rows of the patterns, in order.
 fn pattern_rows(
     alloc: Global,
+    whose: CellCaller<'_>,
     constraints: &[Constraint],
     rules: &Rules,
     patterns: &[&str],
 ) -> Result<Vec<Row>, NoMemory>
-    ensures { IfOk result (λ rows. rows.items ≡ map (row_at constraints.now rules.now) (map (λ pattern. pattern.now) patterns.now)) }
+    ensures { IfOk result (λ rows. rows.items ≡ map (row_for (asking whose.entry) constraints.now rules.now) (map (λ pattern. pattern.now) patterns.now)) }
 {
     let groups = grouped(alloc, constraints)?;
     let mut rows = Vec::with_capacity(alloc, patterns.len())?;
     for pattern in patterns {
-        rows.push(row_among(alloc, rules, &groups, *pattern)?)?;
+        rows.push(row_among(alloc, whose, rules, &groups, *pattern)?)?;
     }
     Ok(rows)
 }
@@ -102,31 +120,33 @@ fn pattern_rows(
 /// Returns the row of a pattern.
 fn row_among(
     alloc: Global,
+    whose: CellCaller<'_>,
     rules: &Rules,
     groups: &Groups<'_>,
     pattern: &str,
 ) -> Result<Row, NoMemory>
     ensures { (constraints : List Constraint) → IsGrouped constraints groups.now →
-        GivesAnswer result (row_at constraints rules.now pattern.now) }
+        GivesAnswer result (row_for (asking whose.entry) constraints rules.now pattern.now) }
 {
     match groups.on(pattern) {
-        Some(members) => focused_row(alloc, rules, pattern, members.as_slice()),
-        None => row_at(alloc, rules, pattern, &[]),
+        Some(members) => focused_row(alloc, whose, rules, pattern, members.as_slice()),
+        None => row_for(alloc, whose, rules, pattern, &[]),
     }
 }
 
 /// Returns the row of a pattern by copies of the constraints on it, which have no other patterns.
 fn focused_row(
     alloc: Global,
+    whose: CellCaller<'_>,
     rules: &Rules,
     pattern: &str,
     members: &[&Constraint],
 ) -> Result<Row, NoMemory>
-    ensures { GivesAnswer result (row_at (map (λ member. member.now) members.now) rules.now pattern.now) }
+    ensures { GivesAnswer result (row_for (asking whose.entry) (map (λ member. member.now) members.now) rules.now pattern.now) }
 {
     let copies = focused(alloc, pattern, members)?;
     let borrowed: Vec<&Constraint> = copies.iter().collect(alloc)?;
-    row_at(alloc, rules, pattern, borrowed.as_slice())
+    row_for(alloc, whose, rules, pattern, borrowed.as_slice())
 }
 
 /// Appends the row of the paths that no pattern matches, unless each path matches one of the patterns.

@@ -1,11 +1,12 @@
 -- The report on a context (Jakarta Servlet 6.0, section 13.8).
-use Rattle.std.specs.Prelude.{ℕ, ◌+◌, List, [], ◌∷◌, map, position, Option, option_and_then, if◌then◌else◌}
+use Rattle.std.specs.Prelude.{ℕ, ◌+◌, List, [], ◌∷◌, map, position, Option, None, Some, option_and_then, if◌then◌else◌}
 use Rattle.std.specs.List.{flat_map}
 use Rattle.std.specs.Str.{bytes_eq}
 use Rattle.sv_constraints.specs.Covering.{all_patterns}
 use Rattle.sv_findings.specs.Findings.{findings_of}
 use Rattle.sv_findings.specs.Unsearched.{unsearched}
-use Rattle.sv_audit.specs.Rows.{table_of}
+use Rattle.sv_audit.specs.Rows.{table_for, table_of}
+use Rattle.sv_audit.specs.Visitors.{known}
 use Rattle.sv_findings.specs.declared.finding.Finding.{Finding}
 use Rattle.sv_findings.specs.declared.finding.Finding.TheVariants.{UnusedRole}
 use Rattle.sv_audit.specs.declared.rows.Row.{Row}
@@ -13,9 +14,11 @@ use Rattle.sv_audit.specs.declared.rows.Table.{Table}
 use Rattle.sv_mapping.specs.Pattern.{is_at_or_below}
 use Rattle.sv_mapping.specs.Within.{path_within}
 use Rattle.sv_report.specs.Places.{line_at, line_of}
+use Rattle.sv_report.specs.Viewers.{caller_of}
 use Rattle.sv_report.specs.declared.report.ContextReport.{ContextReport}
 use Rattle.sv_report.specs.declared.report.ReportedFinding.{ReportedFinding}
 use Rattle.sv_report.specs.declared.report.ReportedRow.{ReportedRow}
+use Rattle.sv_report.specs.declared.report.Viewer.{Viewer}
 use Rattle.sv_audit_command.specs.Accepted as accepting
 use Rattle.sv_audit_command.specs.ContextPatterns.{context_patterns}
 use Rattle.sv_audit_command.specs.Key as finding_key
@@ -66,12 +69,22 @@ abbrev pub rows_in : AuditedContext → ContextPatterns → List (List ℕ) → 
 rows_in context patterns nested rows =
     reported_rows patterns (context.surroundings.contexts, context.surroundings.path) (all_patterns context.constraints) nested rows
 
+-- The rows of the access table with the numbers of the constraints that decide the requests of a viewer, who is nobody
+-- without a login configuration (section 13.6).
+abbrev pub viewer_rows : AuditedContext → Viewer → List Row
+viewer_rows context viewer = (table_for (λ access. known context.has_login (Some (caller_of viewer))) context.constraints context.rules).rows
+
+-- The rows that are shown, given the access table.
+abbrev pub shown_rows : AuditedContext → Option Viewer → Table → List Row
+shown_rows context None table = table.rows
+shown_rows context (Some viewer) table = viewer_rows context viewer
+
 -- The consequences of the constraints of a context, given its patterns and its access table.
 abbrev pub audit_with : Option Asked → List ℕ → AuditedContext → ContextPatterns → Table → Audit
 audit_with asked accepted context patterns table = record {
   viewer = viewer_in asked context.realm;
   others = nested_paths context.surroundings.contexts context.surroundings.path;
-  rows = rows_in context patterns (nested_paths context.surroundings.contexts context.surroundings.path) table.rows;
+  rows = rows_in context patterns (nested_paths context.surroundings.contexts context.surroundings.path) (shown_rows context (viewer_in asked context.realm) table);
   findings = findings_in context patterns.constraints accepted table;
   unsearched = unsearched context.constraints context.surroundings;
 }

@@ -13,6 +13,7 @@ use crate::access_options::Asked;
 use crate::context_patterns::{ContextPatterns, context_patterns};
 use crate::key::{constraint_of, key_of};
 use crate::row_paths::{RowPlace, reported_rows};
+use crate::shown_rows::shown_rows;
 use crate::viewer::viewer_in;
 use std::alloc::Global;
 use sv_audit::{Row, Table, table_of};
@@ -116,11 +117,14 @@ fn audit_with(
     let accepted = asking.accepted;
     let constraints = context.constraints.as_slice();
     let others = others_in(alloc, &context.surroundings)?;
+    let viewer = viewer_in(alloc, asking.viewer, &context.realm)?;
+    let findings = findings_in(alloc, context, &patterns.constraints, accepted, &table)?;
+    let rows = shown_rows(alloc, context, &viewer, table)?;
     Ok(Audit {
-        viewer: viewer_in(alloc, asking.viewer, &context.realm)?,
-        findings: findings_in(alloc, context, &patterns.constraints, accepted, &table)?,
+        viewer,
+        findings,
         unsearched: unsearched_of(alloc, constraints, &context.surroundings)?,
-        rows: rows_in(alloc, context, patterns, others.as_slice(), table.rows)?,
+        rows: rows_in(alloc, context, patterns, others.as_slice(), rows)?,
         others,
     })
 }

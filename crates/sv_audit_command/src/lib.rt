@@ -16,6 +16,7 @@ mod kinds;
 mod methods_key;
 mod row_answers;
 mod row_paths;
+mod shown_rows;
 mod viewer;
 
 pub use access_options::{AccessOptions, Asked, Format};

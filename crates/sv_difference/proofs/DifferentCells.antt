@@ -19,6 +19,7 @@ use Rattle.sv_policy.specs.Patterns.{BestIsOfTexts}
 use Rattle.sv_audit.proofs.Found.{ordered_lists}
 use Rattle.sv_audit.proofs.Members.{in_along}
 use Rattle.sv_audit.specs.Callers.{has_method}
+use Rattle.sv_audit.specs.Access.{fitting_caller}
 use Rattle.sv_audit.specs.Reading.{TablesAreRight, cells_for, cells_in, is_same, row_patterns, said_to}
 use Rattle.sv_audit.specs.Rows.{in_row_order, match_every_path, other_paths, row_at, table_of}
 use Rattle.sv_audit.specs.declared.access.Cell.{Cell}
@@ -143,4 +144,4 @@ module _ (it : Configuration) where
   groups_say right best_same method path caller rooted =
       sym (map_twice (λ (group : Group). group.cell) (λ (cell : Cell). said_to caller cell.access) (filter (has_method method) (groups_at table.rows (best_of it path))))
       ∙ (ap (map (λ (cell : Cell). said_to caller cell.access)) (sym (cells_of table method path ∙ ap (λ best. cells (filter (has_method method) (groups_at table.rows best))) (best_row best_same path)))
-      ∙ right it.constraints it.rules method path caller rooted)
+      ∙ right fitting_caller it.constraints it.rules method path caller rooted)

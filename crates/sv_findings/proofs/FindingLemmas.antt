@@ -39,7 +39,7 @@ use Rattle.sv_audit.proofs.Found.{any_of, in_texts, ordered_lists, root_matches}
 use Rattle.sv_audit.proofs.RowCells.{row_cell}
 use Rattle.sv_audit.proofs.Said.{said}
 use Rattle.sv_audit.proofs.Witness.{found}
-use Rattle.sv_audit.specs.Access.{cell_at, roles_meant}
+use Rattle.sv_audit.specs.Access.{cell_at, cell_for, roles_meant}
 use Rattle.sv_findings.proofs.OpenedLemmas.{AreOpen, AreOpenFor, are_open, fresh, is_fresh, kept_all, opened_exact, some_open}
 use Rattle.sv_audit.proofs.Shapes.{IsShaped, nothing_matches, served_shaped}
 use Rattle.sv_findings.specs.Dead.{is_tried_late, dead_among, dead_patterns, dead_patterns_in, decides_nothing, escaped, escaped_in, exact_pattern, is_beaten, is_beaten_folder, is_dead, is_escaped}
@@ -138,7 +138,7 @@ module _ (constraints : List Constraint) (rules : Rules) (pattern : List ℕ) wh
 
   -- The cell says what the verdict is.
   pub says : (method path : List ℕ) (caller : Option Caller) (cell : Cell) → best_pattern (all_patterns constraints) path ≡ Some pattern → cell ≡ cell_for method → said_to caller cell.access ≡ kind_and_cause (verdict constraints rules method path caller)
-  unfolding cell_at
+  unfolding cell_for
   says method path caller cell best is =
       ap (λ (c : Cell). said_to caller c.access) is ∙ said rules caller (Some pattern) (covering constraints (Some pattern) method)
       ∙ sym (ap (λ b. kind_and_cause (verdict_at rules caller b (covering constraints b method))) best)
@@ -475,15 +475,15 @@ covered_some false denied rest open_to_all is = refl
 
 module _ (constraints : List Constraint) (rules : Rules) (pattern : List ℕ) where
   left_uncovered : (method : List ℕ) → is_left_open (cell_for constraints rules pattern method).access ≡ true → (is_uncovered constraints pattern method ≡ true) × (rules.deny_uncovered ≡ false)
-  unfolding cell_at
+  unfolding cell_for
   left_uncovered method is = open_uncovered (length (covering constraints (Some pattern) method) == 0) rules.deny_uncovered _ _ _ _ _ is
 
   is_not_uncovered : (method : List ℕ) → rules.deny_uncovered ≡ false → not (is_open (cell_for constraints rules pattern method).access) ≡ true → is_uncovered constraints pattern method ≡ false
-  unfolding cell_at
+  unfolding cell_for
   is_not_uncovered method open_to_all is = covered_some (length (covering constraints (Some pattern) method) == 0) rules.deny_uncovered _ open_to_all is
 
   is_shut : (method : List ℕ) → not (is_open (cell_for constraints rules pattern method).access) ≡ true → IsShut constraints rules pattern method
-  unfolding cell_at
+  unfolding cell_for
   is_shut method is passes =
       let access : Access = (cell_for constraints rules pattern method).access in
       false≢true (sym (not-true (is_open access) is) ∙ opens access (ap (λ (x : Kind × Cause). x.0) (said rules None (Some pattern) (covering constraints (Some pattern) method)) ∙ passes))

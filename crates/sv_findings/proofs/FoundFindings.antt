@@ -27,7 +27,7 @@ use Rattle.sv_findings.proofs.FindingLemmas.{changing_nothing, dead, extensions_
 use Rattle.sv_audit.proofs.Witness.{found}
 use Rattle.sv_audit.proofs.Found.{in_texts, ordered_lists}
 use Rattle.sv_audit.proofs.RowCells.{row_cell}
-use Rattle.sv_audit.specs.Access.{cell_at}
+use Rattle.sv_audit.specs.Access.{cell_at, cell_for}
 use Rattle.sv_findings.proofs.OpenedLemmas.{contained, kept_all, kept_any, method_found, opened_exact, some_pair}
 use Rattle.sv_findings.specs.Dead.{dead_patterns_in, decides_nothing, escaped, is_dead}
 use Rattle.sv_findings.specs.FindingLaws.{AreFew, ChangesNothing, DeadIsFound, FaresDifferently, HeadIsFound, IsMet, IsShut, OpenedIsFound, OverruledIsFound, ReadingIsFound, UncoveredIsFound, UnreachedIsFound, configuration_of, says_dead, says_head, says_opened, says_overruled, says_read, says_uncovered, says_unreached}
@@ -96,11 +96,11 @@ module _ (constraints : List Constraint) (rules : Rules) (pattern : List ℕ) wh
       ∙ ap (λ n. not (n == 0)) (sym (length_seen (λ (x : Group). x.cell) (filter (has_method method) groups)) ∙ ap length (row_cell constraints rules pattern method))
 
   uncovered_cell : (method : List ℕ) → is_uncovered_at constraints pattern method ≡ true → rules.deny_uncovered ≡ false → is_left_open (cell_for method).access ≡ true
-  unfolding cell_at
+  unfolding cell_for
   uncovered_cell method none open_to_all = uncovered_from (length (covering constraints (Some pattern) method) == 0) rules.deny_uncovered _ none open_to_all
 
   covered_cell : (method : List ℕ) → is_uncovered_at constraints pattern method ≡ false → is_left_open (cell_for method).access ≡ false
-  unfolding cell_at
+  unfolding cell_for
   covered_cell method some = covered_from (length (covering constraints (Some pattern) method) == 0) _ _ _ _ _ _ some
 
   left_out : (method : List ℕ) → is_uncovered_at constraints pattern method ≡ true → rules.deny_uncovered ≡ false → list_any (λ (g : Group). is_left_out g && has_method method g) groups ≡ true
@@ -340,7 +340,7 @@ closed_from access false is stopped = ap not is
 
 module _ (constraints : List Constraint) (rules : Rules) (other : List ℕ) where
   cell_shut : (method : List ℕ) → IsShut constraints rules other method → not (is_open (cell_at rules (Some other) (covering constraints (Some other) method)).access) ≡ true
-  unfolding cell_at
+  unfolding cell_for
   cell_shut method shut =
       let access : Access = (cell_at rules (Some other) (covering constraints (Some other) method)).access in
       closed_from access (is_open access) refl (λ passes. shut (sym (ap (λ (x : Kind × Cause). x.0) (said rules None (Some other) (covering constraints (Some other) method))) ∙ passes))
