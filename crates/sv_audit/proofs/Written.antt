@@ -12,6 +12,7 @@ use Rattle.std.proofs.lemmas.List.Splits.{slice_split-cons_yes, slice_split-cons
 use Rattle.percent_encoding.specs.Percent.{percent_decode, percent_encode_byte}
 use Rattle.percent_encoding.proofs.PercentLemmas.{IsEscapeByte, All-percent_encode_byte, percent_decode-nil, percent_decode-percent_encode_byte, percent_decode_not_percent}
 use Rattle.sv_text.specs.Faults.{first_or}
+use Rattle.sv_uri.proofs.LocationLemmas.{no_escape_byte, holds-escape, is_percent, is_bad, drop_first, digits_first, digits_written, digit_is_no_percent, escape_is_read}
 use Rattle.sv_uri.specs.Target.{before, behind, between_slashes, segments_of, visible_query}
 use Rattle.sv_uri.specs.Segment.{begins_with_digits, has_bad_escape, is_control, is_empty, is_parent, name_of, segment_faults}
 use Rattle.sv_uri.specs.DotSegments.{climbs, closing, ends_open, kept, remaining, removed_in_front}
@@ -60,12 +61,6 @@ encoded_special b text is = ap (λ front. front ++ encoded text) (cond-true _ _ 
 encoded_plain : (b : ℕ) (text : List ℕ) → is_special b ≡ false → encoded (b ∷ text) ≡ b ∷ encoded text
 encoded_plain b text is = ap (λ front. front ++ encoded text) (cond-false _ _ _ is)
 
-no_escape_byte : (c b : ℕ) → (IsEscapeByte c → ⊥) → IsEscapeByte b → eqb b c ≡ false
-no_escape_byte c b never is = ⊎_elim (λ it. absurd (never (subst IsEscapeByte (eqb-true b c it) is))) (λ other. other) (cases_Bool (eqb b c))
-
-holds-escape : (c b : ℕ) → (IsEscapeByte c → ⊥) → holds c (percent_encode_byte b) ≡ false
-holds-escape c b never = list_any_none (λ x. eqb x c) (percent_encode_byte b) (All-weaker IsEscapeByte (λ x. eqb x c ≡ false) (λ x is. no_escape_byte c x never is) (percent_encode_byte b) (All-percent_encode_byte b))
-
 -- A byte with a meaning occurs nowhere.
 holds-special : (c : ℕ) → (IsEscapeByte c → ⊥) → is_special c ≡ true → (text : List ℕ) → holds c (encoded text) ≡ false
 holds-special c never special [] = refl
@@ -96,38 +91,6 @@ decoded (b ∷ text) =
     (cases_Bool (is_special b))
 
 -- ---- Escapes have their digits.
-abbrev is_percent : ℕ → Bool
-is_percent b = eqb b 37
-
-abbrev is_bad : List ℕ → Bool
-is_bad behind_percent = not (begins_with_digits behind_percent)
-
-drop_first : (b : ℕ) (parts : List (List ℕ)) → drop 1 (onto_first b parts) ≡ drop 1 parts
-drop_first b [] = refl
-drop_first b (part ∷ parts) = refl
-
-digits_first : (high low : ℕ) (parts : List (List ℕ)) → (begins_with_digits (high ∷ low ∷ [])) ≡ true → list_any is_bad (drop 1 parts) ≡ false → list_any is_bad (onto_first high (onto_first low parts)) ≡ false
-digits_first high low [] digits rest = rw digits refl
-digits_first high low (part ∷ parts) digits rest = or_from _ _ (not_from_true _ digits) rest
-
-digits_written : (d : ℕ) → d < 16 → is_digit (digit_glyph true d) 16 ≡ true
-digits_written d small = agree_below_at (λ x. is_digit (digit_glyph true x) 16) (λ _. true) 16 d refl small
-
-digit_is_no_percent : (d : ℕ) → d < 16 → eqb (digit_glyph true d) 37 ≡ false
-digit_is_no_percent d small = agree_below_at (λ x. eqb (digit_glyph true x) 37) (λ _. false) 16 d refl small
-
-escape_is_read : (b : ℕ) (rest : List ℕ) → list_any is_bad (drop 1 (slice_split is_percent rest)) ≡ false → list_any is_bad (drop 1 (slice_split is_percent (percent_encode_byte b ++ rest))) ≡ false
-unfolding percent_encode_byte
-escape_is_read b rest before =
-    let high = digit_glyph true (b / 16 % 16) in
-    let low = digit_glyph true (b % 16) in
-    let small_high : b / 16 % 16 < 16 = omega arith in
-    let small_low : b % 16 < 16 = omega arith in
-    let cut : slice_split is_percent (37 ∷ high ∷ low ∷ rest) ≡ [] ∷ onto_first high (onto_first low (slice_split is_percent rest)) =
-    slice_split-cons_yes is_percent 37 (high ∷ low ∷ rest) refl
-    ∙ ap (λ parts. [] ∷ parts) (slice_split-cons_no is_percent high (low ∷ rest) (digit_is_no_percent _ small_high) ∙ ap (onto_first high) (slice_split-cons_no is_percent low rest (digit_is_no_percent _ small_low)))
-    in
-    ap (λ parts. list_any is_bad (drop 1 parts)) cut ∙ digits_first high low (slice_split is_percent rest) (and_from _ _ (digits_written _ small_high) (digits_written _ small_low)) before
 
 no_percent : (b : ℕ) → is_special b ≡ false → eqb b 37 ≡ false
 no_percent b other = (or_parts (eqb b 37) (eqb b 59) (or_parts (eqb b 37 || eqb b 59) (eqb b 63 || eqb b 35) other).0).0

@@ -47,4 +47,4 @@ pub use roles::push_meant;
 pub use rows::{Group, Row, Table};
 pub use secure::without_transport;
 pub use tables::{table_for, table_of};
-pub use visitors::{DifferenceKind, Logins, kind_between, same_fates};
+pub use visitors::{DifferenceKind, Logins, kind_between, needs_login, same_fates};

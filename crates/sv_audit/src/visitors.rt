@@ -31,7 +31,7 @@ pub enum DifferenceKind {
 }
 
 /// Returns whether only callers pass: without a login configuration nobody does (Jakarta Servlet 6.0, section 13.6).
-fn needs_login(access: &Access) -> bool
+pub fn needs_login(access: &Access) -> bool
     ensures { result ≡ spec.needs_login access.now }
 {
     matches!(access, Access::AnyLogin | Access::Roles(_))

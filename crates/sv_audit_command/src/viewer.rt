@@ -4,7 +4,6 @@ ghost use Rattle.std.specs.List.{list_any};
 ghost use Rattle.std.specs.Option.{option_map_or};
 ghost use Rattle.std.specs.Prelude.{◌≡◌, false, is_some, option_copied, option_map};
 ghost use Rattle.sv_constraints.specs.Covering as covering;
-ghost use Rattle.sv_findings.specs.RoleFindings.{is_role};
 ghost use Rattle.sv_realm.specs.Realm.{caller_named};
 ghost use Rattle.sv_text.specs.Gives.{Gives, GivesAnswer};
 ghost use Rattle.sv_program.specs.CommandFault.{command_fault};
@@ -13,8 +12,9 @@ ghost use Rattle.sv_audit_command.specs.Viewer as spec;
 use crate::access_options::Asked;
 use std::alloc::Global;
 use sv_audited_contexts::AuditedContext;
-use sv_constraints::{Auth, Constraint, EVERY_CALLER, EVERY_ROLE, lists};
+use sv_constraints::{Auth, Constraint, lists};
 use sv_explanation::AskedCaller;
+use sv_findings::is_role;
 use sv_program::{CommandFault, quoted};
 use sv_realm::{Caller, Realm};
 use sv_report::Viewer;
@@ -96,12 +96,6 @@ fn any_names(role: &str, constraints: &[Constraint]) -> bool
     constraints
         .iter()
         .any(|constraint| names(&constraint.auth, role))
-}
-
-fn is_role(name: &str) -> bool
-    ensures { result ≡ is_role name.now }
-{
-    !(name == EVERY_ROLE || name == EVERY_CALLER)
 }
 
 fn names(auth: &Auth, role: &str) -> bool

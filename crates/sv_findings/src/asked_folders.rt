@@ -5,14 +5,13 @@ ghost use Rattle.std.specs.List.{flat_map, list_any};
 ghost use Rattle.sv_mapping.specs.Form.{form_seen};
 ghost use Rattle.sv_mapping.specs.Pattern.{form};
 ghost use Rattle.sv_mapping.specs.Protected as protected;
-ghost use Rattle.sv_audit.specs.Visitors as visitors;
 ghost use Rattle.sv_policy.specs.Patterns.{different, kept_once};
 ghost use Rattle.sv_findings.specs.LoginNeeds as spec;
 
 use crate::heads::covers_method;
 use crate::role_findings::push_once;
 use std::alloc::Global;
-use sv_audit::{Access, Group, Row, form_of};
+use sv_audit::{Group, Row, form_of, needs_login};
 use sv_mapping::{Form, is_protected};
 use sv_text::{NoMemory, Text};
 
@@ -76,13 +75,6 @@ fn is_asked(group: &Group) -> bool
     ensures { result ≡ spec.is_asked group.now }
 {
     covers_method(&group.methods, "GET") && needs_login(&group.cell.access)
-}
-
-/// Returns whether only callers pass.
-fn needs_login(access: &Access) -> bool
-    ensures { result ≡ visitors.needs_login access.now }
-{
-    matches!(access, Access::AnyLogin | Access::Roles(_))
 }
 
 /// Returns the first [`MAX_ASKED_FOLDERS`] different folders.

@@ -2,8 +2,8 @@
 use Rattle.std.specs.Prelude.{ℕ, Bool, true, false, not, ◌&&◌, ◌||◌, List, [], ◌∷◌, codes, Option, None, Some, if◌then◌else◌}
 use Rattle.sv_realm.specs.declared.caller.Caller.{Caller}
 use Rattle.sv_audit.specs.Reading.{Kind, IsDenied, NeedsLogin, Passes, said_to}
+use Rattle.sv_audit.specs.Visitors.{needs_login}
 use Rattle.sv_audit.specs.declared.access.Access.{Access}
-use Rattle.sv_audit.specs.declared.access.Access.TheVariants.{AnyLogin, Roles}
 use Rattle.sv_report.specs.Escaped.{escaped}
 use Rattle.sv_report.specs.Parts.{joined}
 use Rattle.sv_report.specs.Words.{refusal_text, who_text}
@@ -17,12 +17,6 @@ abbrev pub passes : Kind → Bool
 passes Passes = true
 passes NeedsLogin = false
 passes IsDenied = false
-
--- Whether only callers who log in pass.
-abbrev pub needs_login : Access → Bool
-needs_login AnyLogin = true
-needs_login (Roles names) = true
-needs_login access = false
 
 -- Whether the request of the viewer passes (section 13.8), and the viewer can log in where that is needed.
 abbrev pub may_enter : Viewer → Bool → Access → Bool

@@ -267,7 +267,8 @@ pub fn remedy(finding: &Finding) -> &'static str
         Finding::Escaped(_, _) => {
             "Patterns are compared with decoded paths. Write the character itself."
         }
-        Finding::LoginNeeds(_) => "Let everyone GET it.",
+        Finding::LoginNeeds(_) =>
+            "Let everyone GET it, or begin the reference with / and name a file that everyone may GET.",
         Finding::UnknownRole(_, _) => "Declare it in a security-role, or correct the name.",
         Finding::UnheldRole(_) => "Give it to a user, or correct the name in the constraints.",
         Finding::UnusedRole(_) => "Name it in a constraint, or remove its security-role.",
