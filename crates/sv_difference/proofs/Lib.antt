@@ -4,5 +4,6 @@ pub mod DifferenceLemmas
 pub mod FloatLemmas
 pub mod ShownLemmas
 pub mod ServerLemmas
+pub mod ToldLemmas
 pub mod ExampleLemmas
 pub mod UnchangedLemmas

@@ -48,7 +48,7 @@ chosen_of unique contexts path context there is = go (chosen_path contexts path)
         let from = found_in (is_chosen contexts path) contexts x found in
         ap Some (unique contexts path x context (contains contexts x from.1) (contains contexts context there) from.0 is)
 
-serves_if : (contexts : List (List ℕ)) (context path : List ℕ) → chosen_path contexts path ≡ Some context → serves contexts context path ≡ true
+pub serves_if : (contexts : List (List ℕ)) (context path : List ℕ) → chosen_path contexts path ≡ Some context → serves contexts context path ≡ true
 serves_if contexts context path is = ap (λ found. option_map_or (λ chosen. bytes_eq chosen context) found false) is ∙ (bytes_eq-Decides context context).1 refl
 
 pub chosen_if : (contexts : List (List ℕ)) (context path : List ℕ) → serves contexts context path ≡ true → chosen_path contexts path ≡ Some context

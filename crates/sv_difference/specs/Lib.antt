@@ -7,3 +7,4 @@ pub mod DifferenceText
 pub mod DifferenceJson
 pub mod ServerLaws
 pub mod ExampleLaws
+pub mod CompleteLaws

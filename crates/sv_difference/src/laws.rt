@@ -1,5 +1,6 @@
 //! Theorems about differences and reports, each the contract of a function that only calls other theorems.
 
+ghost use Rattle.sv_difference.specs.CompleteLaws.{ReportsAreComplete};
 ghost use Rattle.sv_difference.specs.DifferenceLaws.{DifferencesAreComplete, DifferencesAreRight, NoneExactlyIfSame};
 ghost use Rattle.sv_difference.specs.ExampleLaws.{ReportedExamplesAreChanged, SameOutcomesAreUnchanged, SameOutcomesHaveNoDifferences};
 ghost use Rattle.sv_difference.specs.ServerLaws.{LoginsChangeOutcomes, ReportedDifferencesAreRight, UnchangedHaveSameOutcomes};
@@ -7,7 +8,7 @@ ghost use Rattle.sv_difference.specs.ServerLaws.{LoginsChangeOutcomes, ReportedD
 use sv_audit::{
     each_path_is_resembled, examples_are_right, served_paths_are_rooted, tables_are_right,
 };
-use sv_mapping::laws::the_chosen_context_path_is_unique;
+use sv_mapping::laws::{a_context_is_found_where_one_serves, the_chosen_context_path_is_unique};
 use sv_policy::best_is_of_texts;
 
 /// Each difference of two configurations at some paths is right: it is at one of the paths, which has both of its rows, it
@@ -43,6 +44,22 @@ pub fn unchanged_have_same_outcomes()
     examples_are_right();
     served_paths_are_rooted();
     the_chosen_context_path_is_unique();
+    a_context_is_found_where_one_serves();
+}
+
+/// No request is missed by a report: if a visitor's request has another outcome before than after, the report tells of it.
+/// One of the servers gives the request to a context. And only one server has this context, or only one of both contexts
+/// has a login configuration, or one of its differences has the rows of the path and the method.
+pub fn reports_are_complete()
+    ensures { ReportsAreComplete }
+{
+    best_is_of_texts();
+    differences_are_complete();
+    each_path_is_resembled();
+    examples_are_right();
+    served_paths_are_rooted();
+    the_chosen_context_path_is_unique();
+    a_context_is_found_where_one_serves();
 }
 
 /// If each request of each visitor has the same outcome with both servers, the report names no difference at any context

@@ -19,7 +19,8 @@ pub use contexts::{ComparedContext, ContextDifference, ContextSide, ServerDiffer
 pub use difference::{Difference, Side};
 pub use laws::{
     differences_are_complete, differences_are_right, reported_differences_are_right,
-    reported_examples_are_changed, same_outcomes_are_unchanged, unchanged_have_same_outcomes,
+    reported_examples_are_changed, reports_are_complete, same_outcomes_are_unchanged,
+    unchanged_have_same_outcomes,
 };
 pub use lines::difference_text;
 pub use row_differences::differences;
