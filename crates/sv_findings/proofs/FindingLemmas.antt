@@ -39,7 +39,7 @@ use Rattle.sv_audit.proofs.Found.{any_of, in_texts, ordered_lists, root_matches}
 use Rattle.sv_audit.proofs.RowCells.{row_cell}
 use Rattle.sv_audit.proofs.Said.{said}
 use Rattle.sv_audit.proofs.Witness.{found}
-use Rattle.sv_audit.specs.Access.{cell_at, cell_for, roles_meant}
+use Rattle.sv_audit.specs.Access.{cell_at, cell_for, fitting_caller, roles_meant}
 use Rattle.sv_findings.proofs.OpenedLemmas.{AreOpen, AreOpenFor, are_open, fresh, is_fresh, kept_all, opened_exact, some_open}
 use Rattle.sv_audit.proofs.Shapes.{IsShaped, nothing_matches, served_shaped}
 use Rattle.sv_findings.specs.Dead.{is_tried_late, dead_among, dead_patterns, dead_patterns_in, decides_nothing, escaped, escaped_in, exact_pattern, is_beaten, is_beaten_folder, is_dead, is_escaped}
@@ -130,14 +130,14 @@ module _ (constraints : List Constraint) (rules : Rules) (pattern : List ℕ) wh
   abbrev groups : List Group
   groups = (row_at constraints rules pattern).groups
 
-  abbrev cell_for : List ℕ → Cell
-  cell_for method = cell_at rules (Some pattern) (covering constraints (Some pattern) method)
+  abbrev method_cell : List ℕ → Cell
+  method_cell method = cell_at rules (Some pattern) (covering constraints (Some pattern) method)
 
-  pub in_row : (method : List ℕ) → All (λ (x : Group). has_method method x ≡ true → x.cell ≡ cell_for method) groups
-  in_row method = groups_have method (cell_for method) groups (row_cell constraints rules pattern method)
+  pub in_row : (method : List ℕ) → All (λ (x : Group). has_method method x ≡ true → x.cell ≡ method_cell method) groups
+  in_row method = groups_have method (method_cell method) groups (row_cell fitting_caller constraints rules pattern method)
 
   -- The cell says what the verdict is.
-  pub says : (method path : List ℕ) (caller : Option Caller) (cell : Cell) → best_pattern (all_patterns constraints) path ≡ Some pattern → cell ≡ cell_for method → said_to caller cell.access ≡ kind_and_cause (verdict constraints rules method path caller)
+  pub says : (method path : List ℕ) (caller : Option Caller) (cell : Cell) → best_pattern (all_patterns constraints) path ≡ Some pattern → cell ≡ method_cell method → said_to caller cell.access ≡ kind_and_cause (verdict constraints rules method path caller)
   unfolding cell_for
   says method path caller cell best is =
       ap (λ (c : Cell). said_to caller c.access) is ∙ said rules caller (Some pattern) (covering constraints (Some pattern) method)
@@ -179,12 +179,12 @@ module _ (constraints : List Constraint) (rules : Rules) (surroundings : Surroun
   met_with access = effective surroundings.has_login access
 
   -- The cell decides the fate of a visitor.
-  pub fate_at : (method path : List ℕ) (visitor : Option Caller) (cell : Cell) → best_pattern (all_patterns constraints) path ≡ Some pattern → cell ≡ cell_for constraints rules pattern method
+  pub fate_at : (method path : List ℕ) (visitor : Option Caller) (cell : Cell) → best_pattern (all_patterns constraints) path ≡ Some pattern → cell ≡ method_cell constraints rules pattern method
       → fate_of (configuration_of constraints rules surroundings) method path visitor ≡ decided_by (met_with cell.access) visitor
   fate_at method path visitor cell best is =
       fate_by (configuration_of constraints rules surroundings) method path visitor cell.access (sym (says constraints rules pattern method path (known surroundings.has_login visitor) cell best is))
 
-  apart_here : (get head : Cell) → get ≡ cell_for constraints rules pattern (codes "GET") → head ≡ cell_for constraints rules pattern (codes "HEAD") → not (same_callers (met_with get.access) (met_with head.access)) ≡ true
+  apart_here : (get head : Cell) → get ≡ method_cell constraints rules pattern (codes "GET") → head ≡ method_cell constraints rules pattern (codes "HEAD") → not (same_callers (met_with get.access) (met_with head.access)) ≡ true
       → IsRight constraints rules surroundings (finding.HeadDiffers pattern get.access head.access)
   apart_here get head is was differ =
       let it : (visitor : Option Caller) × (decided_by (met_with get.access) visitor ≡ decided_by (met_with head.access) visitor → ⊥) = apart (met_with get.access) (met_with head.access) differ in (
@@ -194,7 +194,7 @@ module _ (constraints : List Constraint) (rules : Rules) (surroundings : Surroun
         λ path best same. it.1 (sym (fate_at (codes "GET") path it.0 get best is) ∙ same ∙ fate_at (codes "HEAD") path it.0 head best was),
       )
 
-  straying_right : (get : Group) → get.cell ≡ cell_for constraints rules pattern (codes "GET") → All (IsRight constraints rules surroundings) (straying surroundings.has_login pattern its_groups get.cell.access)
+  straying_right : (get : Group) → get.cell ≡ method_cell constraints rules pattern (codes "GET") → All (IsRight constraints rules surroundings) (straying surroundings.has_login pattern its_groups get.cell.access)
   straying_right get is =
       All-map (IsRight constraints rules surroundings) (λ (head : Group). finding.HeadDiffers pattern get.cell.access head.cell.access) (filter (strays surroundings.has_login get.cell.access) its_groups)
       (kept_all (λ (head : Group). IsRight constraints rules surroundings (finding.HeadDiffers pattern get.cell.access head.cell.access)) (strays surroundings.has_login get.cell.access) its_groups
@@ -474,18 +474,18 @@ covered_some true false rest open_to_all is = absurd (false≢true is)
 covered_some false denied rest open_to_all is = refl
 
 module _ (constraints : List Constraint) (rules : Rules) (pattern : List ℕ) where
-  left_uncovered : (method : List ℕ) → is_left_open (cell_for constraints rules pattern method).access ≡ true → (is_uncovered constraints pattern method ≡ true) × (rules.deny_uncovered ≡ false)
+  left_uncovered : (method : List ℕ) → is_left_open (method_cell constraints rules pattern method).access ≡ true → (is_uncovered constraints pattern method ≡ true) × (rules.deny_uncovered ≡ false)
   unfolding cell_for
   left_uncovered method is = open_uncovered (length (covering constraints (Some pattern) method) == 0) rules.deny_uncovered _ _ _ _ _ is
 
-  is_not_uncovered : (method : List ℕ) → rules.deny_uncovered ≡ false → not (is_open (cell_for constraints rules pattern method).access) ≡ true → is_uncovered constraints pattern method ≡ false
+  is_not_uncovered : (method : List ℕ) → rules.deny_uncovered ≡ false → not (is_open (method_cell constraints rules pattern method).access) ≡ true → is_uncovered constraints pattern method ≡ false
   unfolding cell_for
   is_not_uncovered method open_to_all is = covered_some (length (covering constraints (Some pattern) method) == 0) rules.deny_uncovered _ open_to_all is
 
-  is_shut : (method : List ℕ) → not (is_open (cell_for constraints rules pattern method).access) ≡ true → IsShut constraints rules pattern method
+  is_shut : (method : List ℕ) → not (is_open (method_cell constraints rules pattern method).access) ≡ true → IsShut constraints rules pattern method
   unfolding cell_for
   is_shut method is passes =
-      let access : Access = (cell_for constraints rules pattern method).access in
+      let access : Access = (method_cell constraints rules pattern method).access in
       false≢true (sym (not-true (is_open access) is) ∙ opens access (ap (λ (x : Kind × Cause). x.0) (said rules None (Some pattern) (covering constraints (Some pattern) method)) ∙ passes))
 
 -- What holds of all rows holds of them in another order.
@@ -499,7 +499,7 @@ module _ (constraints : List Constraint) (rules : Rules) (surroundings : Surroun
 
   -- One of the methods is not open to everyone at the pattern.
   abbrev HasRestricted : Methods → List ℕ → Type 0
-  HasRestricted methods other = (method : List ℕ) × IsTrue (covers_method methods method) × (not (is_open (cell_for constraints rules other method).access) ≡ true)
+  HasRestricted methods other = (method : List ℕ) × IsTrue (covers_method methods method) × (not (is_open (method_cell constraints rules other method).access) ≡ true)
 
   -- The pattern is tried late and restricts one of the methods.
   abbrev Restricts : Methods → List ℕ → Type 0

@@ -27,7 +27,7 @@ use Rattle.sv_findings.proofs.FindingLemmas.{changing_nothing, dead, extensions_
 use Rattle.sv_audit.proofs.Witness.{found}
 use Rattle.sv_audit.proofs.Found.{in_texts, ordered_lists}
 use Rattle.sv_audit.proofs.RowCells.{row_cell}
-use Rattle.sv_audit.specs.Access.{cell_at, cell_for}
+use Rattle.sv_audit.specs.Access.{cell_at, cell_for, fitting_caller}
 use Rattle.sv_findings.proofs.OpenedLemmas.{contained, kept_all, kept_any, method_found, opened_exact, some_pair}
 use Rattle.sv_findings.specs.Dead.{dead_patterns_in, decides_nothing, escaped, is_dead}
 use Rattle.sv_findings.specs.FindingLaws.{AreFew, ChangesNothing, DeadIsFound, FaresDifferently, HeadIsFound, IsMet, IsShut, OpenedIsFound, OverruledIsFound, ReadingIsFound, UncoveredIsFound, UnreachedIsFound, configuration_of, says_dead, says_head, says_opened, says_overruled, says_read, says_uncovered, says_unreached}
@@ -87,19 +87,19 @@ module _ (constraints : List Constraint) (rules : Rules) (pattern : List ℕ) wh
   abbrev groups : List Group
   groups = (row_at constraints rules pattern).groups
 
-  abbrev cell_for : List ℕ → Cell
-  cell_for method = cell_at rules (Some pattern) (covering constraints (Some pattern) method)
+  abbrev method_cell : List ℕ → Cell
+  method_cell method = cell_at rules (Some pattern) (covering constraints (Some pattern) method)
 
   pub some_group : (method : List ℕ) → list_any (has_method method) groups ≡ true
   some_group method =
       sym (some_filtered (has_method method) groups)
-      ∙ ap (λ n. not (n == 0)) (sym (length_seen (λ (x : Group). x.cell) (filter (has_method method) groups)) ∙ ap length (row_cell constraints rules pattern method))
+      ∙ ap (λ n. not (n == 0)) (sym (length_seen (λ (x : Group). x.cell) (filter (has_method method) groups)) ∙ ap length (row_cell fitting_caller constraints rules pattern method))
 
-  uncovered_cell : (method : List ℕ) → is_uncovered_at constraints pattern method ≡ true → rules.deny_uncovered ≡ false → is_left_open (cell_for method).access ≡ true
+  uncovered_cell : (method : List ℕ) → is_uncovered_at constraints pattern method ≡ true → rules.deny_uncovered ≡ false → is_left_open (method_cell method).access ≡ true
   unfolding cell_for
   uncovered_cell method none open_to_all = uncovered_from (length (covering constraints (Some pattern) method) == 0) rules.deny_uncovered _ none open_to_all
 
-  covered_cell : (method : List ℕ) → is_uncovered_at constraints pattern method ≡ false → is_left_open (cell_for method).access ≡ false
+  covered_cell : (method : List ℕ) → is_uncovered_at constraints pattern method ≡ false → is_left_open (method_cell method).access ≡ false
   unfolding cell_for
   covered_cell method some = covered_from (length (covering constraints (Some pattern) method) == 0) _ _ _ _ _ _ some
 
