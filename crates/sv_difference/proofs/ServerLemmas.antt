@@ -1,39 +1,29 @@
 -- Servers answer alike if nothing differs by the report, and each reported difference changes outcomes.
-use Rattle.std.proofs.lemmas.Bool.{and_parts, false≢true}
-use Rattle.std.proofs.Common.{◌≡◌, ℕ, Bool, true, false, not, ◌&&◌, ◌||◌, List, [], ◌∷◌, length, refl, ap, ap₂, sym, ◌∙◌, cond, Option, None, Some, is_none, is_some}
-use Rattle.std.specs.Prelude.{◌≢◌, All, Ok, filter, find, nat_lt}
-use Rattle.std.specs.Cmp.{both_ways}
-use Rattle.std.specs.Option.{option_map, option_map_or}
+use Rattle.std.proofs.lemmas.Bool.{false≢true}
+use Rattle.std.proofs.Common.{◌≡◌, ℕ, Bool, true, false, ◌&&◌, ◌||◌, List, [], ◌∷◌, refl, ap, ap₂, sym, ◌∙◌, cond, Option, None, Some, is_none, is_some}
+use Rattle.std.specs.Prelude.{◌≢◌, All}
+use Rattle.std.specs.Option.{option_map_or}
 use Rattle.std.specs.Str.{bytes_eq}
-use Rattle.sv_mapping.specs.Chosen.{IsUnique, is_chosen}
-use Rattle.sv_mapping.specs.Pattern.{is_at_or_below}
 use Rattle.sv_mapping.specs.Protected.{is_protected}
 use Rattle.sv_mapping.specs.Within.{path_within}
-use Rattle.sv_mapping.proofs.Tried.{In, In-left, In-map, In-right}
+use Rattle.sv_mapping.proofs.Tried.{In}
 use Rattle.sv_realm.specs.declared.caller.Caller.{Caller}
 use Rattle.sv_constraints.specs.Covering.{lists}
-use Rattle.sv_policy.proofs.Best.{any_listed, found_in}
 use Rattle.sv_policy.specs.Patterns.{BestIsOfTexts}
-use Rattle.sv_audit.proofs.Members.{all_from, found_any, in_along, in_kept}
-use Rattle.sv_audit.proofs.NarrowerLemmas.{contains}
+use Rattle.sv_audit.proofs.Members.{all_from, in_along}
 use Rattle.sv_audit.proofs.Represented.{in_listed}
 use Rattle.sv_audit.specs.Configurations.{Configuration, HasUrlPatterns, fate_of}
-use Rattle.sv_audit.specs.Examples.{CanonicalIsReadBack, is_read_back}
-use Rattle.sv_audit.specs.Reading.{Kind, Passes, ServedPathsAreRooted}
-use Rattle.sv_audit.specs.Representatives.{EachPathIsResembled}
-use Rattle.sv_uri.specs.Canonical.{canonical}
-use Rattle.sv_uri.specs.declared.path.Canon.{Canon}
+use Rattle.sv_audit.specs.Reading.{Kind, Passes}
 use Rattle.sv_findings.specs.Reach.{chosen_path}
-use Rattle.sv_difference.proofs.DifferenceLemmas.{all_in, decisions_apart, decisions_same, same_decision}
+use Rattle.sv_difference.proofs.DifferenceLemmas.{all_in}
 use Rattle.sv_difference.proofs.DifferentCells.{best_url}
-use Rattle.sv_difference.proofs.ShownLemmas.{HasShown, IsOnBoth, has_shown, listed_left, listed_right, on_both, shown_rooted, some_found}
-use Rattle.sv_difference.specs.DifferenceLaws.{DifferencesAreComplete, DifferencesAreRight, HasRows, IsRight, differences_of, is_of, side_of}
+use Rattle.sv_difference.proofs.ShownLemmas.{HasShown, IsOnBoth, listed_left, listed_right, on_both, shown_rooted}
+use Rattle.sv_difference.specs.DifferenceLaws.{DifferencesAreRight, HasRows, IsRight, differences_of, side_of}
 use Rattle.sv_difference.specs.Differences.{patterns_of, row_path, url_patterns}
-use Rattle.sv_difference.specs.ServerDifference.{compared_paths, context_at, difference_at, differences_between, paths_of, server_difference, shown_side}
-use Rattle.sv_difference.specs.ServerLaws.{ChangesOutcomes, HasFate, HaveUrlPatterns, IsHidden, IsUnchanged, LoginTest, LoginsChangeOutcomes, LogsIn, NoContext, Outcome, ReportedDifferencesAreRight, UnchangedHaveSameOutcomes, configuration_of, outcome, outcome_at, outcome_in}
+use Rattle.sv_difference.specs.ServerDifference.{context_at, difference_at, differences_between, paths_of}
+use Rattle.sv_difference.specs.ServerLaws.{ChangesOutcomes, HasFate, HaveUrlPatterns, IsHidden, LoginTest, LoginsChangeOutcomes, LogsIn, NoContext, Outcome, ReportedDifferencesAreRight, configuration_of, outcome, outcome_at, outcome_in}
 use Rattle.sv_difference.specs.ShownPaths.{shown_paths}
 use Rattle.sv_difference.specs.declared.contexts.ComparedContext.{ComparedContext}
-use Rattle.sv_difference.specs.declared.contexts.ContextSide.{ContextSide}
 use Rattle.sv_difference.specs.declared.difference.Difference.{Difference}
 
 -- ---- Options.

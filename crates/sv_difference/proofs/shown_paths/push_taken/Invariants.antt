@@ -1,5 +1,4 @@
 use Rattle.std.proofs.Common.{◌≡◌, ◌++◌, take}
-use Rattle.std.specs.Prelude.{filter}
 use Rattle.sv_difference.specs.ShownPaths as spec
 use Rattle.sv_difference.proofs.shown_paths.push_taken.Given as goal
 
