@@ -196,13 +196,11 @@ module _ (complete : DifferencesAreComplete) (best_same : BestIsOfTexts) (reads 
         has_rows befores afters its_path before after is_before is_after best_same first_url second_url within
         (has_shown firsts lasts its_path (its_patterns befores afters its_path before after is_before is_after) resembled unique path (ap is_read_back of ∙ reads target canon given) chosen taken unhidden)
 
-    best_at : Option ComparedContext → Option (List ℕ)
-    best_at context = option_and_then (λ it. best_of (configuration_of it) within) context
-
     -- The differences that have the request are those of its rows.
     no_request : list_any (is_of first second method within) (differences_of paths first second) ≡ false
     no_request =
-        let its : Option ComparedContext → Option ComparedContext → Difference → Bool = λ a b difference. is_same difference.before (option_and_then (λ (it : ComparedContext). best_of (configuration_of it) within) a) && is_same difference.after (option_and_then (λ (it : ComparedContext). best_of (configuration_of it) within) b) && covers_method difference.methods method in
+        let best : Option ComparedContext → Option (List ℕ) = λ found. option_and_then (λ (it : ComparedContext). best_of (configuration_of it) within) found in
+        let its : Option ComparedContext → Option ComparedContext → Difference → Bool = λ a b difference. is_same difference.before (best a) && is_same difference.after (best b) && covers_method difference.methods method in
         ap₂ (λ a b. list_any (its a b) (differences_of paths first second)) (sym is_before) (sym is_after)
         ∙ (ap (list_any (has_request befores afters its_path method within)) (sym (are_found befores afters its_path before after is_before is_after)) ∙ its_quiet.1)
 
