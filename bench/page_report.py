@@ -163,15 +163,23 @@ def row_notes(context):
     return [f"Only the first {shown_rows} of {count} rows are shown."]
 
 
-def findings_of(context):
-    """The findings: the class, and what the text has."""
-    path, findings, listed = context["context"], context["findings"], context["shownFindings"]
-    for it in findings[:listed]:
+def listed_findings(contexts):
+    """The findings that the page lists: the most dangerous kind of all contexts first, and within it in the order of the contexts."""
+    listed = [
+        (context, it) for context in contexts for it in context["findings"][: context["shownFindings"]]
+    ]
+    listed.sort(key=lambda found: FINDINGS.index(found[1]["kind"]))
+    return listed
+
+
+def findings_of(contexts):
+    """The findings that the page lists: the class, the context, and what the text has."""
+    for context, it in listed_findings(contexts):
         subject = next(it[name] for name in SUBJECTS if it.get(name) is not None)
         words = [shown(subject) or '""' if isinstance(subject, str) else str(subject)]
         if it["line"] is not None:
             words.append(f" ({shown(context['file'])}:{it['line']})")
-        yield "accepted" if it["accepted"] else "finding", path, words
+        yield "accepted" if it["accepted"] else "finding", context["context"], words
 
 
 def finding_notes(contexts):
